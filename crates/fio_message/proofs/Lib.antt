@@ -1,0 +1,9 @@
+pub mod Accepting
+pub mod Numbers
+pub mod Parts
+pub mod CommandLaws
+pub mod AnswerLaws
+pub mod BlockLaws
+pub mod MessageLaws
+pub mod Bits
+mod Rows

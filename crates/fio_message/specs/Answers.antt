@@ -1,0 +1,90 @@
+-- The octets of each answer.
+use Rattle.std.specs.Prelude.{◌≡◌, ℕ, ◌+◌, ◌*◌, ◌<◌, ◌≤◌, ◌^◌, List, [], ◌∷◌, ◌++◌, length, Option, Some, None, if◌then◌else◌, ◌==◌, slice_index_or}
+use Rattle.std.specs.List.{AllByRecursion, flat_map}
+use Rattle.std.specs.Int.{w32, to_be_bytes}
+use Rattle.fio_message.specs.Octets.{IsOctet, IsOctets, IsEntry, entry_octets, inputs_octets}
+use Rattle.fio_message.specs.declared.answers.Answer.{Answer}
+use Rattle.fio_message.specs.declared.answers.Answer.TheVariants.{Status, LoadCounter, ConfigureInputs, RawInputs, FilteredInputs, Block, Watchdog, Other}
+use Rattle.fio_message.specs.declared.answers.OtherAnswer.{OtherAnswer}
+use Rattle.fio_message.specs.declared.answers.OtherAnswer.TheVariants.{SetOutputs, TrackInputs, ComplexOutputs, ControllerId, Identify}
+
+-- the code of the command that is answered
+abbrev pub answered_by_other : OtherAnswer → ℕ
+answered_by_other SetOutputs = 55
+answered_by_other TrackInputs = 56
+answered_by_other ComplexOutputs = 57
+answered_by_other ControllerId = 59
+answered_by_other Identify = 60
+
+abbrev pub answered_code : Answer → ℕ
+answered_code (Status _ _ _ _) = 49
+answered_code (LoadCounter _) = 50
+answered_code (ConfigureInputs _) = 51
+answered_code (RawInputs _ _) = 52
+answered_code (FilteredInputs _ _) = 53
+answered_code (Block _ _ _ _) = 54
+answered_code (Watchdog _) = 58
+answered_code (Other kind _) = answered_by_other kind
+
+-- an answer's code is its command's plus 128
+abbrev pub other_answer_code : OtherAnswer → ℕ
+other_answer_code kind = answered_by_other kind + 128
+
+abbrev pub answer_code : Answer → ℕ
+answer_code answer = answered_code answer + 128
+
+-- the octets after the code
+abbrev pub answer_fields : Answer → List ℕ
+answer_fields (Status flags receive_errors transmit_errors stamp) = flags ∷ receive_errors ∷ transmit_errors ∷ to_be_bytes w32 stamp
+answer_fields (LoadCounter status) = status ∷ []
+answer_fields (ConfigureInputs status) = status ∷ []
+answer_fields (RawInputs inputs stamp) = inputs_octets inputs ++ to_be_bytes w32 stamp
+answer_fields (FilteredInputs inputs stamp) = inputs_octets inputs ++ to_be_bytes w32 stamp
+answer_fields (Block block entries status stamp) = block ∷ length entries.items ∷ (flat_map entry_octets entries.items ++ (status ∷ to_be_bytes w32 stamp))
+answer_fields (Watchdog status) = status ∷ []
+answer_fields (Other _ body) = body.items
+
+abbrev pub answer_octets : Answer → List ℕ
+answer_octets answer = answer_code answer ∷ answer_fields answer
+
+-- the numbers and lists of an answer are within the ranges of their types
+abbrev pub IsAnswer : Answer → Type 0
+IsAnswer (Status flags receive_errors transmit_errors stamp) = IsOctet flags × IsOctet receive_errors × IsOctet transmit_errors × (stamp < 2 ^ 32)
+IsAnswer (LoadCounter status) = IsOctet status
+IsAnswer (ConfigureInputs status) = IsOctet status
+IsAnswer (RawInputs inputs stamp) = (inputs < 2 ^ 64) × (stamp < 2 ^ 32)
+IsAnswer (FilteredInputs inputs stamp) = (inputs < 2 ^ 64) × (stamp < 2 ^ 32)
+IsAnswer (Block block entries status stamp) = IsOctet block × (length entries.items ≤ 255) × AllByRecursion IsEntry entries.items × IsOctet status × (stamp < 2 ^ 32)
+IsAnswer (Watchdog status) = IsOctet status
+IsAnswer (Other _ body) = (length body.items ≤ 772) × IsOctets body.items
+
+-- The answer spells the octets: they are its code and its fields in order.
+pub record SpellsAnswer (answer : Answer) (octets : List ℕ) : Type 0 where
+  pub within : IsAnswer answer
+  pub spelled : octets ≡ answer_octets answer
+
+-- How many octets a block answer has with this count after the number. A count whose octet is missing is taken as 0.
+abbrev pub block_fields_length : List ℕ → ℕ
+block_fields_length fields = 8 + 3 * slice_index_or fields 1 0
+
+-- How many octets an answer of this code and count has. None: there is no such answer.
+abbrev pub answer_length : List ℕ → Option ℕ
+answer_length [] = None
+answer_length (code ∷ fields) =
+    if code == 177 then Some 8
+    else (if code == 178 then Some 2
+    else (if code == 179 then Some 2
+    else (if code == 180 then Some 13
+    else (if code == 181 then Some 13
+    else (if code == 182 then Some (block_fields_length fields)
+    else (if code == 183 then Some (1 + length fields)
+    else (if code == 184 then Some (1 + length fields)
+    else (if code == 185 then Some (1 + length fields)
+    else (if code == 186 then Some 2
+    else (if code == 187 then Some (1 + length fields)
+    else (if code == 188 then Some (1 + length fields) else None)))))))))))
+
+-- The same for a block answer alone.
+abbrev pub block_length : List ℕ → Option ℕ
+block_length [] = None
+block_length (code ∷ fields) = if code == 182 then Some (block_fields_length fields) else None

@@ -1,0 +1,11 @@
+pub mod Bits
+pub mod Octets
+pub mod Commands
+pub mod Answers
+pub mod Status
+pub mod Blocks
+pub mod Reading
+pub mod Refusals
+pub mod Decoding
+pub mod Texts
+pub mod Laws

@@ -1,0 +1,11 @@
+-- The words in which the program tells of a refusal.
+use Rattle.std.specs.Prelude.{ℕ, List, ◌++◌, codes, decimal}
+use Rattle.fio_message.specs.declared.faults.DecodeError.{DecodeError}
+use Rattle.fio_message.specs.declared.faults.DecodeError.TheVariants.{Empty, TooLong, UnknownType, WrongLength}
+
+abbrev pub fault_text : DecodeError → List ℕ
+fault_text Empty = codes "empty"
+fault_text (TooLong got) = codes "too long got " ++ decimal got
+fault_text (UnknownType code) = codes "unknown type " ++ decimal code
+fault_text (WrongLength needed got) =
+    codes "wrong length needed " ++ (decimal needed ++ (codes " got " ++ decimal got))

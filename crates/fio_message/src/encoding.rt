@@ -1,0 +1,216 @@
+//! Messages as the octets that they spell.
+ghost use Rattle.std.specs.Prelude.{◌≡◌, ◌<◌, ◌≤◌, ◌+◌, ◌*◌, ◌++◌, length};
+ghost use Rattle.std.specs.Int.{w32, to_be_bytes};
+ghost use Rattle.std.specs.List.{AllByRecursion, flat_map};
+ghost use Rattle.fio_message.specs.Octets.{IsOctets, IsItem, IsEntry, item_octets, entry_octets, inputs_octets};
+ghost use Rattle.fio_message.specs.Bits.{bit_of};
+ghost use Rattle.fio_message.specs.Commands.{IsCommand, SpellsCommand, command_fields};
+ghost use Rattle.fio_message.specs.Answers.{IsAnswer, SpellsAnswer, answer_fields};
+ghost use Rattle.fio_message.specs.Blocks.{SpellsBlock};
+
+use crate::answers::Answer;
+use crate::commands::Command;
+use crate::fields::{Entry, InputItem, InputNumber};
+use crate::frames::Frame;
+use crate::inputs::inputs_to_octets;
+use byteorder::{BigEndian, ByteOrder};
+
+/// Appends octets, for which there is room.
+fn append(frame: &mut Frame, octets: &[u8])
+    requires { length frame.old.items + length octets.now ≤ 773 }
+    ensures appended { frame.new.items ≡ frame.old.items ++ octets.now }
+    ensures within { IsOctets octets.now }
+{
+    match frame.try_extend_from_slice(octets) {
+        Ok(()) => {}
+        Err(_) => unreachable!(),
+    }
+}
+
+fn append_u32(frame: &mut Frame, number: u32)
+    requires { length frame.old.items + 4 ≤ 773 }
+    ensures { frame.new.items ≡ frame.old.items ++ to_be_bytes w32 number }
+{
+    let mut octets = [0; 4];
+    BigEndian::write_u32(&mut octets, number);
+    append(frame, &octets);
+}
+
+/// A flag in bit 7, and an input number below it.
+fn flagged(flag: bool, input: InputNumber) -> u8
+    ensures octet { result ≡ 128 * bit_of flag + input }
+    ensures number { input < 128 }
+{
+    if flag { 128 + input.get() } else { input.get() }
+}
+
+fn append_item(frame: &mut Frame, item: &InputItem)
+    requires { length frame.old.items + 3 ≤ 773 }
+    ensures appended { frame.new.items ≡ frame.old.items ++ item_octets item.now }
+    ensures within { IsItem item.now }
+{
+    frame.push(flagged(item.ignore, item.input));
+    frame.push(item.leading);
+    frame.push(item.trailing);
+}
+
+fn append_entry(frame: &mut Frame, entry: &Entry)
+    requires { length frame.old.items + 3 ≤ 773 }
+    ensures appended { frame.new.items ≡ frame.old.items ++ entry_octets entry.now }
+    ensures within { IsEntry entry.now }
+{
+    let stamp = entry.stamp.to_be_bytes();
+    append(
+        frame,
+        &[flagged(entry.level, entry.input), stamp[0], stamp[1]],
+    );
+}
+
+fn append_items(frame: &mut Frame, items: &[InputItem])
+    requires { length frame.old.items + 3 * length items.now ≤ 773 }
+    ensures appended { frame.new.items ≡ frame.old.items ++ flat_map item_octets items.now }
+    ensures within { AllByRecursion IsItem items.now }
+    ensures len { length frame.new.items ≡ length frame.old.items + 3 * length items.now }
+{
+    for item in items {
+        append_item(frame, item);
+    }
+}
+
+fn append_entries(frame: &mut Frame, entries: &[Entry])
+    requires { length frame.old.items + 3 * length entries.now ≤ 773 }
+    ensures appended { frame.new.items ≡ frame.old.items ++ flat_map entry_octets entries.now }
+    ensures within { AllByRecursion IsEntry entries.now }
+    ensures len { length frame.new.items ≡ length frame.old.items + 3 * length entries.now }
+{
+    for entry in entries {
+        append_entry(frame, entry);
+    }
+}
+
+/// Appends the octets after the code.
+#[inline(always)]
+fn append_command_fields(frame: &mut Frame, command: &Command)
+    requires { length frame.old.items ≡ 1 }
+    ensures appended { frame.new.items ≡ frame.old.items ++ command_fields command.now }
+    ensures within { IsCommand command.now }
+{
+    match command {
+        Command::Status { clear } => frame.push(*clear),
+        Command::LoadCounter { load } => append_u32(frame, *load),
+        Command::ConfigureInputs { items } => {
+            frame.push(items.len() as u8);
+            append_items(frame, items);
+        }
+        Command::RawInputs | Command::FilteredInputs | Command::Identify => {}
+        Command::Poll { block } => frame.push(*block),
+        Command::SetOutputs { levels, controls } => {
+            append(frame, levels);
+            append(frame, controls);
+        }
+        Command::Watchdog { timeout } => frame.push(*timeout),
+        Command::Other { body, .. } => append(frame, body),
+    }
+}
+
+/// The octets that the command spells.
+#[inline(always)]
+pub fn encode_command(command: &Command) -> Frame
+    ensures { SpellsCommand command.now result.items }
+{
+    let mut frame = Frame::new();
+    frame.push(command.code());
+    append_command_fields(&mut frame, command);
+    frame
+}
+
+/// Appends the levels of the inputs, and the stamp.
+#[inline(always)]
+fn append_inputs(frame: &mut Frame, inputs: u64, stamp: u32)
+    requires { length frame.old.items + 12 ≤ 773 }
+    ensures { frame.new.items ≡ frame.old.items ++ (inputs_octets inputs ++ to_be_bytes w32 stamp) }
+{
+    append(frame, &inputs_to_octets(inputs));
+    append_u32(frame, stamp);
+}
+
+/// Appends the octets after the code.
+#[inline(always)]
+fn append_answer_fields(frame: &mut Frame, answer: &Answer)
+    requires { length frame.old.items ≡ 1 }
+    ensures appended { frame.new.items ≡ frame.old.items ++ answer_fields answer.now }
+    ensures within { IsAnswer answer.now }
+{
+    match answer {
+        Answer::Status {
+            flags,
+            receive_errors,
+            transmit_errors,
+            stamp,
+        } => {
+            append(frame, &[*flags, *receive_errors, *transmit_errors]);
+            append_u32(frame, *stamp);
+        }
+        Answer::LoadCounter { status }
+        | Answer::ConfigureInputs { status }
+        | Answer::Watchdog { status } => frame.push(*status),
+        Answer::RawInputs { inputs, stamp } | Answer::FilteredInputs { inputs, stamp } => {
+            append_inputs(frame, *inputs, *stamp);
+        }
+        Answer::Block {
+            block,
+            entries,
+            status,
+            stamp,
+        } => {
+            frame.push(*block);
+            frame.push(entries.len() as u8);
+            append_entries(frame, entries);
+            frame.push(*status);
+            append_u32(frame, *stamp);
+        }
+        Answer::Other { body, .. } => append(frame, body),
+    }
+}
+
+/// Writes the octets that the answer spells, in place of what the frame held.
+#[inline(always)]
+pub fn write_answer(answer: &Answer, frame: &mut Frame)
+    ensures { SpellsAnswer answer.now frame.new.items }
+{
+    frame.clear();
+    frame.push(answer.code());
+    append_answer_fields(frame, answer);
+}
+
+/// The octets that the answer spells.
+#[inline(always)]
+pub fn encode_answer(answer: &Answer) -> Frame
+    ensures { SpellsAnswer answer.now result.items }
+{
+    let mut frame = Frame::new();
+    write_answer(answer, &mut frame);
+    frame
+}
+
+/// Writes the octets of a block answer with these entries, in place of what the frame held.
+pub fn write_block(
+    number: u8,
+    first: &[Entry],
+    second: &[Entry],
+    status: u8,
+    stamp: u32,
+    frame: &mut Frame,
+)
+    requires { length first.now + length second.now ≤ 255 }
+    ensures { SpellsBlock (record { number = number; entries = first.now ++ second.now; status = status; stamp = stamp }) frame.new.items }
+{
+    frame.clear();
+    frame.push(182);
+    frame.push(number);
+    frame.push((first.len() + second.len()) as u8);
+    append_entries(frame, first);
+    append_entries(frame, second);
+    frame.push(status);
+    append_u32(frame, stamp);
+}
