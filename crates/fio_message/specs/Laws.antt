@@ -1,9 +1,11 @@
 -- Laws of messages and their octets.
-use Rattle.std.specs.Prelude.{◌≡◌, ◌↔◌, ℕ, ◌+◌, ◌*◌, ◌<◌, ◌≤◌, List, ◌∷◌, length, slice_index_or, Option, Some, None}
+use Rattle.std.specs.Prelude.{◌≡◌, ◌↔◌, ℕ, ◌+◌, ◌*◌, ◌<◌, ◌≤◌, Bool, List, ◌∷◌, length, slice_index_or, Option, Some, None, Result, Ok, Err}
 use Rattle.std.specs.Int.{IsBitSet}
 use Rattle.fio_message.specs.Octets.{IsOctets, IsFrameLength, inputs_octets}
 use Rattle.fio_message.specs.Commands.{SpellsCommand}
-use Rattle.fio_message.specs.Answers.{SpellsAnswer}
+use Rattle.fio_message.specs.Answers.{SpellsAnswer, answer_length, block_length}
+use Rattle.fio_message.specs.Status as status
+use Rattle.fio_message.specs.Status.{block_status}
 use Rattle.fio_message.specs.Refusals.{Refuses}
 use Rattle.fio_message.specs.declared.faults.DecodeError.{DecodeError}
 use Rattle.fio_message.specs.declared.commands.Command.{Command}
@@ -31,6 +33,36 @@ module _ {V : Type 0} (Spells : V → List ℕ → Type 0) where
   IsSpelledOrRefused length_of =
       (octets : List ℕ) → IsOctets octets →
       ((message : V) × Spells message octets) ↔ ((fault : DecodeError) → Refuses (length_of octets) octets fault → ⊥)
+
+  -- what is spelled is what is read of the octets
+  abbrev pub IsReadBack : (List ℕ → Option V) → Type 0
+  IsReadBack found = (message : V) (octets : List ℕ) → Spells message octets → found octets ≡ Some message
+
+  -- what is read of octets spells them
+  abbrev pub SpellsWhatIsRead : (List ℕ → Option V) → Type 0
+  SpellsWhatIsRead found =
+      (octets : List ℕ) (message : V) → IsOctets octets → found octets ≡ Some message → Spells message octets
+
+  -- a decoder answers a message exactly if it spells the octets
+  abbrev pub AnswersWhatIsSpelled : (List ℕ → Result V DecodeError) → Type 0
+  AnswersWhatIsSpelled decoded =
+      (octets : List ℕ) (message : V) → IsOctets octets → (decoded octets ≡ Ok message) ↔ Spells message octets
+
+-- a decoder answers a fault exactly if octets are refused for it
+abbrev pub AnswersRefusals : {V : Type 0} → (List ℕ → Option ℕ) → (List ℕ → Result V DecodeError) → Type 0
+AnswersRefusals length_of decoded =
+    (octets : List ℕ) (fault : DecodeError) → (decoded octets ≡ Err fault) ↔ Refuses (length_of octets) octets fault
+
+-- octets of a block answer's type need as many octets among all answers
+abbrev pub NeedsTheSame : Type 0
+NeedsTheSame = (octets : List ℕ) (needed : ℕ) → block_length octets ≡ Some needed → answer_length octets ≡ Some needed
+
+-- each named bit of a block answer's status says what was put there
+pub record StatusReadsBack (more lost again out_of_sequence : Bool) : Type 0 where
+  pub says_more : status.says_more (block_status more lost again out_of_sequence) ≡ more
+  pub says_lost : status.says_lost (block_status more lost again out_of_sequence) ≡ lost
+  pub says_again : status.says_again (block_status more lost again out_of_sequence) ≡ again
+  pub says_out_of_sequence : status.says_out_of_sequence (block_status more lost again out_of_sequence) ≡ out_of_sequence
 
 -- no list is both a command and an answer
 abbrev pub IsNeverBoth : Type 0

@@ -6,7 +6,6 @@ ghost use Rattle.fio_message.specs.Octets.{IsOctets, IsItem, IsEntry, item_octet
 ghost use Rattle.fio_message.specs.Bits.{bit_of};
 ghost use Rattle.fio_message.specs.Commands.{IsCommand, SpellsCommand, command_fields};
 ghost use Rattle.fio_message.specs.Answers.{IsAnswer, SpellsAnswer, answer_fields};
-ghost use Rattle.fio_message.specs.Blocks.{SpellsBlock};
 
 use crate::answers::Answer;
 use crate::commands::Command;
@@ -59,7 +58,9 @@ fn append_entry(frame: &mut Frame, entry: &Entry)
     ensures appended { frame.new.items ≡ frame.old.items ++ entry_octets entry.now }
     ensures within { IsEntry entry.now }
 {
-    let stamp = entry.stamp.to_be_bytes();
+    let number = entry.stamp;
+    let mut stamp = [0; 2];
+    BigEndian::write_u16(&mut stamp, number);
     append(
         frame,
         &[flagged(entry.level, entry.input), stamp[0], stamp[1]],
@@ -113,7 +114,8 @@ fn append_command_fields(frame: &mut Frame, command: &Command)
     }
 }
 
-/// The octets that the command spells.
+/// The octets of a command: its type, then its fields in the order of TEES 2009 and of this project's
+/// own profile. Always succeeds, with 1 to 773 octets.
 #[inline(always)]
 pub fn encode_command(command: &Command) -> Frame
     ensures { SpellsCommand command.now result.items }
@@ -173,44 +175,14 @@ fn append_answer_fields(frame: &mut Frame, answer: &Answer)
     }
 }
 
-/// Writes the octets that the answer spells, in place of what the frame held.
-#[inline(always)]
-pub fn write_answer(answer: &Answer, frame: &mut Frame)
-    ensures { SpellsAnswer answer.now frame.new.items }
-{
-    frame.clear();
-    frame.push(answer.code());
-    append_answer_fields(frame, answer);
-}
-
-/// The octets that the answer spells.
+/// The octets of an answer: its type, then its fields in the order of TEES 2009 and of this project's
+/// own profile. Always succeeds, with 1 to 773 octets.
 #[inline(always)]
 pub fn encode_answer(answer: &Answer) -> Frame
     ensures { SpellsAnswer answer.now result.items }
 {
     let mut frame = Frame::new();
-    write_answer(answer, &mut frame);
+    frame.push(answer.code());
+    append_answer_fields(&mut frame, answer);
     frame
-}
-
-/// Writes the octets of a block answer with these entries, in place of what the frame held.
-pub fn write_block(
-    number: u8,
-    first: &[Entry],
-    second: &[Entry],
-    status: u8,
-    stamp: u32,
-    frame: &mut Frame,
-)
-    requires { length first.now + length second.now ≤ 255 }
-    ensures { SpellsBlock (record { number = number; entries = first.now ++ second.now; status = status; stamp = stamp }) frame.new.items }
-{
-    frame.clear();
-    frame.push(182);
-    frame.push(number);
-    frame.push((first.len() + second.len()) as u8);
-    append_entries(frame, first);
-    append_entries(frame, second);
-    frame.push(status);
-    append_u32(frame, stamp);
 }

@@ -1,0 +1,8 @@
+use Rattle.fio_message.proofs.MessageLaws.{command_decoded, command_refused}
+use Rattle.fio_message.proofs.laws.commands_are_decoded.Goals as goal
+
+pub returns-clause-accepted : goal.returns-clause-accepted
+returns-clause-accepted c = command_decoded
+
+pub returns-clause-refused : goal.returns-clause-refused
+returns-clause-refused c = command_refused

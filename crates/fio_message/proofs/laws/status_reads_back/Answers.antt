@@ -1,0 +1,5 @@
+use Rattle.fio_message.proofs.MessageLaws.{status_back}
+use Rattle.fio_message.proofs.laws.status_reads_back.Goals as goal
+
+pub returns : goal.returns
+returns c more lost again out_of_sequence = status_back more lost again out_of_sequence
