@@ -1,0 +1,9 @@
+pub mod Limits
+pub mod Settings
+pub mod Life
+pub mod Log
+pub mod Blocks
+pub mod Sendings
+pub mod Flags
+pub mod Replies
+pub mod Laws
