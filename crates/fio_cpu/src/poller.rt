@@ -12,7 +12,8 @@ use fio_message::{BlockView, Command, Frame, Memory, decode_answer, encode_comma
 use std::alloc::Global;
 use std::marker::Model;
 
-/// The CPU's end: the block number that its next poll carries, and the record of all that it has taken.
+/// The CPU's end: the block number that its next poll carries, and the record of all that it has
+/// taken.
 #[derive(Drop)]
 pub struct Poller {
     number: u8,
@@ -39,15 +40,15 @@ impl Poller {
     }
 
     /// The block number of the next poll, from 0 to 255. It rises by one modulo 256 with each block
-    /// that is taken.
+    /// that is taken, and with nothing else (own profile).
     pub fn number(&self) -> u8
         ensures { result ≡ self.now.number }
     {
         self.number
     }
 
-    /// A poll with the present block number (TEES 2009, command 54). Nothing changes: until an answer
-    /// with this number is taken each poll carries the same one.
+    /// A poll with the present block number (TEES 2009, command 54). Nothing changes: until an
+    /// answer with this number is taken each poll carries the same one (own profile).
     pub fn poll(&self) -> Frame
         ensures { SpellsCommand (commands.Poll self.now.number) result.items }
     {
@@ -61,18 +62,19 @@ impl Poller {
         self.items.as_slice()
     }
 
-    /// Hears the octets of a frame: a block answer with the present number is taken whole, and anything
-    /// else changes nothing (TEES 2009 for what a block is; the order of the cases is own profile).
+    /// Hears the octets of a frame. A block answer (TEES 2009, answer 182) with the present number
+    /// is taken whole; anything else is told and changes nothing (own profile).
     ///
-    /// Taking a block appends one gap mark if F is set and then all its entries in order, each with
-    /// its time in milliseconds, and raises the number by one modulo 256.
+    /// Taking a block appends one gap mark to the record if F is set, then all its entries in
+    /// order, each with its time in milliseconds, and raises the number by one modulo 256.
     ///
     /// # Errors
-    /// `Memory` where the record had to grow and no room was given. It can come only for a block answer
-    /// with the present number that adds an item: one with F or with entries. The record and the number
-    /// are then as before, and the same octets may be heard again.
+    /// `Memory` where the record had to grow and no room was given: only for a block answer with
+    /// the present number that has F or entries. Record and number are then as before, so the same
+    /// octets may be heard again.
     pub fn hear(&mut self, octets: &[u8]) -> Result<Heard, Memory>
-        ensures heard { IfOk result (λ heard. heard ≡ heard_as self.old.number (decoded_answer octets.now)) }
+        ensures heard { IfOk result (λ heard.
+            heard ≡ heard_as self.old.number (decoded_answer octets.now)) }
         ensures taken { OnOk result (self.new ≡ after_hearing self.old (block_in octets.now)) }
         ensures unchanged { OnErr result (self.new ≡ self.old) }
         ensures wanted { OnErr result (AddsItems self.old (block_in octets.now)) }
@@ -85,7 +87,8 @@ impl Poller {
 
     /// Takes a block with the present number. Any other block is stale.
     fn hear_block(&mut self, block: &BlockView<'_>) -> Result<Heard, Memory>
-        ensures heard { IfOk result (λ heard. heard ≡ heard_answer self.old.number (block_answer block.now)) }
+        ensures heard { IfOk result (λ heard.
+            heard ≡ heard_answer self.old.number (block_answer block.now)) }
         ensures taken { OnOk result (self.new ≡ after_block self.old block.now) }
         ensures unchanged { OnErr result (self.new ≡ self.old) }
         ensures wanted { OnErr result (AddsItems self.old (Some block.now)) }
@@ -103,8 +106,8 @@ impl Poller {
     }
 }
 
-/// Octets that are no block answer: another answer, or unreadable. Whatever the CPU's number is, it
-/// makes the same of them.
+/// What octets are that spell no block answer: another answer, or unreadable, whatever the CPU's
+/// number is. It stands apart since an answer as a value takes a kilobyte.
 #[inline(never)]
 fn hear_other(octets: &[u8]) -> Heard
     requires { block_in octets.now ≡ None }

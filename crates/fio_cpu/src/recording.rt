@@ -8,17 +8,17 @@ use crate::Item;
 use fio_input::widen;
 use fio_message::{BlockView, Entry, Memory};
 
-/// The status bit F: entries were pushed out directly before the block.
+/// F in the status of a block answer.
 const LOST: u8 = 4;
 
-/// Whether a block with this status follows a loss.
+/// Whether F is set: entries that waited directly before the block were pushed out.
 fn says_lost(status: u8) -> bool
     ensures { result ≡ says_lost status }
 {
     status & LOST == LOST
 }
 
-/// An entry of an answer with this stamp, as the record keeps it.
+/// An entry of an answer with this stamp, as an item of the record.
 fn item_of(stamp: u32, entry: Entry) -> Item
     ensures { result ≡ item_of stamp entry }
 {
@@ -41,9 +41,9 @@ fn record_entries(items: &mut Vec<Item>, block: &BlockView<'_>)
     }
 }
 
-/// Appends what a block adds to the record: a gap mark if it follows a loss, then its entries.
+/// Appends what a block adds to the record: a gap mark if F is set, then its entries.
 ///
-/// Room for all of it is asked for at once, before anything is appended. A block that adds nothing
+/// Room for all of it is asked for once, before anything is appended. A block that adds nothing
 /// asks for none.
 pub(crate) fn record_block(items: &mut Vec<Item>, block: &BlockView<'_>) -> Result<(), Memory>
     ensures recorded { OnOk result (items.new.items ≡ items.old.items ++ recorded block.now) }
