@@ -7,4 +7,6 @@ pub mod RunLengths
 pub mod Scanned
 pub mod Ticks
 pub mod Times
+pub mod LastItem
+pub mod LevelLanes
 pub mod Vectors
