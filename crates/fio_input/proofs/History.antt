@@ -20,7 +20,7 @@ latest_is input (Scan raw ∷ history) = refl
 -- a setting and samples anew from the state leave the state
 pub state_by : (named : Option InputItem) (before : Setting) (level : Bool) (older : List Bool)
     → filtered_state (setting_by named before) (if is_some named then filtered_state before level older else level) (if is_some named then [] else older)
-        ≡ filtered_state before level older
+    ≡ filtered_state before level older
 state_by None before level older = refl
 state_by (Some item) before level older = refl
 

@@ -22,11 +22,11 @@ pub(crate) fn step_runs(
     // A run goes on where the sample has its level, and its length stays at 255: it never wraps.
     ensures lengths { (input : ℕ) → input < 64
         → slice_index run_lengths.new input
-            ≡ next_length (slice_index run_lengths.old input) (is_set levels input) (is_set raw input) }
+        ≡ next_length (slice_index run_lengths.old input) (is_set levels input) (is_set raw input) }
     ensures met { (input : ℕ) → input < 64
         → is_set result input
-            ≡ meets_filter (slice_index leading.now input) (slice_index trailing.now input)
-                (is_set raw input) (slice_index run_lengths.new input) }
+        ≡ meets_filter (slice_index leading.now input) (slice_index trailing.now input)
+        (is_set raw input) (slice_index run_lengths.new input) }
 {
     let mut met = 0;
     for group in 0..INPUTS / LANES {
@@ -47,8 +47,8 @@ fn next_lengths(lengths: u8x16, levels: u8x16, samples: u8x16) -> u8x16
     ensures len { length result ≡ 16 }
     ensures lanes { (lane : ℕ) → lane < 16
         → slice_index result lane
-            ≡ (if slice_index levels lane == slice_index samples lane
-                then min (slice_index lengths lane + 1) 255 else 1) }
+        ≡ (if slice_index levels lane == slice_index samples lane
+        then min (slice_index lengths lane + 1) 255 else 1) }
 {
     let one = u8x16::splat(1);
     levels
@@ -61,8 +61,8 @@ fn filters_in_force(leading: u8x16, trailing: u8x16, samples: u8x16) -> u8x16
     ensures len { length result ≡ 16 }
     ensures lanes { (lane : ℕ) → lane < 16
         → slice_index result lane
-            ≡ in_force (if slice_index samples lane == 1
-                then slice_index trailing lane else slice_index leading lane) }
+        ≡ in_force (if slice_index samples lane == 1
+        then slice_index trailing lane else slice_index leading lane) }
 {
     let one = u8x16::splat(1);
     samples.simd_eq(one).select(trailing, leading).simd_max(one)
