@@ -1,7 +1,7 @@
 -- The counter through ticks and line syncs.
-use Rattle.std.proofs.Common.{◌≡◌, ℕ, ◌+◌, ◌%◌, ◌^◌, ◌≤◌, List, [], ◌∷◌, ◌++◌, Option, Some, None, refl, ap, ◌∙◌, arith}
+use Rattle.std.proofs.Common.{◌≡◌, ℕ, ◌+◌, ◌%◌, ◌^◌, ◌≤◌, List, [], ◌∷◌, ◌++◌, Option, Some, None, refl, ◌∙◌, arith}
 use Rattle.std.specs.Prelude.{unwrap_or}
-use Rattle.fio_input.specs.Counter.{CounterEvent, Tick, AskLoad, LineSync, asked_number, loaded_number, ticks_unless_loaded, ticks_after_load, counter, ticks_in, one_more_if_loaded, loads_in}
+use Rattle.fio_input.specs.Counter.{CounterEvent, Tick, AskLoad, LineSync, asked_number, ticks_unless_loaded, counter, ticks_in, one_more_if_loaded, loads_in}
 
 -- a line sync takes no load away
 loads_grow : (asked : Option ℕ) (loads : ℕ) → loads ≤ one_more_if_loaded asked loads

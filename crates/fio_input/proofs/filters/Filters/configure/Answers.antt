@@ -1,6 +1,6 @@
-use Rattle.std.proofs.Common.{◌≡◌, ◌∷◌, [], take, true, None, sym, ◌∙◌, refl, subst, arith}
+use Rattle.std.proofs.Common.{◌∷◌, [], take, sym, ◌∙◌, refl, subst, arith}
 use Rattle.std.proofs.lemmas.List.{take_more, take_all}
-use Rattle.fio_input.specs.FilterHistory.{Configure, all_present}
+use Rattle.fio_input.specs.FilterHistory.{Configure}
 use Rattle.fio_input.specs.Filters.{StandsFor}
 use Rattle.fio_input.proofs.Configured.{StandsFor-unapplied}
 use Rattle.fio_input.proofs.Present.{all_present-none, all_present-some, all_present-take, all_present-at, applied_items-some}
