@@ -1,0 +1,5 @@
+pub mod Places
+pub mod RoundNumbers
+pub mod Spelled
+pub mod MadeBlocks
+pub mod PieceLaws
