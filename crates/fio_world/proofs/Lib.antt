@@ -3,3 +3,4 @@ pub mod RoundNumbers
 pub mod Spelled
 pub mod MadeBlocks
 pub mod PieceLaws
+pub mod AllLives
