@@ -4,3 +4,9 @@ pub mod Spelled
 pub mod MadeBlocks
 pub mod PieceLaws
 pub mod AllLives
+pub mod Received
+pub mod PollOrder
+pub mod AnswerOrder
+pub mod Makers
+pub mod RisingPieces
+pub mod Kept

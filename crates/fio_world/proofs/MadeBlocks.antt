@@ -85,7 +85,8 @@ pub record FitsAnswer (per_block : ℕ) (block : MadeBlock) : Type 0 where
   pub inputs : AllByRecursion HasInput block.transitions
   pub stamp : block.stamp < 2 ^ 32
 
-next_fits : (settings : Settings) (life : Life) → FitsAnswer settings.per_block (next_block settings life)
+-- the block that a new poll makes next fits an answer
+pub next_fits : (settings : Settings) (life : Life) → FitsAnswer settings.per_block (next_block settings life)
 next_fits settings life =
     let log = log_of life in
     let start = start_after settings log (newest_end settings life) in
