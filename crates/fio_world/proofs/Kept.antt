@@ -53,7 +53,7 @@ HasInvariant settings first machine =
 
 -- what a poll of a round is to a module whose polls have these rounds, and this latest number in the present life:
 -- a new one is in sequence, and another is of the newest round
-abbrev Meets : Bool → ℕ → Option ℕ → ℕ → ℕ → Type 0
+abbrev pub Meets : Bool → ℕ → Option ℕ → ℕ → ℕ → Type 0
 Meets true round latest number next = is_out_of_sequence latest number ≡ false
 Meets false round latest number next = round + 1 ≡ next
 
@@ -75,7 +75,8 @@ meets_some first round number before (s ∷ ss) older false known numbered low h
     let same : s ≡ round = rounds_from_numbers first s round (omega arith) (omega arith) (last ∙ alike ∙ numbered) in
     omega arith
 
-meets : (first round number : ℕ) (latest : Option ℕ) (polls numbers : List ℕ) (new : Bool) → map (number_of first) polls ≡ numbers
+-- a poll that is received is one or the other
+pub meets : (first round number : ℕ) (latest : Option ℕ) (polls numbers : List ℕ) (new : Bool) → map (number_of first) polls ≡ numbers
     → ((n : ℕ) → latest ≡ Some n → (older : List ℕ) × (numbers ≡ n ∷ older))
     → number ≡ number_of first round → round ≤ next_round polls → next_round polls ≤ round + 1
     → is_new latest number ≡ new → Meets new round latest number (next_round polls)

@@ -10,3 +10,5 @@ pub mod AnswerOrder
 pub mod Makers
 pub mod RisingPieces
 pub mod Kept
+pub mod Rows
+pub mod Runs
