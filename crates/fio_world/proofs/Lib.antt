@@ -12,3 +12,4 @@ pub mod RisingPieces
 pub mod Kept
 pub mod Rows
 pub mod Runs
+pub mod OneLife
