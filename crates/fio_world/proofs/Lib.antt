@@ -13,3 +13,7 @@ pub mod Kept
 pub mod Rows
 pub mod Runs
 pub mod OneLife
+pub mod OneLifeRows
+pub mod Times
+pub mod Promises
+pub mod SettingsInRange
