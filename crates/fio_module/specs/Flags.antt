@@ -1,5 +1,5 @@
 -- The status flags, the watchdog and the outputs after a life.
-use Rattle.std.specs.Prelude.{ℕ, zero, suc, ◌+◌, ◌*◌, ◌^◌, ◌==◌, Bool, true, false, List, [], ◌∷◌, Option, Some, None, min, max, replicate, if◌then◌else◌}
+use Rattle.std.specs.Prelude.{ℕ, zero, suc, ◌+◌, ◌*◌, ◌^◌, ◌==◌, Bool, true, false, [], ◌∷◌, Option, Some, None, min, max, replicate, if◌then◌else◌}
 use Rattle.fio_message.specs.Bits.{is_set, bit_of}
 use Rattle.fio_message.specs.declared.commands.Command.TheVariants.{Status, Watchdog, SetOutputs}
 use Rattle.fio_module.specs.declared.outputs.Outputs.{Outputs}

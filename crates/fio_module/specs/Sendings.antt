@@ -24,10 +24,10 @@ pub record Sending : Type 0 where
 abbrev pub answer_of : Sending → Answer
 answer_of sending =
     answers.Block
-      sending.number
-      (record { items = sending.entries })
-      (block_status sending.more sending.lost sending.again sending.out_of_sequence)
-      sending.stamp
+    sending.number
+    (record { items = sending.entries })
+    (block_status sending.more sending.lost sending.again sending.out_of_sequence)
+    sending.stamp
 
 -- whether a number is out of sequence after the poll received before it: not that one plus one, 0 after 255
 abbrev pub is_out_of_sequence : Option ℕ → ℕ → Bool

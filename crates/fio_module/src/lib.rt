@@ -1,6 +1,7 @@
 //! The field I/O module.
 #![tactic(auto)]
 
+pub mod laws;
 mod outputs;
 
 pub use outputs::Outputs;
