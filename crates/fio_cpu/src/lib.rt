@@ -10,8 +10,8 @@
 mod hearing;
 mod items;
 mod poller;
+mod recording;
 
 pub use hearing::Heard;
 pub use items::Item;
 pub use poller::Poller;
-

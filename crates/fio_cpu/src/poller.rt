@@ -1,12 +1,13 @@
 //! The poller: the CPU's number and its record.
-ghost use Rattle.std.specs.Prelude.{◌≡◌, [], OnOk, OnErr, IfOk};
+ghost use Rattle.std.specs.Prelude.{◌≡◌, ℕ, [], OnOk, OnErr, IfOk, Some, None};
 ghost use Rattle.fio_message.specs.Commands.{SpellsCommand};
+ghost use Rattle.fio_message.specs.Blocks.{block_answer};
 ghost use Rattle.fio_message.specs.Decoding.{decoded_answer, block_in};
 ghost use Rattle.fio_message.specs.declared.commands.Command.TheVariants as commands;
-ghost use Rattle.fio_cpu.specs.Hearing.{heard_as, after_hearing, AddsItems};
+ghost use Rattle.fio_cpu.specs.Hearing.{heard_answer, heard_as, after_block, after_hearing, AddsItems};
 
+use crate::recording::record_block;
 use crate::{Heard, Item};
-use fio_input::widen;
 use fio_message::{BlockView, Command, Frame, Memory, decode_answer, encode_command, read_block};
 use std::alloc::Global;
 use std::marker::Model;
@@ -58,5 +59,61 @@ impl Poller {
         ensures { result.now ≡ self.now.items }
     {
         self.items.as_slice()
+    }
+
+    /// Hears the octets of a frame: a block answer with the present number is taken whole, and anything
+    /// else changes nothing (TEES 2009 for what a block is; the order of the cases is own profile).
+    ///
+    /// Taking a block appends one gap mark if F is set and then all its entries in order, each with
+    /// its time in milliseconds, and raises the number by one modulo 256.
+    ///
+    /// # Errors
+    /// `Memory` where the record had to grow and no room was given. It can come only for a block answer
+    /// with the present number that adds an item: one with F or with entries. The record and the number
+    /// are then as before, and the same octets may be heard again.
+    pub fn hear(&mut self, octets: &[u8]) -> Result<Heard, Memory>
+        ensures heard { IfOk result (λ heard. heard ≡ heard_as self.old.number (decoded_answer octets.now)) }
+        ensures taken { OnOk result (self.new ≡ after_hearing self.old (block_in octets.now)) }
+        ensures unchanged { OnErr result (self.new ≡ self.old) }
+        ensures wanted { OnErr result (AddsItems self.old (block_in octets.now)) }
+    {
+        match read_block(octets) {
+            Ok(block) => self.hear_block(&block),
+            Err(_) => Ok(hear_other(octets)),
+        }
+    }
+
+    /// Takes a block with the present number. Any other block is stale.
+    fn hear_block(&mut self, block: &BlockView<'_>) -> Result<Heard, Memory>
+        ensures heard { IfOk result (λ heard. heard ≡ heard_answer self.old.number (block_answer block.now)) }
+        ensures taken { OnOk result (self.new ≡ after_block self.old block.now) }
+        ensures unchanged { OnErr result (self.new ≡ self.old) }
+        ensures wanted { OnErr result (AddsItems self.old (Some block.now)) }
+    {
+        let number = block.block();
+        if number != self.number {
+            return Ok(Heard::Stale { block: number });
+        }
+        record_block(&mut self.items, block)?;
+        self.number = number.wrapping_add(1);
+        Ok(Heard::Block {
+            entries: block.len(),
+            status: block.status(),
+        })
+    }
+}
+
+/// Octets that are no block answer: another answer, or unreadable. Whatever the CPU's number is, it
+/// makes the same of them.
+#[inline(never)]
+fn hear_other(octets: &[u8]) -> Heard
+    requires { block_in octets.now ≡ None }
+    ensures { (number : ℕ) → result ≡ heard_as number (decoded_answer octets.now) }
+{
+    match decode_answer(octets) {
+        Ok(answer) => Heard::Other {
+            code: answer.code(),
+        },
+        Err(fault) => Heard::Unreadable(fault),
     }
 }
