@@ -35,11 +35,14 @@ pub struct World {
 
 impl Model for World {
     ghost use Rattle.std.specs.Prelude.{map};
-    ghost use Rattle.fio_world.specs.Ends.{Ends};
+    ghost use Rattle.fio_world.specs.Ends.{Ends, frame_octets};
 
     ghost Value = { Ends };
 
-    ghost view = { λ w. record { module_end = w.module; poller_end = w.poller; to_module = map (λ f. f.items) w.to_module.items; to_cpu = map (λ f. f.items) w.to_cpu.items; last_to_module = w.last_to_module; last_to_cpu = w.last_to_cpu } };
+    ghost view = { λ w. record {
+        module_end = w.module; poller_end = w.poller;
+        to_module = map frame_octets w.to_module.items; to_cpu = map frame_octets w.to_cpu.items;
+        last_to_module = w.last_to_module; last_to_cpu = w.last_to_cpu } };
 }
 
 impl World {

@@ -1,10 +1,9 @@
 //! The frames sent in one direction.
-ghost use Rattle.std.specs.Prelude.{◌≡◌, ◌≤◌, ◌<◌, ◌∷◌, ◌++◌, [], List, ℕ, length, map, vec_len, vec_capacity};
+ghost use Rattle.std.specs.Prelude.{◌≡◌, ◌<◌, ◌∷◌, ◌++◌, [], List, ℕ, map, vec_len, vec_capacity, MatchResult};
 ghost use Rattle.std.specs.Option.{option_map};
 ghost use Rattle.std.specs.Borrow.{Bor};
-ghost use Rattle.std.specs.Prelude.{MatchResult};
 ghost use Rattle.fio_world.specs.Link.{delivery_refusal};
-ghost use Rattle.fio_world.specs.Ends.{octets_numbered};
+ghost use Rattle.fio_world.specs.Ends.{frame_octets, octets_numbered};
 ghost use Rattle.fio_world.specs.Worlds.{IsFault};
 
 use crate::outcome::WorldError;
@@ -13,7 +12,7 @@ use fio_message::Frame;
 /// The octets of the frame with this number, from 1.
 pub(crate) fn octets_of_frame(frames: &Vec<Frame>, index: usize) -> Option<&[u8]>
     ensures { option_map (λ (octets : Bor (List ℕ)). octets.now) result
-        ≡ octets_numbered (map (λ f. f.items) frames.now.items) index }
+        ≡ octets_numbered (map frame_octets frames.now.items) index }
 {
     if index == 0 || frames.len() < index {
         return None;
