@@ -3,3 +3,9 @@ pub mod BlockLaws
 pub mod WaitingLaws
 pub mod SendingLaws
 pub mod LifeLaws
+pub mod Words
+pub mod Scans
+pub mod Fronts
+pub mod Marks
+pub mod NewBlocks
+pub mod Polls

@@ -17,3 +17,5 @@ pub mod OneLifeRows
 pub mod Times
 pub mod Promises
 pub mod SettingsInRange
+pub mod Shown
+pub mod SoundWorlds

@@ -6,3 +6,5 @@ pub mod Claims
 pub mod Rounds
 pub mod Rising
 pub mod Sound
+pub mod Ends
+pub mod Worlds

@@ -9,5 +9,9 @@
 
 mod event;
 pub mod laws;
+mod outcome;
+mod world;
 
 pub use event::Event;
+pub use outcome::{Outcome, RunError, WorldError};
+pub use world::World;
