@@ -1,6 +1,8 @@
 pub mod Cases
 pub mod Numbers
 pub mod Parts
+pub mod PartKinds
+pub mod PartLoops
 pub mod Whole
 pub mod Grammar
 pub mod CommandLaws
