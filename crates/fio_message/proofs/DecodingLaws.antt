@@ -16,7 +16,7 @@ module _ {V : Type 0} (length_of : List ℕ → Option ℕ) (read : ℕ → List
   unfolding message_in
   message_in-fitting code fields le needed =
       let fits : is_length (length_of (code ∷ fields)) (1 + length fields) ≡ true =
-          rw needed (eq-eqb (suc (length fields)) (1 + length fields) (omega arith)) in
+      rw needed (eq-eqb (suc (length fields)) (1 + length fields) (omega arith)) in
       rw (le-leb (length fields) 772 le, fits) refl
 
   -- whole octets are what is read of them
@@ -76,7 +76,7 @@ module _ {V : Type 0} (length_of : List ℕ → Option ℕ) (read : ℕ → List
   decoded-refused (code ∷ fields) (WrongLength needed got) r =
       let same : got ≡ 1 + length fields = omega (arith, r.1) in
       let unfit : is_length (length_of (code ∷ fields)) (1 + length fields) ≡ false =
-          rw r.2 (ne_eqb needed (1 + length fields) (λ e. r.3 (e ∙ sym same))) in
+      rw r.2 (ne_eqb needed (1 + length fields) (λ e. r.3 (e ∙ sym same))) in
       let none = message_in-unfit code fields unfit in
       let within = le-ltb 773 (1 + length fields) (omega (arith, r.0.1, same)) in
       rw (none, within, r.2) (ap (λ (n : ℕ). Err (WrongLength needed n)) (sym same))

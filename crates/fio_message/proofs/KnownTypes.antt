@@ -25,8 +25,7 @@ command_codes code fields =
     at_code Known 57 code (λ e. absurd cc, λ h. absurd (h (omega arith, omega arith))) (λ n57.
     at_code Known 58 code (λ e. absurd cc, λ h. absurd (h (omega arith, omega arith))) (λ n58.
     at_code Known 59 code (λ e. absurd cc, λ h. absurd (h (omega arith, omega arith))) (λ n59.
-    at_code Known 60 code (λ e. absurd cc, λ h. absurd (h (omega arith, omega arith))) (λ n60.
-    (
+    at_code Known 60 code (λ e. absurd cc, λ h. absurd (h (omega arith, omega arith))) (λ n60. (
       λ e p.
           let p50 = past 49 code p.0 n49 in
           let p51 = past 50 code p50 n50 in
@@ -58,8 +57,7 @@ answer_codes code fields =
     at_code Known 185 code (λ e. absurd cc, λ h. absurd (h (omega arith, omega arith))) (λ n185.
     at_code Known 186 code (λ e. absurd cc, λ h. absurd (h (omega arith, omega arith))) (λ n186.
     at_code Known 187 code (λ e. absurd cc, λ h. absurd (h (omega arith, omega arith))) (λ n187.
-    at_code Known 188 code (λ e. absurd cc, λ h. absurd (h (omega arith, omega arith))) (λ n188.
-    (
+    at_code Known 188 code (λ e. absurd cc, λ h. absurd (h (omega arith, omega arith))) (λ n188. (
       λ e p.
           let p178 = past 177 code p.0 n177 in
           let p179 = past 178 code p178 n178 in

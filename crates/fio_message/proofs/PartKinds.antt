@@ -59,7 +59,7 @@ entry-spelled (a ∷ []) le h = absurd (omega arith)
 entry-spelled (a ∷ b ∷ []) le h = absurd (omega arith)
 entry-spelled (a ∷ b ∷ c ∷ rest) le h =
     let stamp : to_be_bytes w16 (from_be_bytes w16 (b ∷ c ∷ [])) ≡ b ∷ c ∷ [] =
-        number_16 (b ∷ c ∷ []) refl (h.1.0, (h.1.1.0, tt)) in
+    number_16 (b ∷ c ∷ []) refl (h.1.0, (h.1.1.0, tt)) in
     ap (λ (r : List ℕ). (128 * bit_of (nat_le 128 a) + a % 128) ∷ r) stamp
     ∙ ap (λ (x : ℕ). x ∷ b ∷ c ∷ []) (flag_split a h.0)
 

@@ -58,7 +58,7 @@ module _ {X : Type 0} (Fits : X → Type 0) (octets_of : X → List ℕ) (old ne
   write_more after part lt read fits three is h =
       let before = flat_map octets_of (take i parts) in
       let more : take (i + 1) parts ≡ take i parts ++ part ∷ [] =
-          take_more parts i part lt ∙ ap (λ x. take i parts ++ x ∷ []) (sym read) in
+      take_more parts i part lt ∙ ap (λ x. take i parts ++ x ∷ []) (sym read) in
       record {
         appended = is
             ∙ ap (λ (o : List ℕ). o ++ octets_of part) h.appended

@@ -35,7 +35,7 @@ module _ {X : Type 0} {Fits : X → Type 0} {octets_of : X → List ℕ} {part_a
   parts-again (x ∷ xs) rest h =
       let others = flat_map octets_of xs ++ rest in
       let regrouped : flat_map octets_of (x ∷ xs) ++ rest ≡ octets_of x ++ others =
-          append_assoc (octets_of x) (flat_map octets_of xs) rest in
+      append_assoc (octets_of x) (flat_map octets_of xs) rest in
       let first : part_at (octets_of x ++ others) ≡ x = part.again x others h.0 in
       let left : drop 3 (octets_of x ++ others) ≡ others = drop_at (octets_of x) others 3 (part.len x) in
       ap (parts_at part_at (suc (length xs))) regrouped ∙ rw (first, left, parts-again xs rest h.1) refl
@@ -58,9 +58,9 @@ module _ {X : Type 0} {Fits : X → Type 0} {octets_of : X → List ℕ} {part_a
       let first = octets_of (part_at o) in
       let others = flat_map octets_of (parts_at part_at n (drop 3 o)) in
       let left : drop (3 * suc n) o ≡ drop (3 * n) (drop 3 o) =
-          ap (λ (k : ℕ). drop k o) (omega arith) ∙ sym (drop-drop (3 * n) 3 o) in
+      ap (λ (k : ℕ). drop k o) (omega arith) ∙ sym (drop-drop (3 * n) 3 o) in
       let after : others ++ drop (3 * n) (drop 3 o) ≡ drop 3 o =
-          parts-spelled n (drop 3 o) (omega (arith, length-drop 3 o)) (IsOctets-drop 3 o h) in
+      parts-spelled n (drop 3 o) (omega (arith, length-drop 3 o)) (IsOctets-drop 3 o h) in
       append_assoc first others (drop (3 * suc n) o)
       ∙ ap (λ (r : List ℕ). first ++ (others ++ r)) left
       ∙ ap (λ (r : List ℕ). first ++ r) after

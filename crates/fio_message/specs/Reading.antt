@@ -41,16 +41,16 @@ command_at code fields =
     if code == 49 then commands.Status (slice_index_or fields 0 0)
     else (if code == 50 then commands.LoadCounter (from_be_bytes w32 fields)
     else (if code == 51
-        then commands.ConfigureInputs (record {
-          items = parts_at item_at (slice_index_or fields 0 0) (drop 1 fields);
-        })
+    then commands.ConfigureInputs (record {
+      items = parts_at item_at (slice_index_or fields 0 0) (drop 1 fields);
+    })
     else (if code == 52 then commands.RawInputs
     else (if code == 53 then commands.FilteredInputs
     else (if code == 54 then commands.Poll (slice_index_or fields 0 0)
     else (if code == 55 then commands.SetOutputs (take 8 fields) (drop 8 fields)
     else (if code == 56 then commands.Other other_commands.TrackInputs (record { items = fields })
     else (if code == 57
-        then commands.Other other_commands.ComplexOutputs (record { items = fields })
+    then commands.Other other_commands.ComplexOutputs (record { items = fields })
     else (if code == 58 then commands.Watchdog (slice_index_or fields 0 0)
     else (if code == 59 then commands.Other other_commands.ControllerId (record { items = fields })
     else commands.Identify))))))))))
@@ -67,23 +67,23 @@ block_ending fields = drop (3 * slice_index_or fields 1 0) (drop 2 fields)
 abbrev pub block_at : List ℕ → Answer
 block_at fields =
     answers.Block (slice_index_or fields 0 0) (record { items = block_entries fields })
-        (slice_index_or (block_ending fields) 0 0)
-        (from_be_bytes w32 (drop 1 (block_ending fields)))
+    (slice_index_or (block_ending fields) 0 0)
+    (from_be_bytes w32 (drop 1 (block_ending fields)))
 
 -- the answer with this type and these fields, for the types 177 to 188
 abbrev pub answer_at : ℕ → List ℕ → Answer
 answer_at code fields =
     if code == 177
-        then answers.Status (slice_index_or fields 0 0) (slice_index_or fields 1 0)
-            (slice_index_or fields 2 0) (from_be_bytes w32 (drop 3 fields))
+    then answers.Status (slice_index_or fields 0 0) (slice_index_or fields 1 0)
+    (slice_index_or fields 2 0) (from_be_bytes w32 (drop 3 fields))
     else (if code == 178 then answers.LoadCounter (slice_index_or fields 0 0)
     else (if code == 179 then answers.ConfigureInputs (slice_index_or fields 0 0)
     else (if code == 180
-        then answers.RawInputs (from_le_bytes w64 (take 8 fields))
-            (from_be_bytes w32 (drop 8 fields))
+    then answers.RawInputs (from_le_bytes w64 (take 8 fields))
+    (from_be_bytes w32 (drop 8 fields))
     else (if code == 181
-        then answers.FilteredInputs (from_le_bytes w64 (take 8 fields))
-            (from_be_bytes w32 (drop 8 fields))
+    then answers.FilteredInputs (from_le_bytes w64 (take 8 fields))
+    (from_be_bytes w32 (drop 8 fields))
     else (if code == 182 then block_at fields
     else (if code == 183 then answers.Other other_answers.SetOutputs (record { items = fields })
     else (if code == 184 then answers.Other other_answers.TrackInputs (record { items = fields })
