@@ -28,7 +28,11 @@ fn open_all(rt: &impl Abort, module: &mut Module) {
 /// Scans that each change all inputs, the first of them to 0, after so many such scans.
 fn full_scans(module: &mut Module, before: u32, count: u32) {
     for scan in 0..count {
-        module.scan(if (before ^ scan) & 1 == 0 { 0 } else { u64::MAX });
+        module.scan(if (before ^ scan) & 1 == 0 {
+            0
+        } else {
+            u64::MAX
+        });
     }
 }
 

@@ -34,12 +34,7 @@ fn most_that_may_wait(rt: HostRuntime) -> Result<(), Fail> {
 fn one_entry_a_block(rt: HostRuntime) -> Result<(), Fail> {
     let limits = Limits::new(1, 1024).ok_or("in range")?;
     let mut module = Module::with_limits(rt.alloc(), 2, limits)?;
-    gets(
-        &rt,
-        &mut module,
-        &[0x33, 2, 0, 1, 1, 12, 1, 1],
-        &[0xb3, 0],
-    );
+    gets(&rt, &mut module, &[0x33, 2, 0, 1, 1, 12, 1, 1], &[0xb3, 0]);
     module.scan(!(1 | 1 << 12));
     gets(
         &rt,
