@@ -11,3 +11,6 @@ mod waiting;
 pub use limits::Limits;
 pub use module::Module;
 pub use outputs::Outputs;
+
+#[cfg(test)]
+mod tests;

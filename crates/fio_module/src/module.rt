@@ -43,7 +43,7 @@ impl Module {
     ghost use Rattle.fio_module.specs.Blocks.{latest_poll, newest_end};
     ghost use Rattle.fio_module.specs.Flags.{watchdog_of, outputs_of};
     ghost use Rattle.fio_module.specs.Replies.{reply_to, Encodes};
-    ghost use Rattle.fio_module.specs.Module.{IsAfter, StandsFor, Obeys};
+    ghost use Rattle.fio_module.specs.Module.{IsAfter, StandsFor, Obeys, frame_if};
 
     /// A module with this identification octet and the limits of TEES 2009. All the memory that it
     /// will ever need is taken here.
@@ -130,134 +130,162 @@ impl Module {
         ensures reply { (settings : Settings) (history : History) → StandsFor settings self.old history
             → Encodes (reply_to settings history octets.now) result }
     {
-        match decode_command(octets) {
-            Ok(command) => self.obey(command),
-            Err(_) => None,
+        let mut frame = Frame::new();
+        if self.answer(octets, &mut frame) {
+            Some(frame)
+        } else {
+            None
         }
     }
 
-    fn obey(&mut self, command: Command) -> Option<Frame>
-        ensures { Obeys self.old self.new command result }
+    /// Writes the answer to the octets of a frame, if there is one. Each command writes into the one
+    /// frame, since each frame of its own would cost the filling of 773 octets.
+    #[inline(never)]
+    fn answer(&mut self, octets: &[u8], frame: &mut Frame) -> bool
+        ensures stands { (settings : Settings) (history : History) → StandsFor settings self.old history
+            → StandsFor settings self.new (Received octets.now ∷ history) }
+        ensures reply { (settings : Settings) (history : History) → StandsFor settings self.old history
+            → Encodes (reply_to settings history octets.now) (frame_if result frame.new) }
+    {
+        match decode_command(octets) {
+            Ok(command) => self.obey(command, frame),
+            Err(_) => false,
+        }
+    }
+
+    fn obey(&mut self, command: Command, frame: &mut Frame) -> bool
+        ensures { Obeys self.old self.new command (frame_if result frame.new) }
     {
         match command {
-            Command::Status { clear } => Some(self.clear_flags(clear)),
-            Command::LoadCounter { load } => Some(self.load_counter(load)),
-            Command::ConfigureInputs { items } => Some(self.configure(items.as_slice())),
-            Command::RawInputs => Some(self.raw_inputs()),
-            Command::FilteredInputs => Some(self.filtered_inputs()),
-            Command::Poll { block } => Some(self.poll(block)),
-            Command::SetOutputs { levels, controls } => Some(self.set_outputs(levels, controls)),
-            Command::Watchdog { timeout } => Some(self.set_watchdog(timeout)),
-            Command::Identify => Some(self.identify()),
-            Command::Other { .. } => None,
+            Command::Status { clear } => self.clear_flags(clear, frame),
+            Command::LoadCounter { load } => self.load_counter(load, frame),
+            Command::ConfigureInputs { items } => self.configure(items.as_slice(), frame),
+            Command::RawInputs => self.raw_inputs(frame),
+            Command::FilteredInputs => self.filtered_inputs(frame),
+            Command::Poll { block } => self.poll(block, frame),
+            Command::SetOutputs { levels, controls } => self.set_outputs(levels, controls, frame),
+            Command::Watchdog { timeout } => self.set_watchdog(timeout, frame),
+            Command::Identify => self.identify(frame),
+            Command::Other { .. } => return false,
         }
+        true
     }
 
-    fn clear_flags(&mut self, clear: u8) -> Frame
-        ensures { Obeys self.old self.new (Command.Status clear) (Some result) }
+    #[inline(never)]
+    fn clear_flags(&mut self, clear: u8, frame: &mut Frame)
+        ensures { Obeys self.old self.new (Command.Status clear) (Some frame.new) }
     {
         self.flags &= !clear;
-        encode_answer(&Answer::Status {
+        *frame = encode_answer(&Answer::Status {
             flags: self.flags,
             receive_errors: 0,
             transmit_errors: 0,
             stamp: self.counter.now(),
-        })
+        });
     }
 
-    fn load_counter(&mut self, load: u32) -> Frame
-        ensures { Obeys self.old self.new (Command.LoadCounter load) (Some result) }
+    #[inline(never)]
+    fn load_counter(&mut self, load: u32, frame: &mut Frame)
+        ensures { Obeys self.old self.new (Command.LoadCounter load) (Some frame.new) }
     {
         self.counter.ask_load(load);
-        encode_answer(&Answer::LoadCounter { status: 0 })
+        *frame = encode_answer(&Answer::LoadCounter { status: 0 });
     }
 
-    fn configure(&mut self, items: &[InputItem]) -> Frame
-        ensures { Obeys self.old self.new (Command.ConfigureInputs (record { items = items.now })) (Some result) }
+    #[inline(never)]
+    fn configure(&mut self, items: &[InputItem], frame: &mut Frame)
+        ensures { Obeys self.old self.new (Command.ConfigureInputs (record { items = items.now })) (Some frame.new) }
     {
         let status = match self.filters.configure(items) {
             Ok(()) => 0,
             Err(_) => 1,
         };
-        encode_answer(&Answer::ConfigureInputs { status })
+        *frame = encode_answer(&Answer::ConfigureInputs { status });
     }
 
-    fn raw_inputs(&self) -> Frame
-        ensures { Obeys self.now self.now Command.RawInputs (Some result) }
+    #[inline(never)]
+    fn raw_inputs(&self, frame: &mut Frame)
+        ensures { Obeys self.now self.now Command.RawInputs (Some frame.new) }
     {
-        encode_answer(&Answer::RawInputs {
+        *frame = encode_answer(&Answer::RawInputs {
             inputs: self.filters.raw(),
             stamp: self.counter.now(),
-        })
+        });
     }
 
-    fn filtered_inputs(&self) -> Frame
-        ensures { Obeys self.now self.now Command.FilteredInputs (Some result) }
+    #[inline(never)]
+    fn filtered_inputs(&self, frame: &mut Frame)
+        ensures { Obeys self.now self.now Command.FilteredInputs (Some frame.new) }
     {
-        encode_answer(&Answer::FilteredInputs {
+        *frame = encode_answer(&Answer::FilteredInputs {
             inputs: self.filters.filtered(),
             stamp: self.counter.now(),
-        })
+        });
     }
 
-    fn poll(&mut self, number: u8) -> Frame
-        ensures { Obeys self.old self.new (Command.Poll number) (Some result) }
+    #[inline(never)]
+    fn poll(&mut self, number: u8, frame: &mut Frame)
+        ensures { Obeys self.old self.new (Command.Poll number) (Some frame.new) }
     {
         if is_new(self.sent.number(), number) {
-            self.send_new(number)
+            self.send_new(number, frame);
         } else {
-            self.send_again(number)
+            self.send_again(number, frame);
         }
     }
 
-    fn send_new(&mut self, number: u8) -> Frame
+    fn send_new(&mut self, number: u8, frame: &mut Frame)
         ensures after { (settings : Settings) (life : Life) → IsAfter settings self.old life
             → is_new (latest_poll life) number ≡ true
             → IsAfter settings self.new (Commanded (Command.Poll number) ∷ life) }
-        ensures kept { result.items ≡ self.new.sent.octets.items }
+        ensures kept { frame.new.items ≡ self.new.sent.octets.items }
     {
         let out_of_sequence = is_out_of_sequence(self.sent.number(), number);
-        let taken = self.waiting.take_block(self.per_block);
-        self.sent.keep(encode_answer(&Answer::Block {
-            block: number,
-            status: first_status(taken.more, taken.lost, out_of_sequence),
-            entries: taken.entries,
-            stamp: self.counter.now(),
-        }));
-        self.sent.copy()
+        let (more, lost) = (
+            self.waiting.has_more(self.per_block),
+            self.waiting.has_lost(),
+        );
+        let status = first_status(more, lost, out_of_sequence);
+        let (first, second) = self.waiting.front(self.per_block);
+        self.sent
+            .keep(number, first, second, status, self.counter.now());
+        self.waiting.remove_front(self.per_block);
+        self.sent.copy_to(frame);
     }
 
-    fn send_again(&mut self, number: u8) -> Frame
+    fn send_again(&mut self, number: u8, frame: &mut Frame)
         ensures after { (settings : Settings) (life : Life) → IsAfter settings self.old life
             → is_new (latest_poll life) number ≡ false
             → IsAfter settings self.new (Commanded (Command.Poll number) ∷ life) }
-        ensures kept { result.items ≡ self.new.sent.octets.items }
+        ensures kept { frame.new.items ≡ self.new.sent.octets.items }
     {
         self.sent.mark_again();
-        self.sent.copy()
+        self.sent.copy_to(frame);
     }
 
-    fn set_outputs(&mut self, levels: [u8; 8], controls: [u8; 8]) -> Frame
-        ensures { Obeys self.old self.new (Command.SetOutputs levels controls) (Some result) }
+    #[inline(never)]
+    fn set_outputs(&mut self, levels: [u8; 8], controls: [u8; 8], frame: &mut Frame)
+        ensures { Obeys self.old self.new (Command.SetOutputs levels controls) (Some frame.new) }
     {
         self.outputs = Outputs { levels, controls };
-        let stamp = self.counter.now().to_be_bytes();
-        let body = [0, stamp[0], stamp[1], stamp[2], stamp[3]];
-        other_answer(OtherAnswer::SetOutputs, &body)
+        let [a, b, c, d] = self.counter.now().to_be_bytes();
+        *frame = other_answer(OtherAnswer::SetOutputs, &[0, a, b, c, d]);
     }
 
-    fn set_watchdog(&mut self, timeout: u8) -> Frame
-        ensures { Obeys self.old self.new (Command.Watchdog timeout) (Some result) }
+    #[inline(never)]
+    fn set_watchdog(&mut self, timeout: u8, frame: &mut Frame)
+        ensures { Obeys self.old self.new (Command.Watchdog timeout) (Some frame.new) }
     {
         let status = if self.watchdog.is_some() { 1 } else { 0 };
         self.watchdog = Some(timeout.max(10).min(100));
-        encode_answer(&Answer::Watchdog { status })
+        *frame = encode_answer(&Answer::Watchdog { status });
     }
 
-    fn identify(&self) -> Frame
-        ensures { Obeys self.now self.now Command.Identify (Some result) }
+    #[inline(never)]
+    fn identify(&self, frame: &mut Frame)
+        ensures { Obeys self.now self.now Command.Identify (Some frame.new) }
     {
-        other_answer(OtherAnswer::Identify, &[self.id])
+        *frame = other_answer(OtherAnswer::Identify, &[self.id]);
     }
 
     /// What the outputs are set to, all 0 before the first command that sets them (own profile).
