@@ -10,7 +10,8 @@ use Rattle.fio_message.specs.Status.{block_status}
 use Rattle.fio_message.specs.Octets.{IsOctet, IsEntry, entry_octets}
 use Rattle.fio_message.specs.Reading.{entry_at}
 use Rattle.fio_message.specs.Answers.{SpellsAnswer, answer_octets}
-use Rattle.fio_message.proofs.Parts.{length-parts, entry_is_part}
+use Rattle.fio_message.proofs.Parts.{length-parts}
+use Rattle.fio_message.proofs.PartKinds.{entry_is_part}
 use Rattle.fio_module.specs.Sendings.{Sending, answer_of, sent_again}
 use Rattle.fio_module.specs.Sent.{marked_again}
 
