@@ -1,0 +1,11 @@
+//! The texts that the program reads and writes, as far as its parts share them.
+//!
+//! The definitions stand in `specs/`, in this order: the lines of a text (`Lines`), the words of a line
+//! (`Words`), octets as hexadecimal digits (`Hexadecimal`), readings of which the first fault decides
+//! (`Collected`).
+#![tactic(auto)]
+
+mod reports;
+pub mod text;
+
+pub use reports::{Report, push_fault};
