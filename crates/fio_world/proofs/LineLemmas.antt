@@ -1,7 +1,8 @@
-use Rattle.std.proofs.Common.{◌≡◌, ℕ, ◌+◌, ◌<◌, List, [], ◌∷◌, zero, suc, length, take, drop, get_or, refl, ap, arith, ◌∙◌, add-one, false, true}
+use Rattle.std.proofs.Common.{◌≡◌, ◌≢◌, ℕ, ◌+◌, ◌<◌, List, [], ◌∷◌, ◌++◌, zero, suc, length, take, drop, get_or, refl, arith, append_assoc, add-one, false}
 use Rattle.std.proofs.lemmas.Bool.{ne_eqb}
 use Rattle.std.proofs.Math.Dec.{eqb}
-use Rattle.fio_world.specs.Lines.{lines_of, with_front}
+use Rattle.std.specs.List.{AllByRecursion}
+use Rattle.fio_world.specs.Lines.{lines_of, text_of, IsOneLine}
 
 -- the first line feed ends the first line
 pub lines_of-at : (text : List ℕ) (i : ℕ) → i < length text → ((k : ℕ) → k < i → get_or text k 0 ≡ 10 → ⊥) → get_or text i 0 ≡ 10
@@ -23,3 +24,26 @@ lines_of-whole (octet ∷ next ∷ rest) h none =
     let other : eqb octet 10 ≡ false = ne_eqb octet 10 (none 0 (omega arith)) in
     let later = lines_of-whole (next ∷ rest) (omega arith) (λ k less. none (suc k) (omega arith)) in
     rw (other, later) refl
+
+-- a line in front of a line feed is the first line of a text
+pub lines_of-line : (line rest : List ℕ) → IsOneLine line → lines_of (line ++ (10 ∷ rest)) ≡ line ∷ lines_of rest
+lines_of-line [] rest one = refl
+lines_of-line (octet ∷ line) rest one =
+    let other : eqb octet 10 ≡ false = ne_eqb octet 10 one.0 in
+    rw (other, lines_of-line line rest one.1) refl
+
+-- a text that is one line and not empty is its only line
+pub lines_of-last : (last : List ℕ) → IsOneLine last → last ≢ [] → lines_of last ≡ last ∷ []
+lines_of-last [] one some = absurd (some refl)
+lines_of-last (octet ∷ []) one some =
+    let other : eqb octet 10 ≡ false = ne_eqb octet 10 one.0 in rw other refl
+lines_of-last (octet ∷ next ∷ rest) one some =
+    let other : eqb octet 10 ≡ false = ne_eqb octet 10 one.0 in
+    rw (other, lines_of-last (next ∷ rest) one.1 (λ none. cc)) refl
+
+-- the lines of a text that was made of lines, and then what follows them
+pub lines_of-text_of : (lines : List (List ℕ)) (rest : List ℕ) → AllByRecursion IsOneLine lines
+    → lines_of (text_of lines ++ rest) ≡ lines ++ lines_of rest
+lines_of-text_of [] rest one = refl
+lines_of-text_of (line ∷ lines) rest one =
+    rw (append_assoc, lines_of-line line (text_of lines ++ rest) one.0, lines_of-text_of lines rest one.1) refl

@@ -1,5 +1,6 @@
 -- The lines of a text. A line ends before a line feed, octet 10, and the last one may lack its own.
-use Rattle.std.specs.Prelude.{ℕ, suc, Bool, true, List, [], ◌∷◌, ◌==◌, if◌then◌else◌}
+use Rattle.std.specs.Prelude.{◌≢◌, ℕ, suc, Bool, true, List, [], ◌∷◌, ◌++◌, ◌==◌, if◌then◌else◌}
+use Rattle.std.specs.List.{AllByRecursion}
 
 -- these lines, with an octet that is no line feed in front of the first
 abbrev pub with_front : ℕ → List (List ℕ) → List (List ℕ)
@@ -20,3 +21,12 @@ abbrev pub numbered : ℕ → List (List ℕ) → List (ℕ × List ℕ)
 numbered number [] = []
 numbered number (line ∷ lines) =
     if is_skipped line then numbered (suc number) lines else (number, line) ∷ numbered (suc number) lines
+
+-- the text that these lines make, each with a line feed at its end
+abbrev pub text_of : List (List ℕ) → List ℕ
+text_of [] = []
+text_of (line ∷ lines) = line ++ (10 ∷ text_of lines)
+
+-- no octet of it is a line feed
+abbrev pub IsOneLine : List ℕ → Type 0
+IsOneLine line = AllByRecursion (λ octet. octet ≢ 10) line
