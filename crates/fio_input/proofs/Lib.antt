@@ -1,0 +1,12 @@
+pub mod Configured
+pub mod Groups
+pub mod History
+pub mod Places
+pub mod Present
+pub mod RunLengths
+pub mod Scanned
+pub mod Ticks
+pub mod Times
+pub mod LastItem
+pub mod LevelLanes
+pub mod Vectors

@@ -1,0 +1,80 @@
+-- What the filters of the inputs are after a history. A history is a list, the newest event first.
+use Rattle.std.specs.Prelude.{ℕ, ◌-◌, ◌^◌, Bool, true, not, ◌&&◌, ◌==◌, nat_lt, if◌then◌else◌, List, [], ◌∷◌, Option, Some, None, is_some}
+use Rattle.std.specs.Bool.{beq}
+use Rattle.std.specs.Option.{option_or}
+use Rattle.std.specs.List.{list_all}
+use Rattle.fio_message.specs.declared.fields.InputItem.{InputItem}
+use Rattle.fio_message.specs.Bits.{is_set}
+use Rattle.fio_input.specs.Filtering.{Setting, filtered_state}
+
+-- what happens to the filters: a configuration that is received, applied or not, and a scan, whose
+-- raw levels are bit i for input i
+pub data FilterEvent : Type 0 where
+  Configure : (items : List InputItem) → FilterEvent
+  Scan : (raw : ℕ) → FilterEvent
+
+-- each item names an input that the module has
+abbrev pub all_present : List InputItem → Bool
+all_present items = list_all (λ item. nat_lt item.input 64) items
+
+-- the items that a configuration applies: all of them, or none if some names an input above 63
+abbrev pub applied_items : List InputItem → List InputItem
+applied_items items = if all_present items then items else []
+
+-- the last item that names an input
+abbrev pub last_item_of : ℕ → List InputItem → Option InputItem
+last_item_of input [] = None
+last_item_of input (item ∷ items) =
+    option_or (last_item_of input items) (if item.input == input then Some item else None)
+
+-- the setting by an item that names the input, and the one before where none does
+abbrev pub setting_by : Option InputItem → Setting → Setting
+setting_by None before = before
+setting_by (Some item) before =
+    record { ignore = item.ignore; leading = item.leading; trailing = item.trailing }
+
+-- the last item naming the input in the latest applied configuration that names it, and at the
+-- start: ignored, both filters 5
+abbrev pub setting : ℕ → List FilterEvent → Setting
+setting input [] = record { ignore = true; leading = 5; trailing = 5 }
+setting input (Configure items ∷ history) =
+    setting_by (last_item_of input (applied_items items)) (setting input history)
+setting input (Scan raw ∷ history) = setting input history
+
+-- whether a configuration with these items applies to the input: it is applied and names it
+abbrev pub apply_to : ℕ → List InputItem → Bool
+apply_to input items = is_some (last_item_of input (applied_items items))
+
+-- the levels of the input at the scans since the latest configuration that applies to it, or since
+-- the start, the newest first
+abbrev pub samples : ℕ → List FilterEvent → List Bool
+samples input [] = []
+samples input (Configure items ∷ history) =
+    if apply_to input items then [] else samples input history
+samples input (Scan raw ∷ history) = is_set raw input ∷ samples input history
+
+-- the filtered state of the input just before that configuration, and 1 with none
+abbrev pub base : ℕ → List FilterEvent → Bool
+base input [] = true
+base input (Configure items ∷ history) =
+    if apply_to input items
+    then filtered_state (setting input history) (base input history) (samples input history)
+    else base input history
+base input (Scan raw ∷ history) = base input history
+
+-- the filtered state of an input
+abbrev pub state : ℕ → List FilterEvent → Bool
+state input history =
+    filtered_state (setting input history) (base input history) (samples input history)
+
+-- the raw levels of the latest scan, all ones before any
+abbrev pub raw_levels : List FilterEvent → ℕ
+raw_levels [] = 2 ^ 64 - 1
+raw_levels (Configure items ∷ history) = raw_levels history
+raw_levels (Scan raw ∷ history) = raw
+
+-- whether a scan after a history changes the filtered state of an input that is not ignored
+abbrev pub is_reported : ℕ → ℕ → List FilterEvent → Bool
+is_reported input raw history =
+    not (setting input history).ignore
+    && not (beq (state input (Scan raw ∷ history)) (state input history))

@@ -1,0 +1,33 @@
+-- The filtered state of one input. Samples are listed the newest first.
+use Rattle.std.specs.Prelude.{ℕ, zero, suc, max, Bool, true, false, ◌&&◌, ◌||◌, if◌then◌else◌, List, [], ◌∷◌}
+use Rattle.std.specs.Bool.{beq}
+
+-- what an item of a configuration sets for an input: whether its transitions are left unreported,
+-- its filter from 1 to 0 and its filter from 0 to 1, in samples
+pub record Setting : Type 0 where
+  pub ignore : Bool
+  pub leading : ℕ
+  pub trailing : ℕ
+
+-- a filter of 0 acts as 1
+abbrev pub in_force : ℕ → ℕ
+in_force filter = max filter 1
+
+-- there are n samples, and the latest n are all of this level
+abbrev pub latest_are : ℕ → Bool → List Bool → Bool
+latest_are zero level samples = true
+latest_are (suc n) level [] = false
+latest_are (suc n) level (sample ∷ older) = beq sample level && latest_are n level older
+
+-- the latest sample ends a run of zeros as long as the leading filter, or of ones as long as the
+-- trailing one
+abbrev pub ends_run : Setting → List Bool → Bool
+ends_run setting samples =
+    latest_are (in_force setting.leading) false samples || latest_are (in_force setting.trailing) true samples
+
+-- the latest sample that ends such a run, sought from the newest sample on, and the base where
+-- there is none
+abbrev pub filtered_state : Setting → Bool → List Bool → Bool
+filtered_state setting base [] = base
+filtered_state setting base (sample ∷ older) =
+    if ends_run setting (sample ∷ older) then sample else filtered_state setting base older

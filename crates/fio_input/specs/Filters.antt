@@ -1,0 +1,23 @@
+-- What the filters of the inputs stand for.
+use Rattle.std.specs.Prelude.{ℕ, ◌≡◌, ◌<◌, ◌≤◌, min, Bool, slice_index, List}
+use Rattle.fio_message.specs.Bits.{is_set}
+use Rattle.fio_input.specs.declared.filters.Filters.{Filters}
+use Rattle.fio_input.specs.Filtering.{Setting}
+use Rattle.fio_input.specs.Runs.{run_length}
+use Rattle.fio_input.specs.FilterHistory.{FilterEvent, setting, samples, state, raw_levels}
+
+-- what the filters keep of one input
+pub record Keeps (filters : Filters) (input : ℕ) (setting : Setting) (samples : List Bool) (state : Bool) : Type 0 where
+  pub run_length : slice_index filters.run_lengths input ≡ min (run_length samples) 255
+  pub leading : slice_index filters.leading input ≡ setting.leading
+  pub trailing : slice_index filters.trailing input ≡ setting.trailing
+  pub leading_fits : setting.leading ≤ 255
+  pub trailing_fits : setting.trailing ≤ 255
+  pub ignored : is_set filters.ignored input ≡ setting.ignore
+  pub filtered : is_set filters.filtered input ≡ state
+
+-- the filters have been through this history
+pub record StandsFor (filters : Filters) (history : List FilterEvent) : Type 0 where
+  pub raw : filters.raw ≡ raw_levels history
+  pub inputs : (input : ℕ) → input < 64
+      → Keeps filters input (setting input history) (samples input history) (state input history)

@@ -1,0 +1,6 @@
+pub mod Counter
+pub mod Filtering
+pub mod FilterHistory
+pub mod Filters
+pub mod Runs
+pub mod Widening

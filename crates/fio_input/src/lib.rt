@@ -1,0 +1,27 @@
+//! The inputs of a field I/O module: the millisecond counter, the filters of 64 inputs, and the
+//! 32-bit times of their transitions.
+//!
+//! What the crates above rely on: `Filters::scan` reports exactly the inputs whose sample
+//! histories say so, `Counter::now` is what ticks, asked loads and line syncs make it, and `widen`
+//! gives the one recent time with the given low bits.
+//!
+//! The definitions are over whole histories, lists with the newest event first: `specs/Counter`
+//! has the counter, `specs/FilterHistory` what a history of configurations and scans makes of each
+//! input, `specs/Filtering` the filtered state of one input from its samples, and `specs/Widening`
+//! the times. A value *stands for* a history: `new` begins with the empty one, each call carries
+//! it on by its own event, and each answer is promised for every history that the value stands for.
+//!
+//! Nothing here takes memory.
+#![tactic(auto)]
+
+mod counter;
+mod filters;
+mod lanes;
+pub mod laws;
+#[cfg(test)]
+mod tests;
+mod widening;
+
+pub use counter::Counter;
+pub use filters::{BadInput, Filters};
+pub use widening::widen;
