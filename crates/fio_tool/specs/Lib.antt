@@ -1,0 +1,3 @@
+pub mod ShowCommands
+pub mod ShowAnswers
+pub mod Show

@@ -1,0 +1,6 @@
+#![tactic(auto)]
+mod answers;
+mod commands;
+mod showing;
+
+pub use showing::show_text;
