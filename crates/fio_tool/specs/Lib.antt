@@ -1,3 +1,5 @@
 pub mod ShowCommands
 pub mod ShowAnswers
 pub mod Show
+pub mod Streams
+pub mod Tools

@@ -1,6 +1,11 @@
 #![tactic(auto)]
 mod answers;
 mod commands;
+mod endings;
 mod showing;
+mod streams;
+mod tools;
 
+pub use endings::{Ending, ToolFault};
 pub use showing::show_text;
+pub use tools::{Tool, show};
