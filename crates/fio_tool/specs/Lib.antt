@@ -3,3 +3,4 @@ pub mod ShowAnswers
 pub mod Show
 pub mod Streams
 pub mod Tools
+pub mod CommandLine

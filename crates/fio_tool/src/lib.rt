@@ -1,11 +1,13 @@
 #![tactic(auto)]
 mod answers;
+mod choosing;
 mod commands;
 mod endings;
 mod showing;
 mod streams;
 mod tools;
 
+pub use choosing::choose;
 pub use endings::{Ending, ToolFault};
 pub use showing::show_text;
 pub use tools::{Tool, show};
