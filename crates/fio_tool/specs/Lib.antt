@@ -4,3 +4,4 @@ pub mod Show
 pub mod Streams
 pub mod Tools
 pub mod CommandLine
+pub mod Running
