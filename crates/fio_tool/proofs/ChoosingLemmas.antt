@@ -9,9 +9,10 @@ use Rattle.clap.specs.declared.parser.matches.ArgMatches.{ArgMatches}
 use Rattle.clap.specs.declared.parser.matches.ArgMatches.TheViews.{out-ArgMatches, out-SubCommand}
 use Rattle.clap.specs.declared.parser.matches.SubCommand.{SubCommand}
 use Rattle.clap.proofs.OnLiterals.{clap_on_literals}
-use Rattle.fio_tool.specs.CommandLine.{command_line, chosen_name}
+use Rattle.fio_tool.specs.CommandLine.{command_line, chosen_name, NamesTool}
 use Rattle.fio_tool.specs.Tools.{name_of, tools}
 use Rattle.fio_tool.specs.declared.tools.Tool.{Tool}
+use Rattle.fio_tool.specs.declared.tools.Tool.TheVariants.{Show}
 
 -- clap's function of the words holds for this command line
 pub command_line-is_simple : is_simple command_line ≡ true
@@ -82,3 +83,8 @@ pub chosen-tool : (words : List Text) (name : Text) (tool : Option Tool) → cho
 chosen-tool words name None chosen known unknown =
     let is_known = chosen-name words name chosen in absurd (unknown is_known.0 is_known.1)
 chosen-tool words name (Some t) chosen known unknown = ap Some known ∙ sym chosen
+
+-- a tool's name behind the program's names that tool
+pub names_tool : (program : Text) (tool : Tool) → NamesTool (program ∷ name_of tool ∷ []) tool
+unfolding clap_on_literals
+names_tool program Show = record { faultless = refl; named = refl }

@@ -3,6 +3,7 @@ mod answers;
 mod choosing;
 mod commands;
 mod endings;
+pub mod laws;
 mod running;
 mod showing;
 mod streams;

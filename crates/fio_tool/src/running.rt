@@ -1,9 +1,9 @@
 //! The program, but for what it is given by `main`.
-ghost use Rattle.std.specs.Prelude.{◌≡◌, ◌≤◌, ◌==◌, ◌≢◌, IfOk, IfErr, map};
-ghost use Rattle.std.specs.Io.KnownBytes.{Keeps};
+ghost use Rattle.std.specs.Prelude.{◌≡◌, ◌≤◌, ◌==◌, map};
 ghost use Rattle.clap.specs.Values.{kind_of};
 ghost use Rattle.fio_tool.specs.CommandLine.{NamesTool};
 ghost use Rattle.fio_tool.specs.Running.{fault_line, status_of};
+ghost use Rattle.fio_tool.specs.Streams.{TakesAtMost};
 ghost use Rattle.fio_tool.specs.Tools.{HasTold, ending_of};
 ghost use Rattle.fio_tool.specs.declared.tools.Tool.{Tool};
 
@@ -34,6 +34,10 @@ pub fn run_program<'a, R: Read, W: Write>(
     writer: &mut W,
 ) -> u8
     ensures known { result ≤ 3 }
+    ensures taken { TakesAtMost 1048577 (R.remaining reader.old) (R.remaining reader.new) }
+    // Where the words name no tool, nothing is read.
+    ensures unread { ((tool : Tool) → NamesTool (map (λ word. word.now) words.entry.now) tool → ⊥)
+        → reader.new ≡ reader.old }
     // Where the words name a tool, a status of 0 or 1 says that the tool has told what it read.
     ensures told { (tool : Tool) → NamesTool (map (λ word. word.now) words.entry.now) tool
         → result ≤ 1
@@ -58,6 +62,7 @@ fn run_tool<R: Read, W: Write>(
     writer: &mut W,
 ) -> u8
     ensures known { result ≤ 3 }
+    ensures taken { TakesAtMost 1048577 (R.remaining reader.old) (R.remaining reader.new) }
     ensures told { result ≤ 1
         → HasTold tool (R.remaining reader.old) (R.remaining reader.new)
             (W.contents writer.old) (W.contents writer.new) (ending_of (result == 0)) }
