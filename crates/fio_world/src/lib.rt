@@ -10,3 +10,6 @@ mod reports;
 pub mod text;
 
 pub use reports::{Report, push_fault};
+
+#[cfg(test)]
+mod tests;
