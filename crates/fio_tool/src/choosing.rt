@@ -17,7 +17,8 @@ const VERSION: &str = "1.0.0";
 const ABOUT: &str =
     "Reads the messages between the CPU and the field I/O module of a Model 2070 controller";
 
-const ABOUT_SHOW: &str = "Tells what the frames on standard input say, a line of hexadecimal digits each";
+const ABOUT_SHOW: &str =
+    "Tells what the frames on standard input say, a line of hexadecimal digits each";
 
 /// The tool that the words of a command line name, the program's name first: `None` where they name no
 /// subcommand.

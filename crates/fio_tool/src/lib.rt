@@ -1,4 +1,5 @@
 #![tactic(auto)]
+
 mod answers;
 mod choosing;
 mod commands;
@@ -14,3 +15,6 @@ pub use endings::{Ending, ToolFault};
 pub use running::run_program;
 pub use showing::show_text;
 pub use tools::{Tool, show};
+
+#[cfg(test)]
+mod tests;

@@ -35,10 +35,7 @@ pub(crate) fn read_input<R: Read>(alloc: Global, reader: &mut R) -> Result<Vec<u
 }
 
 /// Writes the text of a report and nothing else, and says how the tool ends.
-pub(crate) fn write_report<W: Write>(
-    writer: &mut W,
-    report: &Report,
-) -> Result<Ending, ToolFault>
+pub(crate) fn write_report<W: Write>(writer: &mut W, report: &Report) -> Result<Ending, ToolFault>
     ensures ok { OnOk result
         (Appends (W.contents writer.old) (W.contents writer.new) report.now.text.items) }
     ensures ending { IfOk result (λ ending. ending ≡ ending_of report.now.good) }
