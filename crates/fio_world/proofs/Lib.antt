@@ -1,3 +1,6 @@
+pub mod LineLemmas
+pub mod CollectedLemmas
+pub mod DigitLemmas
 pub mod Places
 pub mod RoundNumbers
 pub mod Spelled

@@ -1,3 +1,7 @@
+pub mod Lines
+pub mod Words
+pub mod Hexadecimal
+pub mod Collected
 pub mod Link
 pub mod Frames
 pub mod Pieces
