@@ -15,8 +15,8 @@ use clap::error::ErrorKind;
 use std::alloc::Global;
 use std::io::{Read, Write};
 
-/// Runs the tool that the words of a command line name, the program's name first, and gives the exit
-/// status of the program.
+/// Runs the tool that the words of a command line name, the program's name first, and gives the
+/// exit status of the program.
 ///
 /// | Status | When |
 /// |---|---|
@@ -25,8 +25,8 @@ use std::io::{Read, Write};
 /// | 2 | the words name no subcommand, or have another fault |
 /// | 3 | a read or a write failed, or there was no memory |
 ///
-/// For 3 and for no subcommand the program prints one line, `fio2070: read fault` or the like; for every
-/// other fault of the words it prints `clap`'s text. A failure to print these is passed over.
+/// For 3 and for no subcommand the program prints one line, `fio2070: read fault` or the like; for
+/// every other fault of the words it prints `clap`'s text. A failure to print these is passed over.
 pub fn run_program<'a, R: Read, W: Write>(
     alloc: Global,
     words: &'a [&'a str],

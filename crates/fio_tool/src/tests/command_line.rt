@@ -37,8 +37,8 @@ fn statuses_of_endings(rt: HostRuntime) {
     }
 }
 
-/// Whether the program, given these words and this input, ends with this status and a text that begins
-/// so.
+/// Whether the program, given these words and this input, ends with this status and a text that
+/// begins so.
 fn runs(alloc: Global, words: &[&str], input: &[u8], status: u8, text: &str) -> bool {
     let mut sink = Sink::new(alloc, 1000);
     let ended = run_program(alloc, words, &mut Feed::new(input, 100), &mut sink);
