@@ -1,5 +1,6 @@
 //! The module.
-ghost use Rattle.std.specs.Prelude.{◌≡◌, ◌≤◌, length, false};
+ghost use Rattle.std.specs.Prelude.{◌≡◌, ◌≤◌, length, false, Some, IfSome};
+ghost use Rattle.fio_message.specs.Decoding.{command_in};
 ghost use Rattle.fio_message.specs.Answers.{SpellsAnswer};
 ghost use Rattle.fio_message.specs.Status.{block_status};
 ghost use Rattle.fio_module.specs.Blocks.{is_new};
@@ -138,10 +139,25 @@ impl Module {
         }
     }
 
-    /// Writes the answer to the octets of a frame, if there is one. Each command writes into the one
-    /// frame, since each frame of its own would cost the filling of 773 octets.
-    #[inline(never)]
+    /// Writes the answer to the octets of a frame, if there is one. Polls come far more often than
+    /// other commands, so they are read in place.
     fn answer(&mut self, octets: &[u8], frame: &mut Frame) -> bool
+        ensures stands { (settings : Settings) (history : History) → StandsFor settings self.old history
+            → StandsFor settings self.new (Received octets.now ∷ history) }
+        ensures reply { (settings : Settings) (history : History) → StandsFor settings self.old history
+            → Encodes (reply_to settings history octets.now) (frame_if result frame.new) }
+    {
+        match polled_number(octets) {
+            Some(number) => {
+                self.poll(number, frame);
+                true
+            }
+            None => self.answer_decoded(octets, frame),
+        }
+    }
+
+    #[inline(never)]
+    fn answer_decoded(&mut self, octets: &[u8], frame: &mut Frame) -> bool
         ensures stands { (settings : Settings) (history : History) → StandsFor settings self.old history
             → StandsFor settings self.new (Received octets.now ∷ history) }
         ensures reply { (settings : Settings) (history : History) → StandsFor settings self.old history
@@ -339,6 +355,17 @@ fn other_answer(kind: OtherAnswer, octets: &[u8]) -> Frame
     match Body::try_from(octets) {
         Ok(body) => encode_answer(&Answer::Other { kind, body }),
         Err(_) => unreachable!(),
+    }
+}
+
+/// The number of the poll that these octets spell, if they spell one.
+#[tactic(auto, unfolding(fio_message::specs::Decoding::message_in))]
+fn polled_number(octets: &[u8]) -> Option<u8>
+    ensures { IfSome result (λ number. command_in octets.now ≡ Some (Command.Poll number)) }
+{
+    match octets {
+        [54, number] => Some(*number),
+        _ => None,
     }
 }
 
