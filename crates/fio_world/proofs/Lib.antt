@@ -10,6 +10,8 @@ pub mod AnswerOrder
 pub mod Makers
 pub mod RisingPieces
 pub mod Kept
+pub mod ReceivedRows
+pub mod HeardRows
 pub mod Rows
 pub mod Runs
 pub mod OneLife

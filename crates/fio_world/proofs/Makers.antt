@@ -1,15 +1,31 @@
 -- The polls that made the blocks, and the blocks that answers bring.
-use Rattle.std.proofs.Common.{◌≡◌, ℕ, ◌+◌, ◌<◌, ◌≤◌, false, List, [], ◌∷◌, ◌++◌, length, Option, Some, None, slice_get, refl, ap, sym, subst, ◌∙◌, arith, inl, inr, length-append}
+use Rattle.std.proofs.Common.{◌≡◌, ℕ, ◌+◌, ◌<◌, ◌≤◌, false, List, [], ◌∷◌, ◌++◌, length, Option, Some, None, slice_get, refl, ap, sym, subst, ◌∙◌, arith, inl, inr, length-append, if◌then◌else◌}
 use Rattle.std.proofs.lemmas.Option.{slice_get_within}
 use Rattle.fio_message.specs.Blocks.{Block}
 use Rattle.fio_message.specs.Status.{says_out_of_sequence}
-use Rattle.fio_message.specs.Decoding.{block_in}
-use Rattle.fio_module.specs.Blocks.{MadeBlock}
+use Rattle.fio_message.specs.Decoding.{poll_in, block_in}
+use Rattle.fio_module.specs.Life.{Received, History, life_of}
+use Rattle.fio_module.specs.Blocks.{MadeBlock, latest_poll, is_new}
 use Rattle.fio_world.specs.Link.{Sent, number_of}
 use Rattle.fio_world.specs.Frames.{HasBlock}
 use Rattle.fio_world.specs.Rounds.{Brings}
 use Rattle.fio_world.proofs.Places.{get_before_push, get_push, get_after_push}
 use Rattle.fio_world.proofs.AnswerOrder.{block_after_push, block_before_other}
+
+-- the rounds of the polls that made blocks, after one more poll or none
+abbrev pub makers_after : Option ℕ → Option ℕ → (List ℕ → List ℕ) → List ℕ → List ℕ
+makers_after None latest makers polls = makers polls
+makers_after (Some number) latest makers [] = makers []
+makers_after (Some number) latest makers (round ∷ older) =
+    if is_new latest number then makers older ++ round ∷ [] else makers older
+
+-- the rounds of the polls that made the blocks of all lives, oldest first, where the polls received have these rounds,
+-- newest first
+abbrev pub makers_of : History → List ℕ → List ℕ
+makers_of [] polls = []
+makers_of (Received octets ∷ history) polls =
+    makers_after (poll_in octets) (latest_poll (life_of history)) (makers_of history) polls
+makers_of (other ∷ history) polls = makers_of history polls
 
 -- the rounds of the polls that made the blocks never fall, and are of polls received
 pub record MakersAreInOrder (makers : List ℕ) (next : ℕ) (blocks : List MadeBlock) : Type 0 where

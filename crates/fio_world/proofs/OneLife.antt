@@ -24,6 +24,7 @@ use Rattle.fio_world.specs.Rounds.{next_round, Brings}
 use Rattle.fio_world.proofs.Places.{get_after_push, take_one_more}
 use Rattle.fio_world.proofs.RoundNumbers.{rounds_from_numbers}
 use Rattle.fio_world.proofs.AllLives.{past_log, behind, past_blocks, all_blocks}
+use Rattle.fio_world.proofs.Kept.{after_other, after_poll}
 
 -- a block in the record, with its wide times
 abbrev pub recorded_of : MadeBlock → List Item
@@ -42,9 +43,9 @@ newest_number first (round ∷ older) = Some (number_of first round)
 -- What runs without restarts keep besides, for the blocks of the one life and its latest poll: the newest poll received
 -- made the newest block, each block was made by a poll of its round, the record is what the taken blocks are, and block
 -- answers say which polls were repeated.
-pub record InOneLife (first : ℕ) (blocks : List MadeBlock) (latest : Option ℕ) (machine : Machine) : Type 0 where
+pub record InOneLife (first : ℕ) (blocks : List MadeBlock) (latest : Option ℕ) (makers : List ℕ) (machine : Machine) : Type 0 where
   pub made : next_round machine.polls ≡ length blocks
-  pub own : (k r : ℕ) → slice_get machine.makers k ≡ Some r → r ≡ k
+  pub own : (k r : ℕ) → slice_get makers k ≡ Some r → r ≡ k
   pub polled : latest ≡ newest_number first machine.polls
   pub kept : machine.items ≡ record_of machine.round blocks
   pub again : SaysAgainWhereRepeated machine
@@ -125,14 +126,10 @@ record_of-next blocks m taken answer block found brought kept =
     ∙ sym (flat_map-append recorded_of (take m blocks) (block ∷ []))
     ∙ ap (flat_map recorded_of) (sym (take_one_more blocks m block found))
 
-module _ (first : ℕ) (blocks : List MadeBlock) (latest : Option ℕ) (machine : Machine) (o : InOneLife first blocks latest machine) (index : ℕ) (frame : Sent) where
+module _ (first : ℕ) (blocks : List MadeBlock) (latest : Option ℕ) (makers : List ℕ) (machine : Machine) (o : InOneLife first blocks latest makers machine) (place : ℕ) (frame : Sent) where
   -- a frame that is no poll is received, and what it gets is no block answer
   pub life-other : (reply : Option Answer) → ((answer : Answer) → reply ≡ Some answer → block_in (answer_octets answer) ≡ None)
-      → InOneLife first blocks latest (record machine {
-        last_to_module = index;
-        history = Received frame.octets ∷ machine.history;
-        to_cpu = machine.to_cpu ++ answered reply frame.round;
-      })
+      → InOneLife first blocks latest makers (after_other machine place frame (answered reply frame.round))
   life-other None other =
       record { made = o.made; own = o.own; polled = o.polled; kept = o.kept; again = ap block_answers (append-nil machine.to_cpu) ∙ o.again }
   life-other (Some answer) other =
@@ -160,23 +157,18 @@ module _ (first : ℕ) (blocks : List MadeBlock) (latest : Option ℕ) (machine 
 
   -- a new poll is received
   pub life-new : (number : ℕ) (block : MadeBlock) (octets : List ℕ) (answer : Block) → number ≡ number_of first frame.round
-      → Continues true frame.round machine.polls → length machine.makers ≡ length blocks → machine.round ≤ length blocks
+      → Continues true frame.round machine.polls → length makers ≡ length blocks → machine.round ≤ length blocks
       → block_in octets ≡ Some answer → says_again answer.status ≡ false
-      → InOneLife first (blocks ++ block ∷ []) (Some number) (record machine {
-        last_to_module = index;
-        history = Received frame.octets ∷ machine.history;
-        to_cpu = machine.to_cpu ++ record { octets = octets; round = frame.round } ∷ [];
-        polls = frame.round ∷ machine.polls;
-        makers = machine.makers ++ frame.round ∷ [];
-      })
+      → InOneLife first (blocks ++ block ∷ []) (Some number) (makers ++ frame.round ∷ [])
+      (after_poll machine place frame (record { octets = octets; round = frame.round } ∷ []))
   life-new number block octets answer numbered met count upto reads says =
       let made : next_round machine.polls ≡ length blocks = o.made in
       let next : frame.round ≡ next_round machine.polls = met.0 in
       record {
         made = omega (arith, length-append blocks (block ∷ []));
-        own = λ k r is. elim (get_after_push machine.makers frame.round k r is) as (λ _. r ≡ k) [
+        own = λ k r is. elim (get_after_push makers frame.round k r is) as (λ _. r ≡ k) [
           | inl old ↦ o.own k r old
-          | inr new ↦ let at : k ≡ length machine.makers = new.0 in let this : r ≡ frame.round = new.1 in omega arith
+          | inr new ↦ let at : k ≡ length makers = new.0 in let this : r ≡ frame.round = new.1 in omega arith
         ];
         polled = ap Some numbered;
         kept = o.kept ∙ ap (flat_map recorded_of) (sym (take-append-le machine.round blocks (block ∷ []) upto));
@@ -186,13 +178,8 @@ module _ (first : ℕ) (blocks : List MadeBlock) (latest : Option ℕ) (machine 
   -- the newest poll is received again
   pub life-repeated : (number : ℕ) (octets : List ℕ) (answer : Block) → number ≡ number_of first frame.round
       → Continues false frame.round machine.polls → block_in octets ≡ Some answer → says_again answer.status ≡ true
-      → InOneLife first blocks (Some number) (record machine {
-        last_to_module = index;
-        history = Received frame.octets ∷ machine.history;
-        to_cpu = machine.to_cpu ++ record { octets = octets; round = frame.round } ∷ [];
-        polls = frame.round ∷ machine.polls;
-        makers = machine.makers;
-      })
+      → InOneLife first blocks (Some number) makers
+      (after_poll machine place frame (record { octets = octets; round = frame.round } ∷ []))
   life-repeated number octets answer numbered met reads says =
       record {
         made = met.0 ∙ o.made;

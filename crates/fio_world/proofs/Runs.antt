@@ -16,7 +16,8 @@ use Rattle.fio_world.specs.Sound.{LeadToOneMachine}
 use Rattle.fio_world.proofs.MadeBlocks.{each-append}
 use Rattle.fio_world.proofs.RisingPieces.{rises_as_promised}
 use Rattle.fio_world.proofs.Kept.{HasInvariant}
-use Rattle.fio_world.proofs.Rows.{deliverable, frame_at_place, same_round, keeps-start, keeps}
+use Rattle.fio_world.proofs.HeardRows.{same_round}
+use Rattle.fio_world.proofs.Rows.{deliverable, frame_at_place, keeps-start, keeps}
 
 keeps_all : (settings : Settings) → AreInRange settings → (first : ℕ) (events : List Event) (machine last : Machine)
     → Leads settings first machine events last → HasInvariant settings first machine → HasInvariant settings first last

@@ -20,11 +20,12 @@ pub record HasBlock (frames : List Sent) (place : ℕ) (block : Block) (round : 
   pub spells : block_in frame.octets ≡ Some block
   pub of_round : frame.round ≡ round
 
--- the numbers of the polls that a module has received, in all its lives, newest first
+-- the numbers of polls, with that of a frame which is a poll, newest first
 abbrev pub number_with : Option ℕ → List ℕ → List ℕ
 number_with None numbers = numbers
 number_with (Some number) numbers = number ∷ numbers
 
+-- the numbers of the polls that a module has received, in all its lives, newest first
 abbrev pub received_numbers : History → List ℕ
 received_numbers [] = []
 received_numbers (Received octets ∷ history) = number_with (poll_in octets) (received_numbers history)
@@ -41,11 +42,12 @@ abbrev pub repeats : List ℕ → List (ℕ × Bool)
 repeats [] = []
 repeats (round ∷ older) = repeats older ++ (round, is_repeated round older) ∷ []
 
--- the rounds of the block answers among frames, in order, each with whether it says that the number was asked for again
+-- rounds of block answers behind that of a frame which is a block answer
 abbrev pub answer_before : Option Block → ℕ → List (ℕ × Bool) → List (ℕ × Bool)
 answer_before None round answers = answers
 answer_before (Some block) round answers = (round, says_again block.status) ∷ answers
 
+-- the rounds of the block answers among frames, in order, each with whether it says that its number was asked for again
 abbrev pub block_answers : List Sent → List (ℕ × Bool)
 block_answers [] = []
 block_answers (frame ∷ frames) = answer_before (block_in frame.octets) frame.round (block_answers frames)

@@ -8,9 +8,8 @@ use Rattle.fio_message.specs.Answers.{answer_octets}
 use Rattle.fio_message.specs.Blocks.{Block}
 use Rattle.fio_message.specs.Decoding.{poll_in, block_in}
 use Rattle.fio_module.specs.Settings.{Settings}
-use Rattle.fio_module.specs.Life.{Received, History, life_of}
+use Rattle.fio_module.specs.Life.{Received, History}
 use Rattle.fio_module.specs.Life as module_events
-use Rattle.fio_module.specs.Blocks.{latest_poll, is_new}
 use Rattle.fio_module.specs.Replies.{reply_to}
 use Rattle.fio_cpu.specs.declared.items.Item.{Item}
 use Rattle.fio_cpu.specs.Record.{recorded}
@@ -43,8 +42,6 @@ pub record Machine : Type 0 where
   pub items : List Item
   -- the rounds of the polls that the module has received, newest first
   pub polls : List ℕ
-  -- the rounds of the polls that made its blocks, in all its lives, oldest first
-  pub makers : List ℕ
 
 abbrev pub start : Machine
 start =
@@ -57,7 +54,6 @@ start =
       round = 0;
       items = [];
       polls = [];
-      makers = [];
     }
 
 -- the block number of a round, for a CPU whose first number is this one
@@ -106,11 +102,6 @@ abbrev pub polls_with : Option ℕ → ℕ → List ℕ → List ℕ
 polls_with None round polls = polls
 polls_with (Some number) round polls = round ∷ polls
 
--- the rounds of the polls that made blocks, with that of a frame which is a new poll after the latest one
-abbrev pub makers_with : Option ℕ → Option ℕ → ℕ → List ℕ → List ℕ
-makers_with None latest round makers = makers
-makers_with (Some number) latest round makers = if is_new latest number then makers ++ round ∷ [] else makers
-
 -- the module receives the frame with this number, and its reply, if any, is sent
 abbrev pub received : Settings → Machine → ℕ → Option Sent → Machine
 received settings machine index None = machine
@@ -120,8 +111,6 @@ received settings machine index (Some frame) =
       history = Received frame.octets ∷ machine.history;
       to_cpu = machine.to_cpu ++ answered (reply_to settings machine.history frame.octets) frame.round;
       polls = polls_with (poll_in frame.octets) frame.round machine.polls;
-      makers =
-          makers_with (poll_in frame.octets) (latest_poll (life_of machine.history)) frame.round machine.makers;
     }
 
 -- a block with the CPU's number is taken: it is recorded and its round is over. Any other changes nothing
