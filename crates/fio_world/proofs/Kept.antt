@@ -1,37 +1,26 @@
 -- What every run keeps, whatever restarts.
-use Rattle.std.proofs.Common.{◌≡◌, ◌≢◌, ℕ, ◌+◌, ◌-◌, ◌%◌, ◌<◌, ◌≤◌, ◌==◌, max, min, Bool, true, false, List, [], ◌∷◌, ◌++◌, length, map, Option, Some, None, slice_get, refl, ap, sym, subst, ◌∙◌, arith, inl, inr, length-append, append_assoc, append-nil, if◌then◌else◌}
+use Rattle.std.proofs.Common.{◌≡◌, ◌≢◌, ℕ, ◌+◌, ◌%◌, ◌≤◌, Bool, true, false, List, [], ◌∷◌, ◌++◌, map, Option, Some, None, refl, ap, sym, subst, ◌∙◌, arith, append-nil, if◌then◌else◌}
 use Rattle.std.specs.Prelude.{option_map}
 use Rattle.std.proofs.lemmas.Option.{same_Some}
 use Rattle.std.proofs.lemmas.Bool.Decides.{nat_tests}
-use Rattle.std.proofs.lemmas.List.{map-append}
-use Rattle.fio_message.specs.declared.commands.Command.{Command}
-use Rattle.fio_message.specs.declared.commands.Command.TheVariants as commands
 use Rattle.fio_message.specs.declared.answers.Answer.{Answer}
 use Rattle.fio_message.specs.Answers.{answer_octets}
 use Rattle.fio_message.specs.Blocks.{Block}
-use Rattle.fio_message.specs.Decoding.{command_in, polled_number, poll_in, block_in}
-use Rattle.fio_module.specs.Settings.{Settings, AreInRange}
-use Rattle.fio_module.specs.Life.{Received, History, Life, Commanded, life_of, with_command}
-use Rattle.fio_module.specs.Life as module_events
-use Rattle.fio_module.specs.Log.{Transition, log_of, whole_log, transitions_below}
-use Rattle.fio_module.specs.Blocks.{MadeBlock, latest_poll, is_new, blocks_of, end_of, newest_end, next_block}
-use Rattle.fio_module.specs.Sendings.{Sending, answer_of, is_out_of_sequence, first_sending, sent_again, latest_sending}
-use Rattle.fio_module.specs.Replies.{answer_to, answer_if, reply_to}
-use Rattle.fio_module.proofs.Ends.{last_end-append}
-use Rattle.fio_module.proofs.BlockLaws.{blocks_end_within}
-use Rattle.fio_world.specs.Link.{Sent, Machine, number_of, answered, polls_with, received}
-use Rattle.fio_world.specs.Frames.{HasPoll, number_with, received_numbers}
-use Rattle.fio_world.specs.Rounds.{next_round, PollsAreInOrder, PollsOf, BlockAnswersOf}
-use Rattle.fio_world.proofs.Places.{get_push}
-use Rattle.fio_world.proofs.RoundNumbers.{number_of-fits, number_of-next, rounds_from_numbers}
-use Rattle.fio_world.proofs.Spelled.{said}
-use Rattle.fio_world.proofs.MadeBlocks.{next_fits}
-use Rattle.fio_world.proofs.AllLives.{past_log, behind, joined, past_blocks, all_blocks, reached}
-use Rattle.fio_world.proofs.Received.{no_block_reply, same_number, first_carries, again_carries, carried_back, carried_brings, said_out_of_sequence, latest_sent, newest_fits}
+use Rattle.fio_message.specs.Decoding.{block_in}
+use Rattle.fio_module.specs.Settings.{Settings}
+use Rattle.fio_module.specs.Life.{Received, Life, life_of}
+use Rattle.fio_module.specs.Log.{Transition, whole_log}
+use Rattle.fio_module.specs.Blocks.{MadeBlock, latest_poll, is_new, blocks_of, next_block}
+use Rattle.fio_module.specs.Sendings.{Sending, is_out_of_sequence, first_sending, sent_again, latest_sending}
+use Rattle.fio_world.specs.Link.{Sent, Machine, number_of, answered}
+use Rattle.fio_world.specs.Frames.{HasPoll, received_numbers}
+use Rattle.fio_world.specs.Rounds.{next_round, PollsOf, BlockAnswersOf}
+use Rattle.fio_world.proofs.RoundNumbers.{number_of-next, rounds_from_numbers}
+use Rattle.fio_world.proofs.AllLives.{all_blocks, reached}
 use Rattle.fio_world.proofs.PollOrder.{polls-passed, polls-received}
 use Rattle.fio_world.proofs.AnswerOrder.{answers-other, answers-more}
-use Rattle.fio_world.proofs.Makers.{makers_of, MakersAreInOrder, NewestIsMaker, BringsMadeOf, AnswersBringMade, makers-repeated, makers-new, bring-other, bring-more, bring-new}
-use Rattle.fio_world.proofs.RisingPieces.{RecordRises, rises-new}
+use Rattle.fio_world.proofs.Makers.{makers_of, MakersAreInOrder, NewestIsMaker, BringsMadeOf, AnswersBringMade, bring-other, bring-more}
+use Rattle.fio_world.proofs.RisingPieces.{RecordRises}
 
 -- What every run keeps of a machine, for the joined log of its module, its blocks, the place from which the next may
 -- take, the latest poll of its present life, the numbers of all polls received, and the rounds of those that made the blocks.

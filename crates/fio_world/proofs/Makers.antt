@@ -1,5 +1,5 @@
 -- The polls that made the blocks, and the blocks that answers bring.
-use Rattle.std.proofs.Common.{◌≡◌, ℕ, ◌+◌, ◌<◌, ◌≤◌, false, List, [], ◌∷◌, ◌++◌, length, Option, Some, None, slice_get, refl, ap, sym, subst, ◌∙◌, arith, inl, inr, length-append, if◌then◌else◌}
+use Rattle.std.proofs.Common.{◌≡◌, ℕ, ◌+◌, ◌<◌, ◌≤◌, false, List, [], ◌∷◌, ◌++◌, length, Option, Some, None, slice_get, subst, arith, inl, inr, length-append, if◌then◌else◌}
 use Rattle.std.proofs.lemmas.Option.{slice_get_within}
 use Rattle.fio_message.specs.Blocks.{Block}
 use Rattle.fio_message.specs.Status.{says_out_of_sequence}
@@ -9,7 +9,7 @@ use Rattle.fio_module.specs.Blocks.{MadeBlock, latest_poll, is_new}
 use Rattle.fio_world.specs.Link.{Sent, number_of}
 use Rattle.fio_world.specs.Frames.{HasBlock}
 use Rattle.fio_world.specs.Rounds.{Brings}
-use Rattle.fio_world.proofs.Places.{get_before_push, get_push, get_after_push}
+use Rattle.fio_world.proofs.Places.{get_before_push, get_after_push}
 use Rattle.fio_world.proofs.AnswerOrder.{block_after_push, block_before_other}
 
 -- the rounds of the polls that made blocks, after one more poll or none

@@ -1,6 +1,5 @@
 -- What runs without restarts keep besides.
-use Rattle.std.proofs.Common.{◌≡◌, ◌≢◌, ℕ, zero, suc, ◌+◌, ◌<◌, ◌≤◌, ◌==◌, Bool, true, false, List, [], ◌∷◌, ◌++◌, length, take, map, Option, Some, None, slice_get, refl, ap, sym, subst, ◌∙◌, arith, inl, inr, length-append, append-nil, if◌then◌else◌}
-use Rattle.std.specs.Prelude.{option_map}
+use Rattle.std.proofs.Common.{◌≡◌, ◌≢◌, ℕ, ◌+◌, ◌≤◌, Bool, true, false, List, [], ◌∷◌, ◌++◌, length, take, map, Option, Some, None, slice_get, refl, ap, sym, ◌∙◌, arith, inl, inr, length-append, append-nil, if◌then◌else◌}
 use Rattle.std.specs.List.{flat_map}
 use Rattle.std.proofs.lemmas.Grind.{flat_map-append}
 use Rattle.std.proofs.lemmas.List.{take-append-le}
@@ -8,12 +7,12 @@ use Rattle.std.proofs.lemmas.Bool.Decides.{nat_tests}
 use Rattle.fio_message.specs.declared.answers.Answer.{Answer}
 use Rattle.fio_message.specs.Answers.{answer_octets}
 use Rattle.fio_message.specs.Blocks.{Block}
-use Rattle.fio_message.specs.Status.{says_lost, says_again}
+use Rattle.fio_message.specs.Status.{says_again}
 use Rattle.fio_message.specs.Decoding.{block_in}
 use Rattle.fio_module.specs.Settings.{Settings}
-use Rattle.fio_module.specs.Life.{Received, History, life_of}
+use Rattle.fio_module.specs.Life.{History, life_of}
 use Rattle.fio_module.specs.Log.{Transition, entry_of}
-use Rattle.fio_module.specs.Blocks.{MadeBlock, is_new, blocks_of, latest_poll}
+use Rattle.fio_module.specs.Blocks.{MadeBlock, is_new, blocks_of}
 use Rattle.fio_cpu.specs.declared.items.Item.{Item}
 use Rattle.fio_cpu.specs.declared.items.Item.TheVariants as items
 use Rattle.fio_cpu.specs.Record.{item_of, recorded}
@@ -103,11 +102,11 @@ block_answers-push [] f = refl
 block_answers-push (g ∷ frames) f =
     ap (answer_before (block_in g.octets) g.round) (block_answers-push frames f)
     ∙ before_more (block_in g.octets) g.round (block_answers frames) (answer_before (block_in f.octets) f.round [])
-    where
-      before_more : (found : Option Block) (round : ℕ) (xs ys : List (ℕ × Bool))
-          → answer_before found round (xs ++ ys) ≡ answer_before found round xs ++ ys
-      before_more None round xs ys = refl
-      before_more (Some block) round xs ys = refl
+  where
+    before_more : (found : Option Block) (round : ℕ) (xs ys : List (ℕ × Bool))
+        → answer_before found round (xs ++ ys) ≡ answer_before found round xs ++ ys
+    before_more None round xs ys = refl
+    before_more (Some block) round xs ys = refl
 
 -- an answer that brings a block is recorded as the block is
 pub recorded-brought : (answer : Block) (block : MadeBlock) → Brings answer block → recorded answer ≡ recorded_of block

@@ -1,7 +1,6 @@
 -- Each row of the link machine but a restart keeps what runs without restarts keep.
-use Rattle.std.proofs.Common.{◌≡◌, ℕ, ◌+◌, ◌<◌, ◌≤◌, ◌==◌, Bool, true, false, List, [], ◌∷◌, ◌++◌, length, map, Option, Some, None, slice_get, refl, ap, sym, subst, ◌∙◌, arith, if◌then◌else◌}
+use Rattle.std.proofs.Common.{◌≡◌, ℕ, ◌+◌, ◌≤◌, ◌==◌, Bool, true, false, List, [], ◌∷◌, ◌++◌, length, Option, Some, None, slice_get, refl, ap, sym, subst, ◌∙◌, arith, if◌then◌else◌}
 use Rattle.std.specs.Prelude.{option_map}
-use Rattle.std.specs.List.{AllByRecursion}
 use Rattle.std.proofs.lemmas.Bool.Decides.{nat_tests}
 use Rattle.fio_message.specs.declared.commands.Command.{Command}
 use Rattle.fio_message.specs.declared.commands.Command.TheVariants as commands
@@ -10,8 +9,8 @@ use Rattle.fio_message.specs.Blocks.{Block}
 use Rattle.fio_message.specs.Decoding.{command_in, polled_number, block_in}
 use Rattle.fio_module.specs.Settings.{Settings, AreInRange}
 use Rattle.fio_module.specs.Life.{Received, Life, life_of, with_command}
-use Rattle.fio_module.specs.Blocks.{MadeBlock, latest_poll, is_new, blocks_of, next_block}
-use Rattle.fio_module.specs.Sendings.{Sending, answer_of, first_sending, sent_again, latest_sending}
+use Rattle.fio_module.specs.Blocks.{latest_poll, is_new, blocks_of, next_block}
+use Rattle.fio_module.specs.Sendings.{Sending, answer_of, first_sending, sent_again}
 use Rattle.fio_module.specs.Replies.{answer_if}
 use Rattle.fio_cpu.specs.Record.{recorded}
 use Rattle.fio_world.specs.declared.event.Event.{Event}
@@ -24,19 +23,18 @@ use Rattle.fio_world.specs.Rounds.{next_round, BringsBlockOf}
 use Rattle.fio_world.proofs.RoundNumbers.{number_of-fits}
 use Rattle.fio_world.proofs.Spelled.{said}
 use Rattle.fio_world.proofs.MadeBlocks.{next_fits}
-use Rattle.fio_world.proofs.AllLives.{all_blocks}
 use Rattle.fio_world.proofs.Received.{no_block_reply, same_number, first_carries, again_carries, carried_back, said_again, latest_sent, newest_fits}
 use Rattle.fio_world.proofs.Makers.{makers_of, makers_after}
-use Rattle.fio_world.proofs.Kept.{HasInvariant, after_other, after_poll, blocks_if, sending_if, makers_if}
+use Rattle.fio_world.proofs.Kept.{HasInvariant, after_poll, blocks_if, sending_if, makers_if}
 use Rattle.fio_world.proofs.HeardRows.{same_round}
 use Rattle.fio_world.proofs.Rows.{deliverable, frame_at_place, keeps-start, keeps}
-use Rattle.fio_world.proofs.OneLife.{record_of, newest_number, InOneLife, HasNoPast, all_in_life, Continues, continues, record_of-next, life-other, life-new, life-repeated}
+use Rattle.fio_world.proofs.OneLife.{InOneLife, HasNoPast, all_in_life, Continues, continues, record_of-next, life-other, life-new, life-repeated}
 
 -- what a run without restarts keeps of a machine
 pub record HasOneLife (settings : Settings) (first : ℕ) (machine : Machine) : Type 0 where
   pub no_past : HasNoPast settings machine.history
   pub in_life : InOneLife first (blocks_in settings machine) (latest_poll (life_of machine.history))
-    (makers_of machine.history machine.polls) machine
+      (makers_of machine.history machine.polls) machine
 
 one_life-start : (settings : Settings) (first : ℕ) → HasOneLife settings first start
 one_life-start settings first =

@@ -1,5 +1,5 @@
 -- What a frame that the module receives does to its life and gets as its answer.
-use Rattle.std.proofs.Common.{◌≡◌, ◌≢◌, ℕ, ◌+◌, ◌%◌, ◌^◌, ◌<◌, ◌≤◌, ◌==◌, Bool, true, false, List, [], ◌∷◌, ◌++◌, length, map, Option, Some, None, refl, ap, sym, subst, ◌∙◌, arith, if◌then◌else◌}
+use Rattle.std.proofs.Common.{◌≡◌, ℕ, ◌^◌, ◌<◌, ◌≤◌, false, List, [], ◌∷◌, ◌++◌, length, map, Option, Some, None, refl, ap, sym, subst, ◌∙◌, arith}
 use Rattle.std.specs.Prelude.{option_map}
 use Rattle.std.specs.List.{AllByRecursion}
 use Rattle.std.proofs.lemmas.Bool.Decides.{nat_tests}
@@ -10,15 +10,14 @@ use Rattle.fio_message.specs.declared.commands.Command.TheVariants as commands
 use Rattle.fio_message.specs.declared.answers.Answer.{Answer}
 use Rattle.fio_message.specs.Octets.{IsEntry}
 use Rattle.fio_message.specs.Answers.{answer_octets}
-use Rattle.fio_message.specs.Blocks.{Block}
-use Rattle.fio_message.specs.Status.{says_more, says_lost, says_again, says_out_of_sequence}
-use Rattle.fio_message.specs.Decoding.{command_in, polled_number, poll_in, answered_block, block_in}
+use Rattle.fio_message.specs.Status.{says_again, says_out_of_sequence}
+use Rattle.fio_message.specs.Decoding.{command_in, polled_number, answered_block, block_in}
 use Rattle.fio_message.proofs.MessageLaws.{status_back}
-use Rattle.fio_module.specs.Settings.{Settings, AreInRange}
+use Rattle.fio_module.specs.Settings.{Settings}
 use Rattle.fio_module.specs.Life.{Received, Restart, History, Life, life_of, with_command}
 use Rattle.fio_module.specs.Log.{entry_of}
 use Rattle.fio_module.specs.Blocks.{MadeBlock, latest_poll, is_new, blocks_of, next_block}
-use Rattle.fio_module.specs.Sendings.{Sending, answer_of, is_out_of_sequence, first_sending, sent_again, latest_sending}
+use Rattle.fio_module.specs.Sendings.{Sending, answer_of, first_sending, sent_again, latest_sending}
 use Rattle.fio_module.specs.Replies.{answer_to, answer_if}
 use Rattle.fio_module.specs.Laws.{Carries}
 use Rattle.fio_module.proofs.SendingLaws.{sendings_carry, sendings_answer_polls}

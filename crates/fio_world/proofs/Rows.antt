@@ -1,44 +1,32 @@
 -- Each row of the link machine keeps what every run keeps.
-use Rattle.std.proofs.Common.{◌≡◌, ℕ, zero, suc, ◌+◌, ◌-◌, ◌%◌, ◌^◌, ◌<◌, ◌≤◌, ◌==◌, ◌||◌, max, min, Bool, true, false, List, [], ◌∷◌, ◌++◌, length, map, Option, Some, None, slice_get, refl, ap, sym, subst, ◌∙◌, arith, inl, inr, length-append, append_assoc, append-nil, if◌then◌else◌}
-use Rattle.std.specs.Prelude.{option_map, nat_lt}
-use Rattle.std.proofs.lemmas.Bool.{cases_lt}
+use Rattle.std.proofs.Common.{◌≡◌, ℕ, suc, ◌+◌, ◌-◌, ◌^◌, ◌<◌, ◌≤◌, List, ◌++◌, length, Some, None, slice_get, refl, ap, sym, subst, ◌∙◌, arith, length-append, append-nil}
 use Rattle.std.proofs.lemmas.Bool.Decides.{nat_tests}
 use Rattle.std.proofs.lemmas.Option.{same_Some}
-use Rattle.std.proofs.lemmas.List.{map-append}
 use Rattle.fio_message.specs.declared.commands.Command.{Command}
 use Rattle.fio_message.specs.declared.commands.Command.TheVariants as commands
-use Rattle.fio_message.specs.Answers.{answer_octets}
 use Rattle.fio_message.specs.Commands.{command_octets}
-use Rattle.fio_message.specs.Blocks.{Block}
-use Rattle.fio_message.specs.Decoding.{command_in, polled_number, poll_in, block_in}
+use Rattle.fio_message.specs.Decoding.{poll_in}
 use Rattle.fio_message.proofs.MessageLaws.{poll_back}
 use Rattle.fio_module.specs.Settings.{Settings, AreInRange}
 use Rattle.fio_module.specs.Life.{Received, Restart, History, Life, life_of, with_command}
 use Rattle.fio_module.specs.Life as module_events
-use Rattle.fio_module.specs.Log.{Transition, log_of, whole_log, transitions_below}
-use Rattle.fio_module.specs.Blocks.{MadeBlock, latest_poll, is_new, blocks_of, end_of, newest_end, next_block}
-use Rattle.fio_module.specs.Sendings.{Sending, answer_of, is_out_of_sequence, first_sending, sent_again, latest_sending}
-use Rattle.fio_module.specs.Replies.{answer_if}
-use Rattle.fio_module.proofs.Ends.{last_end-append}
+use Rattle.fio_module.specs.Log.{log_of, whole_log, transitions_below}
+use Rattle.fio_module.specs.Blocks.{newest_end}
 use Rattle.fio_module.proofs.BlockLaws.{blocks_end_within}
-use Rattle.fio_cpu.specs.Record.{recorded}
 use Rattle.fio_world.specs.declared.event.Event.{Event}
 use Rattle.fio_world.specs.declared.event.Event.TheVariants as events
-use Rattle.fio_world.specs.Link.{Sent, Machine, start, number_of, frame_numbered, delivery_refusal, refusal, sending_refusal, happened, sent, answered, polls_with, received, with_block, heard, after, Leads, IsRun}
-use Rattle.fio_world.specs.Frames.{HasPoll, HasBlock, number_with, received_numbers}
+use Rattle.fio_world.specs.Link.{Sent, Machine, start, number_of, frame_numbered, delivery_refusal, refusal, happened, sent, received, heard, after}
+use Rattle.fio_world.specs.Frames.{received_numbers}
 use Rattle.fio_world.specs.Rounds.{next_round}
-use Rattle.fio_world.proofs.Places.{get_push, some_block}
-use Rattle.fio_world.proofs.RoundNumbers.{number_of-fits, rounds_from_numbers}
-use Rattle.fio_world.proofs.Spelled.{no_poll_in, said}
-use Rattle.fio_world.proofs.MadeBlocks.{each-at, next_fits}
-use Rattle.fio_world.proofs.AllLives.{past_log, behind, joined, past_blocks, all_blocks, reached, whole_log-split, blocks_apart, apart_within, apart_order, StandsIn, blocks_stand}
-use Rattle.fio_world.proofs.Received.{no_block_reply, same_number, latest_number, first_carries, again_carries, carried_back, carried_brings, said_out_of_sequence, latest_sent, newest_fits}
-use Rattle.fio_world.proofs.PollOrder.{polls-none, polls-sent, polls-taken}
-use Rattle.fio_world.proofs.AnswerOrder.{answers-none, answers-passed, answers-taken}
-use Rattle.fio_world.proofs.Makers.{makers_of, makers_after, makers-repeated, makers-new, bring-new}
-use Rattle.fio_world.proofs.RisingPieces.{RecordRises, rises-longer, rises-further, rises-new, rise_taken}
-use Rattle.fio_world.proofs.Kept.{Invariant, HasInvariant, Meets, meets, after_other, after_poll, blocks_if, sending_if, makers_if, keeps_other, keeps_poll}
-
+use Rattle.fio_world.proofs.Places.{some_block}
+use Rattle.fio_world.proofs.RoundNumbers.{number_of-fits}
+use Rattle.fio_world.proofs.Spelled.{no_poll_in}
+use Rattle.fio_world.proofs.AllLives.{past_log, all_blocks, reached, whole_log-split}
+use Rattle.fio_world.proofs.PollOrder.{polls-none, polls-sent}
+use Rattle.fio_world.proofs.AnswerOrder.{answers-none}
+use Rattle.fio_world.proofs.Makers.{makers_of}
+use Rattle.fio_world.proofs.RisingPieces.{rises-longer, rises-further}
+use Rattle.fio_world.proofs.Kept.{Invariant, HasInvariant}
 use Rattle.fio_world.proofs.ReceivedRows.{keeps_received}
 use Rattle.fio_world.proofs.HeardRows.{keeps_heard}
 

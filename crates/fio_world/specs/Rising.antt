@@ -1,5 +1,5 @@
 -- The rising record, through any number of restarts.
-use Rattle.std.specs.Prelude.{◌≡◌, ℕ, List, [], ◌∷◌, map, slice_get, Option, Some}
+use Rattle.std.specs.Prelude.{◌≡◌, ℕ, List, [], ◌∷◌, map, slice_get, Some}
 use Rattle.std.specs.List.Sorted.{IsStrictlyIncreasing}
 use Rattle.fio_message.specs.declared.fields.Entry.{Entry}
 use Rattle.fio_module.specs.Log.{Transition, entry_of, whole_log}
