@@ -30,7 +30,7 @@ module _ (settings : Settings) (range : AreInRange settings) (first : ℕ) (mach
         newest = i.newest;
         makers_in_order = i.makers_in_order;
         maker = i.maker;
-        bring = i.bring;
+        carry = i.carry;
         rising = i.rising;
       }
 
@@ -38,7 +38,7 @@ module _ (settings : Settings) (range : AreInRange settings) (first : ℕ) (mach
   pub same_round : (place : ℕ) (answer : Block) (round : ℕ) → machine.last_to_cpu ≤ place + 1 → HasBlock machine.to_cpu place answer round
       → answer.number ≡ number_of first machine.round → round ≡ machine.round
   same_round place answer round le block alike =
-      let named : answer.number ≡ number_of first round = (i.bring place answer round block).number in
+      let named : answer.number ≡ number_of first round = (i.carry place answer round block).number in
       let below : round < next_round machine.polls = i.answers.answered place answer round block in
       let near : machine.round ≤ round + 1 = i.answers.ahead place answer round le block in
       let high : next_round machine.polls ≤ machine.round + 1 = i.at_most in
@@ -51,7 +51,7 @@ module _ (settings : Settings) (range : AreInRange settings) (first : ℕ) (mach
       let h = machine.history in
       let all = all_blocks settings h in
       let log = whole_log h in
-      let b = i.bring place answer machine.round block in
+      let b = i.carry place answer machine.round block in
       let s = i.rising in
       let apart = blocks_apart settings h in
       let within = apart_within 0 (reached settings h) all b.place b.block apart b.is_made in
@@ -66,10 +66,10 @@ module _ (settings : Settings) (range : AreInRange settings) (first : ℕ) (mach
         newest = i.newest;
         makers_in_order = i.makers_in_order;
         maker = i.maker;
-        bring = i.bring;
+        carry = i.carry;
         rising = record {
           to = b.block.end;
-          rises = rise_taken log s.to machine.items answer b.block s.rises low stands b.brought;
+          rises = rise_taken log s.to machine.items answer b.block s.rises low stands b.carried;
           limited = within.2;
           ahead = λ k c r p q far.
               let later : b.place < k = elim (cases_lt b.place k) as (λ _. b.place < k) [

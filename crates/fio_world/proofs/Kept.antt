@@ -19,7 +19,7 @@ use Rattle.fio_world.proofs.RoundNumbers.{number_of-next, rounds_from_numbers}
 use Rattle.fio_world.proofs.AllLives.{all_blocks, reached}
 use Rattle.fio_world.proofs.PollOrder.{polls-passed, polls-received}
 use Rattle.fio_world.proofs.AnswerOrder.{answers-other, answers-more}
-use Rattle.fio_world.proofs.Makers.{makers_of, MakersAreInOrder, NewestIsMaker, BringsMadeOf, AnswersBringMade, bring-other, bring-more}
+use Rattle.fio_world.proofs.Makers.{makers_of, MakersAreInOrder, NewestIsMaker, CarriesMadeOf, AnswersCarryMade, carry-other, carry-more}
 use Rattle.fio_world.proofs.RisingPieces.{RecordRises}
 
 -- What every run keeps of a machine, for the joined log of its module, its blocks, the place from which the next may
@@ -32,7 +32,7 @@ pub record Invariant (first : ℕ) (log : List Transition) (blocks : List MadeBl
   pub newest : (n : ℕ) → latest ≡ Some n → (older : List ℕ) × (numbers ≡ n ∷ older)
   pub makers_in_order : MakersAreInOrder makers (next_round machine.polls) blocks
   pub maker : (n : ℕ) → latest ≡ Some n → NewestIsMaker makers (next_round machine.polls)
-  pub bring : AnswersBringMade first blocks makers machine.to_cpu
+  pub carry : AnswersCarryMade first blocks makers machine.to_cpu
   pub rising : RecordRises log blocks makers limit machine.round machine.items
 
 abbrev pub HasInvariant : Settings → ℕ → Machine → Type 0
@@ -126,7 +126,7 @@ module _ (first : ℕ) (log : List Transition) (blocks : List MadeBlock) (limit 
         newest = i.newest;
         makers_in_order = i.makers_in_order;
         maker = i.maker;
-        bring = i.bring;
+        carry = i.carry;
         rising = i.rising;
       })
   keeps_other (Some answer) other =
@@ -140,7 +140,7 @@ module _ (first : ℕ) (log : List Transition) (blocks : List MadeBlock) (limit 
         newest = i.newest;
         makers_in_order = i.makers_in_order;
         maker = i.maker;
-        bring = bring-other first blocks makers machine.to_cpu f none i.bring;
+        carry = carry-other first blocks makers machine.to_cpu f none i.carry;
         rising = i.rising;
       }
 
@@ -148,11 +148,11 @@ module _ (first : ℕ) (log : List Transition) (blocks : List MadeBlock) (limit 
   pub keeps_poll : (number limit' : ℕ) (blocks' : List MadeBlock) (makers' : List ℕ) (answer : Block) (octets : List ℕ)
       → HasPoll machine.to_module place number frame.round → block_in octets ≡ Some answer
       → MakersAreInOrder makers' (frame.round + 1) blocks' → NewestIsMaker makers' (frame.round + 1)
-      → AnswersBringMade first blocks' makers' machine.to_cpu → BringsMadeOf first blocks' makers' answer frame.round
+      → AnswersCarryMade first blocks' makers' machine.to_cpu → CarriesMadeOf first blocks' makers' answer frame.round
       → RecordRises log blocks' makers' limit' machine.round machine.items
       → Invariant first log blocks' limit' (Some number) (number ∷ numbers) makers'
       (after_poll machine place frame (record { octets = octets; round = frame.round } ∷ []))
-  keeps_poll number limit' blocks' makers' answer octets poll reads in_order' maker bring brings rises =
+  keeps_poll number limit' blocks' makers' answer octets poll reads in_order' maker carry carries rises =
       let f : Sent = record { octets = octets; round = frame.round } in
       let next = next_round machine.polls in
       let high : next ≤ frame.round + 1 = i.polls.ahead place number frame.round in_order poll in
@@ -165,6 +165,6 @@ module _ (first : ℕ) (log : List Transition) (blocks : List MadeBlock) (limit 
         newest = λ n is. (numbers, ap (λ (k : ℕ). k ∷ numbers) (same_Some _ _ is));
         makers_in_order = in_order';
         maker = λ n is. maker;
-        bring = bring-more first blocks' makers' machine.to_cpu f answer reads brings bring;
+        carry = carry-more first blocks' makers' machine.to_cpu f answer reads carries carry;
         rising = rises;
       }

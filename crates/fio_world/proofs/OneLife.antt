@@ -19,7 +19,7 @@ use Rattle.fio_cpu.specs.Record.{item_of, recorded}
 use Rattle.fio_world.specs.Link.{Sent, Machine, number_of, answered}
 use Rattle.fio_world.specs.Frames.{is_repeated, repeats, answer_before, block_answers}
 use Rattle.fio_world.specs.Claims.{SaysAgainWhereRepeated}
-use Rattle.fio_world.specs.Rounds.{next_round, Brings}
+use Rattle.fio_world.specs.Rounds.{next_round, CarriesBlock}
 use Rattle.fio_world.proofs.Places.{get_after_push, take_one_more}
 use Rattle.fio_world.proofs.RoundNumbers.{rounds_from_numbers}
 use Rattle.fio_world.proofs.AllLives.{past_log, behind, past_blocks, all_blocks}
@@ -108,20 +108,20 @@ block_answers-push (g ∷ frames) f =
     before_more None round xs ys = refl
     before_more (Some block) round xs ys = refl
 
--- an answer that brings a block is recorded as the block is
-pub recorded-brought : (answer : Block) (block : MadeBlock) → Brings answer block → recorded answer ≡ recorded_of block
-recorded-brought answer block b =
+-- an answer that carries a block is recorded as the block is
+pub recorded-carried : (answer : Block) (block : MadeBlock) → CarriesBlock answer block → recorded answer ≡ recorded_of block
+recorded-carried answer block b =
     ap (λ lost. (if lost then items.Gap ∷ [] else []) ++ map (item_of answer.stamp) answer.entries) b.lost
     ∙ ap (λ entries. (if block.lost then items.Gap ∷ [] else []) ++ map (item_of answer.stamp) entries) b.entries
     ∙ ap (λ stamp. (if block.lost then items.Gap ∷ [] else []) ++ map (item_of stamp) (map entry_of block.transitions)) b.stamp
 
 -- the record with one more block
 pub record_of-next : (blocks : List MadeBlock) (m : ℕ) (taken : List Item) (answer : Block) (block : MadeBlock)
-    → slice_get blocks m ≡ Some block → Brings answer block → taken ≡ record_of m blocks
+    → slice_get blocks m ≡ Some block → CarriesBlock answer block → taken ≡ record_of m blocks
     → taken ++ recorded answer ≡ record_of (m + 1) blocks
-record_of-next blocks m taken answer block found brought kept =
+record_of-next blocks m taken answer block found carries kept =
     ap (λ xs. xs ++ recorded answer) kept
-    ∙ ap (λ xs. record_of m blocks ++ xs) (recorded-brought answer block brought ∙ sym (append-nil (recorded_of block)))
+    ∙ ap (λ xs. record_of m blocks ++ xs) (recorded-carried answer block carries ∙ sym (append-nil (recorded_of block)))
     ∙ sym (flat_map-append recorded_of (take m blocks) (block ∷ []))
     ∙ ap (flat_map recorded_of) (sym (take_one_more blocks m block found))
 

@@ -19,7 +19,7 @@ use Rattle.fio_world.specs.Link.{Sent, Machine, start, number_of, frame_numbered
 use Rattle.fio_world.specs.Frames.{HasPoll, HasBlock}
 use Rattle.fio_world.specs.Headline.{IsNotRestart, HaveNoRestart}
 use Rattle.fio_world.specs.Claims.{blocks_in}
-use Rattle.fio_world.specs.Rounds.{next_round, BringsBlockOf}
+use Rattle.fio_world.specs.Rounds.{next_round, CarriesBlockOf}
 use Rattle.fio_world.proofs.RoundNumbers.{number_of-fits}
 use Rattle.fio_world.proofs.Spelled.{said}
 use Rattle.fio_world.proofs.MadeBlocks.{next_fits}
@@ -50,11 +50,11 @@ module _ (settings : Settings) (range : AreInRange settings) (first : ℕ) (mach
   abbrev makers : List ℕ
   makers = makers_of machine.history machine.polls
 
-  -- each block answer brings the block of its round
-  pub brings_own : (place : ℕ) (answer : Block) (round : ℕ) → HasBlock machine.to_cpu place answer round
-      → BringsBlockOf first (blocks_in settings machine) answer round
-  brings_own place answer round has =
-      let b = i.bring place answer round has in
+  -- each block answer carries the block of its round
+  pub carries_own : (place : ℕ) (answer : Block) (round : ℕ) → HasBlock machine.to_cpu place answer round
+      → CarriesBlockOf first (blocks_in settings machine) answer round
+  carries_own place answer round has =
+      let b = i.carry place answer round has in
       let same : round ≡ b.place = o.in_life.own b.place round b.made_by in
       let all = all_in_life settings machine.history o.no_past in
       record {
@@ -62,7 +62,7 @@ module _ (settings : Settings) (range : AreInRange settings) (first : ℕ) (mach
         in_sequence = b.in_sequence;
         block = b.block;
         is_made = ap (slice_get (blocks_in settings machine)) same ∙ ap (λ blocks. slice_get blocks b.place) (sym all) ∙ b.is_made;
-        brought = b.brought;
+        carried = b.carried;
       }
 
   -- a poll is received, new or not
@@ -143,7 +143,7 @@ module _ (settings : Settings) (range : AreInRange settings) (first : ℕ) (mach
   taken_or_not place answer round le block true is =
       let alike : answer.number ≡ number_of first machine.round = grind (arith, nat_tests) in
       let same : round ≡ machine.round = same_round settings range first machine i place answer round le block alike in
-      let b = brings_own place answer round block in
+      let b = carries_own place answer round block in
       let l = o.in_life in
       let found : slice_get (blocks_in settings machine) machine.round ≡ Some b.block = ap (slice_get (blocks_in settings machine)) (sym same) ∙ b.is_made in
       record {
@@ -152,7 +152,7 @@ module _ (settings : Settings) (range : AreInRange settings) (first : ℕ) (mach
           made = l.made;
           own = l.own;
           polled = l.polled;
-          kept = record_of-next (blocks_in settings machine) machine.round machine.items answer b.block found b.brought l.kept;
+          kept = record_of-next (blocks_in settings machine) machine.round machine.items answer b.block found b.carried l.kept;
           again = l.again;
         };
       }

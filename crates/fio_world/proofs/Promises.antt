@@ -14,14 +14,14 @@ use Rattle.fio_world.specs.Link.{Machine}
 use Rattle.fio_world.specs.Pieces.{Gap, Got, piece_of, pieces_of, taken, ArePieces}
 use Rattle.fio_world.specs.Headline.{RecordIsLog, Headline}
 use Rattle.fio_world.specs.Claims.{blocks_in, StandsAtTaken, RestIsTold, HasTimes, IsTimed, sources_of}
-use Rattle.fio_world.specs.Rounds.{next_round, PollsOf, NewestPollIsOf, NewestPollMadeNewestBlock, BlockAnswersOf, AnswersBringBlocks}
+use Rattle.fio_world.specs.Rounds.{next_round, PollsOf, NewestPollIsOf, NewestPollMadeNewestBlock, BlockAnswersOf, AnswersCarryBlocks}
 use Rattle.fio_world.specs.Rising.{IsRising}
 use Rattle.fio_world.specs.Sound.{IsSound, IsSoundRun, HoldsOfRuns, HoldsWithoutRestart}
 use Rattle.fio_world.proofs.MadeBlocks.{each-take}
 use Rattle.fio_world.proofs.PieceLaws.{taken_are_pieces, pieces_begin_log}
 use Rattle.fio_world.proofs.Runs.{invariant, rising, in_sequence, takes}
 use Rattle.fio_world.proofs.OneLife.{recorded_of}
-use Rattle.fio_world.proofs.OneLifeRows.{IsKept, kept, brings_own}
+use Rattle.fio_world.proofs.OneLifeRows.{IsKept, kept, carries_own}
 use Rattle.fio_world.proofs.Times.{BlockTimely, blocks_timely, blocks_timed}
 
 -- what a block is in the record, without times
@@ -62,8 +62,8 @@ rest_is_told settings life =
           (taken_are_pieces settings life (length blocks) (omega arith));
       pushed_out = omega arith;
       only_when_full = λ pushed. omega (arith, waiting);
-      waiting = omega (arith, waiting);
-      few = omega (arith, waiting);
+      rest_waits = omega (arith, waiting);
+      few_wait = omega (arith, waiting);
     }
 
 module _ (settings : Settings) (range : AreInRange settings) (first : ℕ) (machine : Machine) (k : IsKept settings first machine) where
@@ -146,7 +146,7 @@ newest_poll_made_newest_block settings first events machine range run none =
 pub block_answers_are_in_order : HoldsOfRuns (λ settings first events machine. BlockAnswersOf machine)
 block_answers_are_in_order settings first events machine range run = (invariant settings range first events machine run).answers
 
-pub answers_bring_blocks : HoldsWithoutRestart AnswersBringBlocks
-answers_bring_blocks settings first events machine range run none place answer round has =
+pub answers_carry_blocks : HoldsWithoutRestart AnswersCarryBlocks
+answers_carry_blocks settings first events machine range run none place answer round has =
     let k = kept settings range first events machine run none in
-    brings_own settings range first machine k.always k.one_life place answer round has
+    carries_own settings range first machine k.always k.one_life place answer round has

@@ -22,7 +22,7 @@ use Rattle.fio_module.specs.Replies.{answer_to, answer_if}
 use Rattle.fio_module.specs.Laws.{Carries}
 use Rattle.fio_module.proofs.SendingLaws.{sendings_carry, sendings_answer_polls}
 use Rattle.fio_world.specs.Frames.{number_with, received_numbers}
-use Rattle.fio_world.specs.Rounds.{Brings}
+use Rattle.fio_world.specs.Rounds.{CarriesBlock}
 use Rattle.fio_world.proofs.Spelled.{no_block_in, said, sending_back}
 use Rattle.fio_world.proofs.MadeBlocks.{FitsAnswer, blocks_fit, entries_fit}
 
@@ -93,9 +93,9 @@ carried_back per_block sending block few number fits carried =
     (subst (AllByRecursion IsEntry) (sym carried.entries) (entries_fit block.transitions fits.inputs))
     (omega arith)
 
--- and what is read brings the block
-pub carried_brings : (sending : Sending) (block : MadeBlock) → Carries sending block → Brings (said sending) block
-carried_brings sending block carried =
+-- and what is read carries the block
+pub carried_says : (sending : Sending) (block : MadeBlock) → Carries sending block → CarriesBlock (said sending) block
+carried_says sending block carried =
     let status = status_back sending.more sending.lost sending.again sending.out_of_sequence in
     record {
       entries = carried.entries;

@@ -21,8 +21,8 @@ use Rattle.fio_world.proofs.RoundNumbers.{number_of-fits}
 use Rattle.fio_world.proofs.Spelled.{said}
 use Rattle.fio_world.proofs.MadeBlocks.{next_fits}
 use Rattle.fio_world.proofs.AllLives.{past_log, behind, joined, past_blocks, all_blocks, reached}
-use Rattle.fio_world.proofs.Received.{no_block_reply, same_number, first_carries, again_carries, carried_back, carried_brings, said_out_of_sequence, latest_sent, newest_fits}
-use Rattle.fio_world.proofs.Makers.{makers_of, makers_after, makers-repeated, makers-new, bring-new}
+use Rattle.fio_world.proofs.Received.{no_block_reply, same_number, first_carries, again_carries, carried_back, carried_says, said_out_of_sequence, latest_sent, newest_fits}
+use Rattle.fio_world.proofs.Makers.{makers_of, makers_after, makers-repeated, makers-new, carry-new}
 use Rattle.fio_world.proofs.RisingPieces.{rises-new}
 use Rattle.fio_world.proofs.Kept.{Invariant, HasInvariant, meets, after_poll, blocks_if, sending_if, makers_if, keeps_other, keeps_poll}
 
@@ -67,7 +67,7 @@ module _ (settings : Settings) (range : AreInRange settings) (first : ℕ) (mach
       ∙ sym (append_assoc (past_blocks settings h) (map (behind past) bs) (behind past block ∷ [])) in
       let end : end_of (bs ++ block ∷ []) ≡ block.end = last_end-append 0 bs block in
       let limit = past + end_of (bs ++ block ∷ []) in
-      let brought = carried_brings sending block (first_carries settings life number) in
+      let carries = carried_says sending block (first_carries settings life number) in
       subst (λ made. Invariant first log made limit (Some number) (number ∷ received_numbers h) (makers ++ round ∷ [])
       (after_poll machine place frame (answered (Some (answer_of sending)) round))) (sym grown)
       (keeps_poll first log all (reached settings h) (latest_poll life) (received_numbers h) makers machine i place frame le
@@ -75,7 +75,7 @@ module _ (settings : Settings) (range : AreInRange settings) (first : ℕ) (mach
       (carried_back settings.per_block sending block range.few_per_block fits (next_fits settings life) (first_carries settings life number))
       (makers-new makers (next_round machine.polls) round all (behind past block) high i.makers_in_order)
       (record { place = length makers; round = round; last = length-append makers (round ∷ []); made_by = get_push makers round; newest = refl })
-      (bring-new first all makers machine.to_cpu (behind past block) round i.bring)
+      (carry-new first all makers machine.to_cpu (behind past block) round i.carry)
       (record {
         number = named;
         in_sequence = said_out_of_sequence sending ∙ met;
@@ -83,7 +83,7 @@ module _ (settings : Settings) (range : AreInRange settings) (first : ℕ) (mach
         block = behind past block;
         is_made = get_push all (behind past block);
         made_by = ap (slice_get (makers ++ round ∷ [])) (sym i.makers_in_order.count) ∙ get_push makers round;
-        brought = record { entries = brought.entries; more = brought.more; lost = brought.lost; stamp = brought.stamp };
+        carried = record { entries = carries.entries; more = carries.more; lost = carries.lost; stamp = carries.stamp };
       })
       (rises-new log all makers (reached settings h) limit machine.round round machine.items (behind past block) (omega arith) (omega arith) i.makers_in_order.count i.rising))
 
@@ -120,7 +120,7 @@ module _ (settings : Settings) (range : AreInRange settings) (first : ℕ) (mach
       let again = sent_again found.0 in
       let carried = again_carries found.0 block l.carried in
       let sent_number : again.number ≡ number = l.number in
-      let brought = carried_brings again block carried in
+      let carries = carried_says again block carried in
       subst (λ (latest : Option Sending). Invariant first log all (reached settings h) (Some number) (number ∷ received_numbers h) makers
       (after_poll machine place frame (answered (option_map answer_of (option_map sent_again latest)) round))) (sym l.is)
       (keeps_poll first log all (reached settings h) (latest_poll life) (received_numbers h) makers machine i place frame le
@@ -128,7 +128,7 @@ module _ (settings : Settings) (range : AreInRange settings) (first : ℕ) (mach
       (carried_back settings.per_block again block range.few_per_block (omega arith) (newest_fits settings life l.earlier block l.made) carried)
       (makers-repeated makers (next_round machine.polls) (round + 1) all high i.makers_in_order)
       (record { place = m.place; round = round; last = m.last; made_by = m.made_by ∙ ap Some this; newest = refl })
-      i.bring
+      i.carry
       (record {
         number = sent_number ∙ named;
         in_sequence = said_out_of_sequence again;
@@ -136,7 +136,7 @@ module _ (settings : Settings) (range : AreInRange settings) (first : ℕ) (mach
         block = behind past block;
         is_made = ap (λ blocks. slice_get blocks (length earlier)) split ∙ get_push earlier (behind past block);
         made_by = ap (slice_get makers) (sym there) ∙ m.made_by ∙ ap Some this;
-        brought = record { entries = brought.entries; more = brought.more; lost = brought.lost; stamp = brought.stamp };
+        carried = record { entries = carries.entries; more = carries.more; lost = carries.lost; stamp = carries.stamp };
       })
       i.rising)
 

@@ -15,7 +15,7 @@ use Rattle.fio_cpu.specs.declared.items.Item.TheVariants as items
 use Rattle.fio_cpu.specs.Record.{item_of, recorded}
 use Rattle.fio_world.specs.Pieces.{Piece, Gap, Got, piece_of}
 use Rattle.fio_world.specs.Rising.{entries_got, Rises}
-use Rattle.fio_world.specs.Rounds.{Brings}
+use Rattle.fio_world.specs.Rounds.{CarriesBlock}
 use Rattle.fio_world.proofs.Places.{get_before_push, get_after_push}
 use Rattle.fio_world.proofs.AllLives.{StandsIn}
 
@@ -75,15 +75,15 @@ rise_marked false entries from to stamp es p = subst (λ ps. RiseFrom entries fr
 
 -- a block that stands in the log behind the record rises behind it
 pub rise_taken : (log : List Transition) (to : ℕ) (record_items : List Item) (answer : Block) (block : MadeBlock)
-    → RiseFrom (map entry_of log) 0 (map piece_of record_items) to → to ≤ block.start → StandsIn log block → Brings answer block
+    → RiseFrom (map entry_of log) 0 (map piece_of record_items) to → to ≤ block.start → StandsIn log block → CarriesBlock answer block
     → RiseFrom (map entry_of log) 0 (map piece_of (record_items ++ recorded answer)) block.end
-rise_taken log to record_items answer block rises low stands brought =
+rise_taken log to record_items answer block rises low stands carries =
     let entries = map entry_of log in
-    let count : length answer.entries ≡ length (map entry_of block.transitions) = ap length brought.entries in
+    let count : length answer.entries ≡ length (map entry_of block.transitions) = ap length carries.entries in
     let ends : block.start + length block.transitions ≡ block.end = stands.count in
     let end : block.start + length answer.entries ≡ block.end = omega (arith, length-map block.transitions entry_of) in
     let run = rise_run entries to block.start answer.entries low (λ i e is.
-    entry_stands log block stands i e (ap (λ es. slice_get es i) (sym brought.entries) ∙ is)) in
+    entry_stands log block stands i e (ap (λ es. slice_get es i) (sym carries.entries) ∙ is)) in
     let marked = rise_marked (says_lost answer.status) entries to block.end answer.stamp answer.entries
     (subst (RiseFrom entries to (got answer.entries)) end run) in
     subst (λ ps. RiseFrom entries 0 ps block.end) (sym (map-append piece_of record_items (recorded answer)))

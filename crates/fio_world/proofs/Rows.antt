@@ -62,7 +62,7 @@ keeps-start settings first =
       newest = λ n is. absurd (cc is);
       makers_in_order = record { count = refl; rise = λ j k r s le p q. absurd (cc p); below = λ j r p. absurd (cc p) };
       maker = λ n is. absurd (cc is);
-      bring = λ p a r h. absurd (cc (h.at_place));
+      carry = λ p a r h. absurd (cc (h.at_place));
       rising = record { to = 0; rises = omega arith; limited = omega arith; ahead = λ k b r p q le. absurd (cc p) };
     }
 
@@ -79,18 +79,18 @@ module _ (settings : Settings) (range : AreInRange settings) (first : ℕ) (mach
         newest = i.newest;
         makers_in_order = i.makers_in_order;
         maker = i.maker;
-        bring = i.bring;
+        carry = i.carry;
         rising = rises-longer (whole_log machine.history) more (all_blocks settings machine.history) (makers_of machine.history machine.polls) (reached settings machine.history) machine.round machine.items i.rising;
       }
 
   -- LINESYNC rises, or flags do
   keeps_sync : HasInvariant settings first (happened machine module_events.LineSync)
   keeps_sync =
-      record { polls = i.polls; answers = i.answers; at_most = i.at_most; numbered = i.numbered; newest = i.newest; makers_in_order = i.makers_in_order; maker = i.maker; bring = i.bring; rising = i.rising }
+      record { polls = i.polls; answers = i.answers; at_most = i.at_most; numbered = i.numbered; newest = i.newest; makers_in_order = i.makers_in_order; maker = i.maker; carry = i.carry; rising = i.rising }
 
   keeps_raise : (mask : ℕ) → HasInvariant settings first (happened machine (module_events.Raise mask))
   keeps_raise mask =
-      record { polls = i.polls; answers = i.answers; at_most = i.at_most; numbered = i.numbered; newest = i.newest; makers_in_order = i.makers_in_order; maker = i.maker; bring = i.bring; rising = i.rising }
+      record { polls = i.polls; answers = i.answers; at_most = i.at_most; numbered = i.numbered; newest = i.newest; makers_in_order = i.makers_in_order; maker = i.maker; carry = i.carry; rising = i.rising }
 
   -- the module restarts
   keeps_restart : HasInvariant settings first (happened machine module_events.Restart)
@@ -108,7 +108,7 @@ module _ (settings : Settings) (range : AreInRange settings) (first : ℕ) (mach
         newest = λ n is. absurd (cc is);
         makers_in_order = i.makers_in_order;
         maker = λ n is. absurd (cc is);
-        bring = i.bring;
+        carry = i.carry;
         rising = rises-further (whole_log h) blocks (makers_of h machine.polls) (reached settings h) (length (whole_log h) + 0) machine.round machine.items later i.rising;
       })
 
@@ -125,7 +125,7 @@ module _ (settings : Settings) (range : AreInRange settings) (first : ℕ) (mach
         newest = i.newest;
         makers_in_order = i.makers_in_order;
         maker = i.maker;
-        bring = i.bring;
+        carry = i.carry;
         rising = i.rising;
       }
 

@@ -42,12 +42,14 @@ abbrev pub repeats : List ℕ → List (ℕ × Bool)
 repeats [] = []
 repeats (round ∷ older) = repeats older ++ (round, is_repeated round older) ∷ []
 
--- rounds of block answers behind that of a frame which is a block answer
+-- the round of a frame which is a block answer, with whether it says that its number was asked for again,
+-- before those of later ones
 abbrev pub answer_before : Option Block → ℕ → List (ℕ × Bool) → List (ℕ × Bool)
 answer_before None round answers = answers
 answer_before (Some block) round answers = (round, says_again block.status) ∷ answers
 
--- the rounds of the block answers among frames, in order, each with whether it says that its number was asked for again
+-- the rounds of the block answers among frames, in order, each with whether it says so
 abbrev pub block_answers : List Sent → List (ℕ × Bool)
 block_answers [] = []
-block_answers (frame ∷ frames) = answer_before (block_in frame.octets) frame.round (block_answers frames)
+block_answers (frame ∷ frames) =
+    answer_before (block_in frame.octets) frame.round (block_answers frames)

@@ -16,13 +16,14 @@ use Rattle.fio_cpu.specs.Record.{recorded}
 use Rattle.fio_world.specs.declared.event.Event.{Event}
 use Rattle.fio_world.specs.declared.event.Event.TheVariants.{Scan, LineSync, Raise, Poll, Send, ToModule, ToCpu, Restart}
 
--- why an event is refused: no such frame was sent, a later one was delivered already, or a poll is handed in
+-- why an event is refused: no such frame was sent, a later one was delivered already, a poll is handed in
 pub data Refusal : Type 0 where
   NotSent : (index : ℕ) → Refusal
   OutOfOrder : (index last : ℕ) → Refusal
   PollIsOurs : Refusal
 
--- a frame with its round: how many blocks the CPU had taken when it, or the command that it answers, was sent
+-- a frame with its round: how many blocks the CPU had taken when the frame, or the command that it
+-- answers, was sent
 pub record Sent : Type 0 where
   pub octets : List ℕ
   pub round : ℕ
@@ -78,7 +79,8 @@ sending_refusal (commands.Poll number) = Some PollIsOurs
 sending_refusal other = None
 
 abbrev pub refusal : Machine → Event → Option Refusal
-refusal machine (ToModule index) = delivery_refusal (length machine.to_module) machine.last_to_module index
+refusal machine (ToModule index) =
+    delivery_refusal (length machine.to_module) machine.last_to_module index
 refusal machine (ToCpu index) = delivery_refusal (length machine.to_cpu) machine.last_to_cpu index
 refusal machine (Send command) = sending_refusal command
 refusal machine other = None
@@ -90,7 +92,8 @@ happened machine event = record machine { history = event ∷ machine.history }
 -- the CPU sends a command
 abbrev pub sent : Machine → Command → Machine
 sent machine command =
-    record machine { to_module = machine.to_module ++ record { octets = command_octets command; round = machine.round } ∷ [] }
+    let frame : Sent = record { octets = command_octets command; round = machine.round } in
+    record machine { to_module = machine.to_module ++ frame ∷ [] }
 
 -- the frame that an answer is sent in, where there is one
 abbrev pub answered : Option Answer → ℕ → List Sent
@@ -113,7 +116,7 @@ received settings machine index (Some frame) =
       polls = polls_with (poll_in frame.octets) frame.round machine.polls;
     }
 
--- a block with the CPU's number is taken: it is recorded and its round is over. Any other changes nothing
+-- a block with the CPU's number is taken: it is recorded, and its round is over. Any other changes nothing
 abbrev pub with_block : ℕ → Machine → Option Block → Machine
 with_block first machine None = machine
 with_block first machine (Some block) =
@@ -137,13 +140,15 @@ after settings first machine Poll = sent machine (commands.Poll (number_of first
 after settings first machine (Send command) = sent machine command
 after settings first machine (ToModule index) =
     received settings machine index (frame_numbered machine.to_module index)
-after settings first machine (ToCpu index) = heard first machine index (frame_numbered machine.to_cpu index)
+after settings first machine (ToCpu index) =
+    heard first machine index (frame_numbered machine.to_cpu index)
 
 -- these events, none of them refused, lead from one machine to another
 abbrev pub Leads : Settings → ℕ → Machine → List Event → Machine → Type 0
 Leads settings first machine [] last = last ≡ machine
 Leads settings first machine (event ∷ events) last =
-    (refusal machine event ≡ None) × Leads settings first (after settings first machine event) events last
+    (refusal machine event ≡ None)
+    × Leads settings first (after settings first machine event) events last
 
 -- these events, none of them refused, lead from the start to this machine
 abbrev pub IsRun : Settings → ℕ → List Event → Machine → Type 0

@@ -4,7 +4,7 @@ ghost use Rattle.fio_module.specs.Limits.{Limits, are_limits};
 ghost use Rattle.fio_module.specs.Settings.{standard_settings, settings_with, AreInRange};
 ghost use Rattle.fio_world.specs.Pieces.{TakenArePieces, PiecesBeginLog};
 ghost use Rattle.fio_world.specs.Headline.{Headline};
-ghost use Rattle.fio_world.specs.Rounds.{PollsOf, NewestPollIsOf, NewestPollMadeNewestBlock, BlockAnswersOf, AnswersBringBlocks};
+ghost use Rattle.fio_world.specs.Rounds.{PollsOf, NewestPollIsOf, NewestPollMadeNewestBlock, BlockAnswersOf, AnswersCarryBlocks};
 ghost use Rattle.fio_world.specs.Rising.{IsRising};
 ghost use Rattle.fio_world.specs.Sound.{HoldsOfRuns, HoldsWithoutRestart, IsSoundRun, LeadToOneMachine};
 
@@ -55,9 +55,9 @@ pub fn block_answers_are_in_order()
     ensures { HoldsOfRuns (λ settings first events machine. BlockAnswersOf machine) }
 {}
 
-/// Without restarts each block answer brings the block of its round.
-pub fn answers_bring_blocks()
-    ensures { HoldsWithoutRestart AnswersBringBlocks }
+/// Without restarts each block answer carries the block of its round.
+pub fn answers_carry_blocks()
+    ensures { HoldsWithoutRestart AnswersCarryBlocks }
 {}
 
 /// Events lead to one machine at most.
