@@ -56,7 +56,8 @@ module _ (frames : List Sent) (last round next : ℕ) (o : BlockAnswersAreInOrde
         behind = o.behind;
       }
 
-  -- one more block answer is sent, to a poll that has been received now, whose round is not below the newest
+  -- one more block answer is sent, to a poll that has been received now, whose round is not below
+  -- the newest
   pub answers-more : (f : Sent) (r : ℕ) → f.round ≡ r → next ≤ r + 1 → BlockAnswersAreInOrder (frames ++ f ∷ []) last round (r + 1)
   answers-more f r is high =
       let behind : round ≤ next = o.behind in

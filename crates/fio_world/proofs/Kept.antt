@@ -22,8 +22,9 @@ use Rattle.fio_world.proofs.AnswerOrder.{answers-other, answers-more}
 use Rattle.fio_world.proofs.Makers.{makers_of, MakersAreInOrder, NewestIsMaker, CarriesMadeOf, AnswersCarryMade, carry-other, carry-more}
 use Rattle.fio_world.proofs.RisingPieces.{RecordRises}
 
--- What every run keeps of a machine, for the joined log of its module, its blocks, the place from which the next may
--- take, the latest poll of its present life, the numbers of all polls received, and the rounds of those that made the blocks.
+-- What every run keeps of a machine, for the joined log of its module, its blocks, the place from
+-- which the next may take, the latest poll of its present life, the numbers of all polls received,
+-- and the rounds of those that made the blocks.
 pub record Invariant (first : ℕ) (log : List Transition) (blocks : List MadeBlock) (limit : ℕ) (latest : Option ℕ) (numbers makers : List ℕ) (machine : Machine) : Type 0 where
   pub polls : PollsOf first machine
   pub answers : BlockAnswersOf machine
@@ -41,8 +42,8 @@ HasInvariant settings first machine =
     (latest_poll (life_of machine.history)) (received_numbers machine.history)
     (makers_of machine.history machine.polls) machine
 
--- what a poll of a round is to a module whose polls have these rounds, and this latest number in the present life:
--- a new one is in sequence, and another is of the newest round
+-- what a poll of a round is to a module whose polls have these rounds, and this latest number in
+-- the present life: a new one is in sequence, and another is of the newest round
 abbrev pub Meets : Bool → ℕ → Option ℕ → ℕ → ℕ → Type 0
 Meets true round latest number next = is_out_of_sequence latest number ≡ false
 Meets false round latest number next = round + 1 ≡ next
@@ -76,7 +77,8 @@ meets first round number (Some before) polls numbers new known newest numbered l
     let n = newest before refl in
     meets_some first round number before polls n.0 new (known ∙ n.1) numbered low high is
 
--- the machine after its module has received a frame at this place that is no poll, and these answers were sent
+-- the machine after its module has received a frame at this place that is no poll, and these
+-- answers were sent
 abbrev pub after_other : Machine → ℕ → Sent → List Sent → Machine
 after_other machine place frame answers =
     record machine {

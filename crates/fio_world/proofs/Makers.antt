@@ -19,8 +19,8 @@ makers_after (Some number) latest makers [] = makers []
 makers_after (Some number) latest makers (round ∷ older) =
     if is_new latest number then makers older ++ round ∷ [] else makers older
 
--- the rounds of the polls that made the blocks of all lives, oldest first, where the polls received have these rounds,
--- newest first
+-- the rounds of the polls that made the blocks of all lives, oldest first, where the polls received
+-- have these rounds, newest first
 abbrev pub makers_of : History → List ℕ → List ℕ
 makers_of [] polls = []
 makers_of (Received octets ∷ history) polls =
@@ -41,7 +41,8 @@ pub record NewestIsMaker (makers : List ℕ) (next : ℕ) : Type 0 where
   pub made_by : slice_get makers place ≡ Some round
   pub newest : next ≡ round + 1
 
--- a block answer has the number of its round, in sequence, and carries a block that a poll of that round made
+-- a block answer has the number of its round, in sequence, and carries a block that a poll of that
+-- round made
 pub record CarriesMadeOf (first : ℕ) (blocks : List MadeBlock) (makers : List ℕ) (answer : Block) (round : ℕ) : Type 0 where
   pub number : answer.number ≡ number_of first round
   pub in_sequence : says_out_of_sequence answer.status ≡ false

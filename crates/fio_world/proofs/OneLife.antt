@@ -39,9 +39,9 @@ abbrev pub newest_number : ℕ → List ℕ → Option ℕ
 newest_number first [] = None
 newest_number first (round ∷ older) = Some (number_of first round)
 
--- What runs without restarts keep besides, for the blocks of the one life and its latest poll: the newest poll received
--- made the newest block, each block was made by a poll of its round, the record is what the taken blocks are, and block
--- answers say which polls were repeated.
+-- What runs without restarts keep besides, for the blocks of the one life and its latest poll: the
+-- newest poll received made the newest block, each block was made by a poll of its round, the
+-- record is what the taken blocks are, and block answers say which polls were repeated.
 pub record InOneLife (first : ℕ) (blocks : List MadeBlock) (latest : Option ℕ) (makers : List ℕ) (machine : Machine) : Type 0 where
   pub made : next_round machine.polls ≡ length blocks
   pub own : (k r : ℕ) → slice_get makers k ≡ Some r → r ≡ k
@@ -74,8 +74,8 @@ all_in_life settings history none =
     ∙ ap (λ (log : List Transition). map (behind (length log)) own) none.log
     ∙ behind_nothing own
 
--- what a poll of a round is to a module whose polls, all of one life, have these rounds: a new one is of the next
--- round, and another repeats the newest
+-- what a poll of a round is to a module whose polls, all of one life, have these rounds: a new one
+-- is of the next round, and another repeats the newest
 abbrev pub Continues : Bool → ℕ → List ℕ → Type 0
 Continues true round polls = (round ≡ next_round polls) × (is_repeated round polls ≡ false)
 Continues false round polls = (round + 1 ≡ next_round polls) × (is_repeated round polls ≡ true)

@@ -115,7 +115,8 @@ sent_with : (latest : Option ℕ) (found : Option Sending) (number : ℕ) → la
 sent_with latest None number same is = absurd (cc (same, is))
 sent_with latest (Some sending) number same is = (sending, refl, same_Some _ _ (sym same ∙ is))
 
--- the latest sending, where a poll was received: it has the number of the latest poll, and carries the newest block
+-- the latest sending, where a poll was received: it has the number of the latest poll, and carries
+-- the newest block
 pub record IsLatestSending (settings : Settings) (life : Life) (polled : ℕ) (sending : Sending) : Type 0 where
   pub is : latest_sending settings life ≡ Some sending
   pub number : sending.number ≡ polled

@@ -18,7 +18,8 @@ use Rattle.fio_world.specs.Claims.{Loss, From, sources_of, IsInTime, IsTimed}
 use Rattle.fio_world.proofs.MadeBlocks.{each-append, each-take, each-drop, each-map, each_block}
 use Rattle.fio_world.proofs.OneLife.{recorded_of}
 
--- the counter, after so many scans and loads, is as many scans on as there were since the transition, if none loaded since
+-- the counter, after so many scans and loads, is as many scans on as there were since the
+-- transition, if none loaded since
 pub record IsTimely (counter scans loads : ℕ) (transition : Transition) : Type 0 where
   pub fits : transition.counter < 2 ^ 32
   pub scanned_before : transition.scans ≤ scans

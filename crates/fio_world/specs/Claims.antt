@@ -1,7 +1,7 @@
--- What else holds at the end of every run without restarts, and two things that hold of any run.
-use Rattle.std.specs.Prelude.{◌≡◌, ◌↔◌, ℕ, ◌+◌, ◌^◌, ◌<◌, ◌≤◌, ◌⊎◌, false, List, [], ◌∷◌, ◌++◌, map, length, None, if◌then◌else◌}
+-- What else holds at the end of every run without restarts. No old answer, and no answer out of
+-- sequence, hold whatever restarts.
+use Rattle.std.specs.Prelude.{◌≡◌, ◌↔◌, ℕ, ◌+◌, ◌^◌, ◌<◌, ◌≤◌, ◌⊎◌, false, List, [], ◌∷◌, ◌++◌, map, length, take, None, if◌then◌else◌}
 use Rattle.std.specs.List.{flat_map, AllZip}
-use Rattle.std.specs.Prelude.{take}
 use Rattle.fio_message.specs.Blocks.{Block}
 use Rattle.fio_message.specs.Status.{says_out_of_sequence}
 use Rattle.fio_module.specs.Settings.{Settings}
@@ -19,8 +19,8 @@ use Rattle.fio_world.specs.Pieces.{piece_of, taken, ArePieces}
 abbrev pub blocks_in : Settings → Machine → List MadeBlock
 blocks_in settings machine = blocks_of settings (life_of machine.history)
 
--- Where the record stands: the CPU has taken all blocks that the module has made, or all but the last, and
--- the record is what the taken blocks are.
+-- Where the record stands: the CPU has taken all blocks that the module has made, or all but the
+-- last, and the record is what the taken blocks are.
 pub record StandsAtTaken (settings : Settings) (machine : Machine) : Type 0 where
   pub behind :
       (machine.round ≡ length (blocks_in settings machine))
@@ -29,12 +29,13 @@ pub record StandsAtTaken (settings : Settings) (machine : Machine) : Type 0 wher
 
 -- What of a life is not recorded, besides the block that is not taken if there is one.
 pub record RestIsTold (settings : Settings) (life : Life) : Type 0 where
-  -- all blocks, taken or not, are the log through the end of the newest, but for what was pushed out before
-  -- a block that says so
+  -- all blocks, taken or not, are the log through the end of the newest, but for what was pushed
+  -- out before a block that says so
   pub in_blocks :
       let blocks = blocks_of settings life in
       ArePieces settings life 0 (taken (length blocks) blocks) (newest_end settings life)
-  -- from there on to the oldest waiting entry they were pushed out, which happens only when as many wait as may
+  -- from there on to the oldest waiting entry they were pushed out, which happens only when as many
+  -- wait as may
   pub pushed_out : newest_end settings life ≤ waiting_from settings life
   pub only_when_full :
       newest_end settings life < waiting_from settings life
@@ -44,8 +45,8 @@ pub record RestIsTold (settings : Settings) (life : Life) : Type 0 where
       waiting_from settings life + length (waiting_of settings life) ≡ length (log_of life)
   pub few_wait : length (waiting_of settings life) ≤ settings.waiting
 
--- No old answer: a block answer that is delivered is taken exactly if its round is the CPU's, though it
--- carries no more than eight bits of it.
+-- No old answer: a block answer that is delivered is taken exactly if its round is the CPU's,
+-- though it carries no more than eight bits of it.
 abbrev pub TakesPresentRound : Settings → ℕ → Machine → Type 0
 TakesPresentRound settings first machine = (place : ℕ) (block : Block) (round : ℕ) →
     let delivery = ToCpu (place + 1) in
@@ -57,8 +58,8 @@ abbrev pub IsInSequence : Machine → Type 0
 IsInSequence machine = (place : ℕ) (block : Block) (round : ℕ) →
     HasBlock machine.to_cpu place block round → says_out_of_sequence block.status ≡ false
 
--- The block answers are those to the polls received, in order, and each says that its number was asked for
--- again exactly if the poll received before its own had the same round.
+-- The block answers are those to the polls received, in order, and each says that its number was
+-- asked for again exactly if the poll received before its own had the same round.
 abbrev pub SaysAgainWhereRepeated : Machine → Type 0
 SaysAgainWhereRepeated machine = block_answers machine.to_cpu ≡ repeats machine.polls
 
@@ -72,12 +73,14 @@ sources_of block =
     (if block.lost then Loss ∷ [] else [])
     ++ map (λ transition. From transition block) block.transitions
 
--- fewer than 65,536 scans and no load of the counter lie between a transition and the making of a block
+-- fewer than 65,536 scans and no load of the counter lie between a transition and the making of a
+-- block
 pub record IsInTime (transition : Transition) (block : MadeBlock) : Type 0 where
   pub few_scans : block.scans < transition.scans + 2 ^ 16
   pub no_load : block.loads ≡ transition.loads
 
--- an item is from this source, and its wide time is the counter of its transition where that is in time
+-- an item is from this source, and its wide time is the counter of its transition where that is in
+-- time
 abbrev pub IsTimed : Item → Source → Type 0
 IsTimed items.Gap Loss = Unit {0}
 IsTimed (items.Entry input level stamp wide) (From transition block) =
@@ -85,7 +88,8 @@ IsTimed (items.Entry input level stamp wide) (From transition block) =
     × (IsInTime transition block → wide ≡ transition.counter)
 IsTimed item source = ⊥
 
--- Times: the items of the record are, one by one, from their sources in the taken blocks, with their times.
+-- Times: the items of the record are, one by one, from their sources in the taken blocks, with
+-- their times.
 abbrev pub HasTimes : Settings → Machine → Type 0
 HasTimes settings machine =
     AllZip IsTimed machine.items (flat_map sources_of (take machine.round (blocks_in settings machine)))

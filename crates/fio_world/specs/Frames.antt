@@ -36,14 +36,14 @@ abbrev pub is_repeated : ℕ → List ℕ → Bool
 is_repeated round [] = false
 is_repeated round (newest ∷ older) = round == newest
 
--- the rounds of polls received, given newest first, in the order received, each with whether the poll
--- received before had the same round
+-- the rounds of polls received, given newest first, in the order received, each with whether the
+-- poll received before had the same round
 abbrev pub repeats : List ℕ → List (ℕ × Bool)
 repeats [] = []
 repeats (round ∷ older) = repeats older ++ (round, is_repeated round older) ∷ []
 
--- the round of a frame which is a block answer, with whether it says that its number was asked for again,
--- before those of later ones
+-- the round of a frame which is a block answer, with whether it says that its number was asked for
+-- again, before those of later ones
 abbrev pub answer_before : Option Block → ℕ → List (ℕ × Bool) → List (ℕ × Bool)
 answer_before None round answers = answers
 answer_before (Some block) round answers = (round, says_again block.status) ∷ answers

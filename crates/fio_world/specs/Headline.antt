@@ -1,7 +1,8 @@
--- The headline: after any list of scans, line syncs, polls, other commands and in-order deliveries with
--- losses and immediate repeats, without module restarts, the CPU's record is the module's transition log
--- from its start through the last block taken, each entry once and in order, with entries missing only at
--- gap marks, each of which stands where an overflow was flagged; until the first mark it is a prefix.
+-- The headline: after any list of scans, line syncs, polls, other commands and in-order deliveries
+-- with losses and immediate repeats, without module restarts, the CPU's record is the module's
+-- transition log from its start through the last block taken, each entry once and in order, with
+-- entries missing only at gap marks, each of which stands where an overflow was flagged; until the
+-- first mark it is a prefix.
 use Rattle.std.specs.Prelude.{◌≡◌, ℕ, List, map, take}
 use Rattle.std.specs.List.{AllByRecursion}
 use Rattle.fio_module.specs.Settings.{Settings}
@@ -28,7 +29,8 @@ end_taken settings machine = end_of (take machine.round (blocks_of settings (lif
 -- prefix of it.
 pub record RecordIsLog (settings : Settings) (machine : Machine) : Type 0 where
   pub pieces :
-      ArePieces settings (life_of machine.history) 0 (map piece_of machine.items) (end_taken settings machine)
+      ArePieces settings (life_of machine.history) 0
+      (map piece_of machine.items) (end_taken settings machine)
   pub prefix : BeginLog (life_of machine.history) (until_gap (map piece_of machine.items))
 
 -- the headline, of a record that a CPU has after these events

@@ -16,7 +16,8 @@ use Rattle.fio_cpu.specs.Record.{recorded}
 use Rattle.fio_world.specs.declared.event.Event.{Event}
 use Rattle.fio_world.specs.declared.event.Event.TheVariants.{Scan, LineSync, Raise, Poll, Send, ToModule, ToCpu, Restart}
 
--- why an event is refused: no such frame was sent, a later one was delivered already, a poll is handed in
+-- why an event is refused: no such frame was sent, a later one was delivered already, a poll is
+-- handed in
 pub data Refusal : Type 0 where
   NotSent : (index : ℕ) → Refusal
   OutOfOrder : (index last : ℕ) → Refusal
@@ -116,7 +117,8 @@ received settings machine index (Some frame) =
       polls = polls_with (poll_in frame.octets) frame.round machine.polls;
     }
 
--- a block with the CPU's number is taken: it is recorded, and its round is over. Any other changes nothing
+-- a block with the CPU's number is taken: it is recorded, and its round is over. Any other changes
+-- nothing
 abbrev pub with_block : ℕ → Machine → Option Block → Machine
 with_block first machine None = machine
 with_block first machine (Some block) =

@@ -14,8 +14,8 @@ abbrev pub next_round : List ℕ → ℕ
 next_round [] = 0
 next_round (round ∷ older) = round + 1
 
--- The polls among the frames sent to the module, where the frame with number `last` was delivered last, the
--- CPU is in this round, and `next` is the round after the newest received.
+-- The polls among the frames sent to the module, where the frame with number `last` was delivered
+-- last, the CPU is in this round, and `next` is the round after the newest received.
 pub record PollsAreInOrder (first : ℕ) (frames : List Sent) (last round next : ℕ) : Type 0 where
   -- they have the numbers of their rounds, which never fall and are at most the CPU's
   pub numbers : (place n r : ℕ) → HasPoll frames place n r → n ≡ number_of first r
@@ -64,8 +64,8 @@ pub record CarriesBlock (answer : Block) (block : MadeBlock) : Type 0 where
   pub lost : says_lost answer.status ≡ block.lost
   pub stamp : answer.stamp ≡ block.stamp
 
--- a block answer has the number of its round, in sequence, and carries the block of that round, counted
--- from 0
+-- a block answer has the number of its round, in sequence, and carries the block of that round,
+-- counted from 0
 pub record CarriesBlockOf (first : ℕ) (blocks : List MadeBlock) (answer : Block) (round : ℕ)
     : Type 0 where
   pub number : answer.number ≡ number_of first round
