@@ -19,3 +19,4 @@ pub mod OneLifeRows
 pub mod Times
 pub mod Promises
 pub mod SettingsInRange
+pub mod Examples

@@ -92,4 +92,5 @@ IsTimed item source = ⊥
 -- their times.
 abbrev pub HasTimes : Settings → Machine → Type 0
 HasTimes settings machine =
-    AllZip IsTimed machine.items (flat_map sources_of (take machine.round (blocks_in settings machine)))
+    AllZip IsTimed machine.items
+    (flat_map sources_of (take machine.round (blocks_in settings machine)))

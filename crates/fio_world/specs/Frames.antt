@@ -28,7 +28,8 @@ number_with (Some number) numbers = number ∷ numbers
 -- the numbers of the polls that a module has received, in all its lives, newest first
 abbrev pub received_numbers : History → List ℕ
 received_numbers [] = []
-received_numbers (Received octets ∷ history) = number_with (poll_in octets) (received_numbers history)
+received_numbers (Received octets ∷ history) =
+    number_with (poll_in octets) (received_numbers history)
 received_numbers (other ∷ history) = received_numbers history
 
 -- whether a poll of this round is of the same round as the newest of these

@@ -23,7 +23,8 @@ HaveNoRestart events = AllByRecursion IsNotRestart events
 
 -- the place in the log where the last block that the CPU has taken ends, 0 if it has taken none
 abbrev pub end_taken : Settings → Machine → ℕ
-end_taken settings machine = end_of (take machine.round (blocks_of settings (life_of machine.history)))
+end_taken settings machine =
+    end_of (take machine.round (blocks_of settings (life_of machine.history)))
 
 -- The record is the log from its start through the last block taken, and until the first gap mark a
 -- prefix of it.

@@ -113,7 +113,9 @@ received settings machine index (Some frame) =
     record machine {
       last_to_module = index;
       history = Received frame.octets ∷ machine.history;
-      to_cpu = machine.to_cpu ++ answered (reply_to settings machine.history frame.octets) frame.round;
+      to_cpu =
+          machine.to_cpu
+          ++ answered (reply_to settings machine.history frame.octets) frame.round;
       polls = polls_with (poll_in frame.octets) frame.round machine.polls;
     }
 
