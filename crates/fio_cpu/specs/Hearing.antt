@@ -10,7 +10,8 @@ use Rattle.fio_cpu.specs.declared.hearing.Heard.TheVariants.{Unreadable, Other, 
 use Rattle.fio_cpu.specs.Poller.{Polling}
 use Rattle.fio_cpu.specs.Record.{recorded}
 
--- a block answer is taken if it has the CPU's number, and is stale otherwise; any other answer is only named
+-- a block answer is taken if it has the CPU's number, and is stale otherwise; any other answer is
+-- only named
 abbrev pub heard_answer : ℕ → Answer → Heard
 heard_answer number (answers.Block block entries status stamp) =
     if block == number then Block (length entries.items) status else Stale block
@@ -21,7 +22,8 @@ abbrev pub heard_as : ℕ → Result Answer DecodeError → Heard
 heard_as number (Err fault) = Unreadable fault
 heard_as number (Ok answer) = heard_answer number answer
 
--- the CPU after a block answer: where it has the CPU's number it is recorded, and the number is the next modulo 256
+-- the CPU after a block answer: where it has the CPU's number it is recorded, and the number is the
+-- next modulo 256
 abbrev pub after_block : Polling → BlockOf → Polling
 after_block cpu block =
     if block.number == cpu.number

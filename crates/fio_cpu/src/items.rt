@@ -12,10 +12,10 @@ pub enum Item {
         level: bool,
         /// The low 16 bits of the module's millisecond counter at the transition.
         stamp: u16,
-        /// The time in milliseconds: the one number at or before the answer's stamp, less than 65,536
-        /// steps back modulo 2^32, with these low 16 bits (own profile).
+        /// The time in milliseconds, in 32 bits: the one number at or before the answer's stamp,
+        /// less than 65,536 steps back modulo 2^32, with these low 16 bits (own profile).
         wide: u32,
     },
-    /// Entries were pushed out in the module before the next block: some transitions are missing here.
+    /// Some transitions are missing here: the module pushed out entries before the next block.
     Gap,
 }

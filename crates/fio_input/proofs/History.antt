@@ -1,7 +1,9 @@
 -- Histories of configurations and scans.
-use Rattle.std.proofs.Common.{ℕ, Bool, true, false, if◌then◌else◌, List, [], ◌∷◌, refl}
+use Rattle.std.proofs.Common.{◌≡◌, ℕ, Bool, true, false, if◌then◌else◌, List, [], ◌∷◌, Option, Some, None, is_some, refl}
 use Rattle.fio_message.specs.Bits.{is_set}
-use Rattle.fio_input.specs.FilterHistory.{FilterEvent, Configure, Scan, samples, raw_levels, apply_to}
+use Rattle.fio_message.specs.declared.fields.InputItem.{InputItem}
+use Rattle.fio_input.specs.Filtering.{Setting, filtered_state}
+use Rattle.fio_input.specs.FilterHistory.{FilterEvent, Configure, Scan, applied_items, last_item_of, setting_by, apply_to, setting, samples, base, state, raw_levels}
 use Rattle.fio_input.proofs.RunLengths.{LatestIs}
 
 latest_if : (fresh level : Bool) (older : List Bool) → LatestIs level older → LatestIs level (if fresh then [] else older)
@@ -14,3 +16,16 @@ latest_is input [] = tt
 latest_is input (Configure items ∷ history) =
     latest_if (apply_to input items) (is_set (raw_levels history) input) (samples input history) (latest_is input history)
 latest_is input (Scan raw ∷ history) = refl
+
+-- a setting and samples anew from the state leave the state
+pub state_by : (named : Option InputItem) (before : Setting) (level : Bool) (older : List Bool)
+    → filtered_state (setting_by named before) (if is_some named then filtered_state before level older else level) (if is_some named then [] else older)
+    ≡ filtered_state before level older
+state_by None before level older = refl
+state_by (Some item) before level older = refl
+
+-- a configuration leaves the filtered state of each input
+pub state-configure : (input : ℕ) (items : List InputItem) (history : List FilterEvent)
+    → state input (Configure items ∷ history) ≡ state input history
+state-configure input items history =
+    state_by (last_item_of input (applied_items items)) (setting input history) (base input history) (samples input history)

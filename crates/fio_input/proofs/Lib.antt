@@ -5,6 +5,9 @@ pub mod Places
 pub mod Present
 pub mod RunLengths
 pub mod Scanned
+pub mod Stepped
 pub mod Ticks
 pub mod Times
+pub mod LastItem
+pub mod LevelLanes
 pub mod Vectors

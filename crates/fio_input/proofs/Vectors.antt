@@ -1,16 +1,13 @@
--- One lane of vectors that are computed lane by lane.
-use Rattle.std.proofs.Common.{◌≡◌, ℕ, zero, suc, eqb, true, ◌+◌, ◌-◌, ◌/◌, ◌%◌, ◌^◌, ◌<◌, min, max, Bool, false, cond, ltb, List, map, length, get_or, replicate, refl, ap, ◌∙◌, arith, w8, Fits}
+-- One lane of vectors of 16 that are computed lane by lane.
+use Rattle.std.proofs.Common.{◌≡◌, ℕ, ◌+◌, ◌-◌, ◌%◌, ◌^◌, ◌<◌, min, max, Bool, false, cond, ltb, List, map, length, get_or, replicate, refl, ap, ◌∙◌, arith, w8, Fits}
 use Rattle.std.proofs.lemmas.Bool.Decides.{nat_tests}
 use Rattle.std.proofs.lemmas.Simd.{tops_compared, length-zip2, get_or-zip2, length-sel_l, get_or-sel_l, mask_l-mod, mask_l-lt, Each1-get_or, get_or-replicate}
 use Rattle.std.proofs.lemmas.List.{get_or-map, length-map}
 use lib.Lanes.{zip2, sel_l, mask_l, top, Each1}
 use Rattle.fio_message.specs.Bits.{is_set}
-use Rattle.fio_message.proofs.Bits.{is_set-mask_l, is_set_masked, is_set-low, is_set-shr}
-use Rattle.std.specs.Int.Bits.{bit_and}
-use Rattle.std.proofs.Common.{◌==◌, if◌then◌else◌}
-use Rattle.fio_input.specs.Runs.{next_length}
+use Rattle.fio_message.proofs.Bits.{is_set-mask_l}
 
--- the lanes of a mask
+-- a mask, as a test of two vectors' lanes gives it
 abbrev pub compared : (ℕ → ℕ → Bool) → List ℕ → List ℕ → List Bool
 compared test xs ys = map (top 7) (zip2 (λ a b. cond (test a b) 255 0) xs ys)
 
@@ -24,21 +21,25 @@ module _ (test : ℕ → ℕ → Bool) (xs ys : List ℕ) (xs_long : length xs �
   compared-lane : (i : ℕ) → i < 16 → get_or (compared test xs ys) i false ≡ test (get_or xs i 0) (get_or ys i 0)
   compared-lane i h = ap (λ l. get_or l i false) compared_is ∙ get_or-zip2 test xs ys i 0 0 false (omega arith) (omega arith)
 
+  -- a selection has the one lane where the test passes, and the other elsewhere
   pub select-lane : (chosen other : List ℕ) → length chosen ≡ 16 → length other ≡ 16 → (i : ℕ) → i < 16
       → get_or (sel_l (compared test xs ys) chosen other) i 0 ≡ cond (test (get_or xs i 0) (get_or ys i 0)) (get_or chosen i 0) (get_or other i 0)
   select-lane chosen other chosen_long other_long i h =
       let long = compared_long in
-      get_or-sel_l (compared test xs ys) chosen other i 0 (omega arith) (omega arith) (omega arith) ∙ ap (λ b. cond b (get_or chosen i 0) (get_or other i 0)) (compared-lane i h)
+      get_or-sel_l (compared test xs ys) chosen other i 0 (omega arith) (omega arith) (omega arith)
+      ∙ ap (λ b. cond b (get_or chosen i 0) (get_or other i 0)) (compared-lane i h)
 
   pub length-select : (chosen other : List ℕ) → length chosen ≡ 16 → length other ≡ 16 → length (sel_l (compared test xs ys) chosen other) ≡ 16
   length-select chosen other chosen_long other_long =
       let long = compared_long in omega (arith, length-sel_l (compared test xs ys) chosen other (omega arith) (omega arith))
 
+  -- the mask as a number has a bit for each lane where the test passes
   pub bitmask-lane : (i : ℕ) → i < 16 → is_set (mask_l (compared test xs ys) % 2 ^ 64) i ≡ test (get_or xs i 0) (get_or ys i 0)
   bitmask-lane i h =
       let long = compared_long in
       ap (λ n. is_set n i) (mask_l-mod (compared test xs ys) 64 (omega arith)) ∙ is_set-mask_l (compared test xs ys) i ∙ compared-lane i h
 
+  -- and no other bits
   pub bitmask-lt : mask_l (compared test xs ys) % 2 ^ 64 < 65536
   bitmask-lt =
       let long = compared_long in
@@ -50,24 +51,25 @@ ones = replicate 16 1
 pub one-lane : (i : ℕ) → i < 16 → get_or ones i 0 ≡ 1
 one-lane i h = get_or-replicate 16 i 1 0 h
 
--- `simd_max` with ones
 at_least_one : (n : ℕ) → cond (ltb n 1) 1 n ≡ max n 1
 at_least_one n = grind (arith, nat_tests)
 
 module _ (xs : List ℕ) (xs_long : length xs ≡ 16) where
+  -- `xs.simd_max(one)`
   abbrev pub max_one : List ℕ
   max_one = sel_l (compared ltb xs ones) ones xs
 
   pub length-max_one : length max_one ≡ 16
   length-max_one = length-select ltb xs ones xs_long refl ones xs refl xs_long
 
+  -- the greater of a lane and 1
   pub max_one-lane : (i : ℕ) → i < 16 → get_or max_one i 0 ≡ max (get_or xs i 0) 1
   max_one-lane i h =
-      select-lane ltb xs ones xs_long refl ones xs refl xs_long i h ∙ ap (λ n. cond (ltb (get_or xs i 0) n) n (get_or xs i 0)) (one-lane i h) ∙ at_least_one (get_or xs i 0)
+      select-lane ltb xs ones xs_long refl ones xs refl xs_long i h
+      ∙ ap (λ one. cond (ltb (get_or xs i 0) one) one (get_or xs i 0)) (one-lane i h) ∙ at_least_one (get_or xs i 0)
 
--- `saturating_add` with ones
-held : (n : ℕ) → n < 256 → (n + cond (ltb 1 (255 - n)) 1 (255 - n)) % 256 ≡ min (n + 1) 255
-held n h = grind (arith, nat_tests)
+held_at_255 : (n : ℕ) → n < 256 → (n + cond (ltb 1 (255 - n)) 1 (255 - n)) % 256 ≡ min (n + 1) 255
+held_at_255 n h = grind (arith, nat_tests)
 
 module _ (xs : List ℕ) (xs_long : length xs ≡ 16) (fits : Each1 (Fits w8) xs) where
   abbrev pub room : List ℕ
@@ -82,12 +84,14 @@ module _ (xs : List ℕ) (xs_long : length xs ≡ 16) (fits : Each1 (Fits w8) xs
   step_long : length step ≡ 16
   step_long = length-select ltb ones room refl room_long ones room refl room_long
 
+  -- `xs.saturating_add(one)`
   abbrev pub one_more : List ℕ
   one_more = zip2 (λ a b. (a + b) % 256) xs step
 
   pub length-one_more : length one_more ≡ 16
   length-one_more = let long = step_long in omega (arith, length-zip2 (λ (a b : ℕ). (a + b) % 256) xs step)
 
+  -- a lane and one more, held at 255
   pub one_more-lane : (i : ℕ) → i < 16 → get_or one_more i 0 ≡ min (get_or xs i 0 + 1) 255
   one_more-lane i h =
       let long = step_long in
@@ -96,52 +100,6 @@ module _ (xs : List ℕ) (xs_long : length xs ≡ 16) (fits : Each1 (Fits w8) xs
       let room_is : get_or room i 0 ≡ 255 - x = get_or-map (λ n. 255 - n) xs i 0 0 within in
       get_or-zip2 (λ (a b : ℕ). (a + b) % 256) xs step i 0 0 0 within (omega arith)
       ∙ ap (λ n. (x + n) % 256)
-      (select-lane ltb ones room refl room_long ones room refl room_long i h ∙ ap (λ one. cond (ltb one (get_or room i 0)) one (get_or room i 0)) (one-lane i h) ∙ ap (λ r. cond (ltb 1 r) 1 r) room_is)
-      ∙ held x (Each1-get_or (Fits w8) xs i 0 within fits).fits
-
--- the octets of 16 bits, each in the lanes of its own bits
-abbrev pub lane_of : Bool → ℕ
-lane_of b = cond b 1 0
-
-masked_lane : (b : Bool) → lane_of (top 7 (cond b 255 0)) ≡ lane_of b
-masked_lane true = refl
-masked_lane false = refl
-
-pub low-lane : (n i : ℕ) → i < 8 → lane_of (top 7 (cond (eqb (bit_and (bit_and n 255) (2 ^ i)) (2 ^ i)) 255 0)) ≡ lane_of (is_set n i)
-low-lane n i h = masked_lane _ ∙ ap lane_of (is_set_masked (bit_and n 255) i ∙ is_set-low n 8 i h)
-
-pub high-lane : (n i : ℕ) → lane_of (top 7 (cond (eqb (bit_and (n / 256) (2 ^ i)) (2 ^ i)) 255 0)) ≡ lane_of (is_set n (8 + i))
-high-lane n i = masked_lane _ ∙ ap lane_of (is_set_masked (n / 256) i ∙ is_set-shr n 8 i)
-
-pub each_of_16 : (P : ℕ → Type 0) → P 0 → P 1 → P 2 → P 3 → P 4 → P 5 → P 6 → P 7 → P 8 → P 9 → P 10 → P 11 → P 12 → P 13 → P 14 → P 15 → (i : ℕ) → i < 16 → P i
-each_of_16 P a b c d e f g h i j k l m n o p zero lt = a
-each_of_16 P a b c d e f g h i j k l m n o p (suc zero) lt = b
-each_of_16 P a b c d e f g h i j k l m n o p (suc (suc zero)) lt = c
-each_of_16 P a b c d e f g h i j k l m n o p (suc (suc (suc zero))) lt = d
-each_of_16 P a b c d e f g h i j k l m n o p (suc (suc (suc (suc zero)))) lt = e
-each_of_16 P a b c d e f g h i j k l m n o p (suc (suc (suc (suc (suc zero))))) lt = f
-each_of_16 P a b c d e f g h i j k l m n o p (suc (suc (suc (suc (suc (suc zero)))))) lt = g
-each_of_16 P a b c d e f g h i j k l m n o p (suc (suc (suc (suc (suc (suc (suc zero))))))) lt = h
-each_of_16 P a b c d e f g h i j k l m n o p (suc (suc (suc (suc (suc (suc (suc (suc r)))))))) lt = rest P i j k l m n o p r (omega arith)
-  where
-    rest : (P : ℕ → Type 0) → P 8 → P 9 → P 10 → P 11 → P 12 → P 13 → P 14 → P 15 → (i : ℕ) → i < 8 → P (suc (suc (suc (suc (suc (suc (suc (suc i))))))))
-    rest P i j k l m n o p zero lt = i
-    rest P i j k l m n o p (suc zero) lt = j
-    rest P i j k l m n o p (suc (suc zero)) lt = k
-    rest P i j k l m n o p (suc (suc (suc zero))) lt = l
-    rest P i j k l m n o p (suc (suc (suc (suc zero)))) lt = m
-    rest P i j k l m n o p (suc (suc (suc (suc (suc zero))))) lt = n
-    rest P i j k l m n o p (suc (suc (suc (suc (suc (suc zero)))))) lt = o
-    rest P i j k l m n o p (suc (suc (suc (suc (suc (suc (suc zero))))))) lt = p
-    rest P i j k l m n o p (suc (suc (suc (suc (suc (suc (suc (suc r)))))))) lt = absurd (omega arith)
-
--- a level and a sample as lanes
-pub next_in_lane : (n : ℕ) (level sample : Bool) → (if lane_of level == lane_of sample then min (n + 1) 255 else 1) ≡ next_length n level sample
-next_in_lane n true true = refl
-next_in_lane n true false = refl
-next_in_lane n false true = refl
-next_in_lane n false false = refl
-
-pub lane_of_is_one : (level : Bool) → (lane_of level == 1) ≡ level
-lane_of_is_one true = refl
-lane_of_is_one false = refl
+      (select-lane ltb ones room refl room_long ones room refl room_long i h
+      ∙ ap (λ one. cond (ltb one (get_or room i 0)) one (get_or room i 0)) (one-lane i h) ∙ ap (λ r. cond (ltb 1 r) 1 r) room_is)
+      ∙ held_at_255 x (Each1-get_or (Fits w8) xs i 0 within fits).fits

@@ -1,6 +1,6 @@
-// The lengths of the inputs' latest runs, stepped 16 inputs at a time.
+//! The lengths of the inputs' latest runs of equal samples, stepped 16 inputs at a time.
 ghost use Rattle.std.specs.Prelude.{◌≡◌, ◌<◌, ◌≤◌, ℕ, ◌+◌, ◌==◌, min, length, slice_index, if◌then◌else◌, nat_le};
-ghost use Rattle.fio_message.specs.Bits.{is_set};
+ghost use Rattle.fio_message.specs.Bits.{is_set, bit_of};
 ghost use Rattle.fio_input.specs.Filtering.{in_force};
 ghost use Rattle.fio_input.specs.Runs.{next_length, meets_filter};
 
@@ -10,8 +10,8 @@ use std::simd::prelude::*;
 /// How many inputs are stepped at a time.
 const LANES: usize = 16;
 
-/// Steps the length of each input's latest run, 16 inputs at a time. The result has a one for each
-/// input whose run now meets its filter.
+/// Steps the length of each input's latest run by one sample. `levels` has the levels of these
+/// runs, and `raw` the samples. The result has a one for each input whose run now meets its filter.
 pub(crate) fn step_runs(
     run_lengths: &mut [u8; INPUTS],
     leading: &[u8; INPUTS],
@@ -19,13 +19,14 @@ pub(crate) fn step_runs(
     levels: u64,
     raw: u64,
 ) -> u64
+    // A run goes on where the sample has its level, and its length stays at 255: it never wraps.
     ensures lengths { (input : ℕ) → input < 64
         → slice_index run_lengths.new input
-            ≡ next_length (slice_index run_lengths.old input) (is_set levels input) (is_set raw input) }
+        ≡ next_length (slice_index run_lengths.old input) (is_set levels input) (is_set raw input) }
     ensures met { (input : ℕ) → input < 64
         → is_set result input
-            ≡ meets_filter (slice_index leading.now input) (slice_index trailing.now input)
-                (is_set raw input) (slice_index run_lengths.new input) }
+        ≡ meets_filter (slice_index leading.now input) (slice_index trailing.now input)
+        (is_set raw input) (slice_index run_lengths.new input) }
 {
     let mut met = 0;
     for group in 0..INPUTS / LANES {
@@ -40,53 +41,13 @@ pub(crate) fn step_runs(
     met
 }
 
-fn load(octets: &[u8], first: usize) -> u8x16
-    requires { first + 16 ≤ length octets.now }
-    ensures { (lane : ℕ) → lane < 16 → slice_index result lane ≡ slice_index octets.now (first + lane) }
-{
-    u8x16::from_slice(&octets[first..])
-}
-
-fn store(octets: &mut [u8], first: usize, lanes: u8x16)
-    requires { first + 16 ≤ length octets.old }
-    ensures below { (i : ℕ) → i < first → slice_index octets.new i ≡ slice_index octets.old i }
-    ensures stored { (lane : ℕ) → lane < 16 → slice_index octets.new (first + lane) ≡ slice_index lanes lane }
-    ensures above { (i : ℕ) → first + 16 ≤ i → slice_index octets.new i ≡ slice_index octets.old i }
-{
-    lanes.copy_to_slice(&mut octets[first..]);
-}
-
-/// The levels of the 16 inputs from the first one on.
-fn levels_from(levels: u64, first: usize) -> u64
-    requires { first < 64 }
-    ensures range { result < 65536 }
-    ensures bits { (lane : ℕ) → lane < 16 → is_set result lane ≡ is_set levels (first + lane) }
-{
-    (levels >> first) & 0xffff
-}
-
-/// The levels of 16 inputs, one a lane.
-fn lanes_of(levels: u64) -> u8x16
-    requires { levels < 65536 }
-    ensures len { length result ≡ 16 }
-    ensures lanes { (lane : ℕ) → lane < 16 → slice_index result lane ≡ (if is_set levels lane then 1 else 0) }
-{
-    let low = (levels & 0xff) as u8;
-    let high = (levels >> 8) as u8;
-    let octets = u8x16::from_array([
-        low, low, low, low, low, low, low, low, high, high, high, high, high, high, high, high,
-    ]);
-    let bits = u8x16::from_array([1, 2, 4, 8, 16, 32, 64, 128, 1, 2, 4, 8, 16, 32, 64, 128]);
-    (octets & bits)
-        .simd_eq(bits)
-        .select(u8x16::splat(1), u8x16::splat(0))
-}
-
-/// The lengths of 16 runs after one more sample, held at 255.
+/// The lengths of 16 runs after one more sample: one more, held at 255, where the sample has the
+/// run's level, and else 1.
 fn next_lengths(lengths: u8x16, levels: u8x16, samples: u8x16) -> u8x16
-    ensures len { length result ≡ 16 }
-    ensures lanes { (lane : ℕ) → lane < 16
-        → slice_index result lane ≡ (if slice_index levels lane == slice_index samples lane then min (slice_index lengths lane + 1) 255 else 1) }
+    ensures { (lane : ℕ) → lane < 16
+        → slice_index result lane
+        ≡ (if slice_index levels lane == slice_index samples lane
+        then min (slice_index lengths lane + 1) 255 else 1) }
 {
     let one = u8x16::splat(1);
     levels
@@ -96,9 +57,10 @@ fn next_lengths(lengths: u8x16, levels: u8x16, samples: u8x16) -> u8x16
 
 /// The filters of 16 inputs that their samples ask for, 0 as 1.
 fn filters_in_force(leading: u8x16, trailing: u8x16, samples: u8x16) -> u8x16
-    ensures len { length result ≡ 16 }
-    ensures lanes { (lane : ℕ) → lane < 16
-        → slice_index result lane ≡ in_force (if slice_index samples lane == 1 then slice_index trailing lane else slice_index leading lane) }
+    ensures { (lane : ℕ) → lane < 16
+        → slice_index result lane
+        ≡ in_force (if slice_index samples lane == 1
+        then slice_index trailing lane else slice_index leading lane) }
 {
     let one = u8x16::splat(1);
     samples.simd_eq(one).select(trailing, leading).simd_max(one)
@@ -111,4 +73,50 @@ fn runs_met(filters: u8x16, lengths: u8x16) -> u64
         → is_set result lane ≡ nat_le (slice_index filters lane) (slice_index lengths lane) }
 {
     filters.simd_le(lengths).to_bitmask()
+}
+
+/// The levels of the 16 inputs from the first one on.
+fn levels_from(levels: u64, first: usize) -> u64
+    requires { first < 64 }
+    ensures range { result < 65536 }
+    ensures bits { (lane : ℕ) → lane < 16 → is_set result lane ≡ is_set levels (first + lane) }
+{
+    (levels >> first) & 0xffff
+}
+
+/// The levels of 16 inputs, each as a lane of 0 or 1.
+fn lanes_of(levels: u64) -> u8x16
+    requires { levels < 65536 }
+    ensures { (lane : ℕ) → lane < 16
+        → slice_index result lane ≡ bit_of (is_set levels lane) }
+{
+    let low = (levels & 0xff) as u8;
+    let high = (levels >> 8) as u8;
+    let octets = u8x16::from_array([
+        low, low, low, low, low, low, low, low, high, high, high, high, high, high, high, high,
+    ]);
+    let bits = u8x16::from_array([1, 2, 4, 8, 16, 32, 64, 128, 1, 2, 4, 8, 16, 32, 64, 128]);
+    (octets & bits)
+        .simd_eq(bits)
+        .select(u8x16::splat(1), u8x16::splat(0))
+}
+
+/// The 16 octets from the first one on.
+fn load(octets: &[u8], first: usize) -> u8x16
+    requires { first + 16 ≤ length octets.now }
+    ensures { (lane : ℕ) → lane < 16
+        → slice_index result lane ≡ slice_index octets.now (first + lane) }
+{
+    u8x16::from_slice(&octets[first..])
+}
+
+/// Puts the lanes in place of the 16 octets from the first one on.
+fn store(octets: &mut [u8], first: usize, lanes: u8x16)
+    requires { first + 16 ≤ length octets.old }
+    ensures below { (i : ℕ) → i < first → slice_index octets.new i ≡ slice_index octets.old i }
+    ensures stored { (lane : ℕ) → lane < 16
+        → slice_index octets.new (first + lane) ≡ slice_index lanes lane }
+    ensures above { (i : ℕ) → first + 16 ≤ i → slice_index octets.new i ≡ slice_index octets.old i }
+{
+    lanes.copy_to_slice(&mut octets[first..]);
 }

@@ -1,4 +1,5 @@
-//! Laws of the definitions that the contracts cite: each function states one in its contract, and does nothing.
+//! Laws of the definitions that the contracts cite: each function states one in its contract, and
+//! does nothing.
 ghost use Rattle.std.specs.Prelude.{◌≡◌, ◌≢◌, ◌+◌, ◌%◌, ◌^◌, ℕ, ◌<◌, ◌↔◌, Bool, true, List, ◌∷◌, ◌++◌, length, take, drop, replicate, slice_index_or, if◌then◌else◌};
 ghost use Rattle.fio_message.specs.declared.fields.InputItem.{InputItem as Item};
 ghost use Rattle.fio_input.specs.Counter.{CounterEvent, counter, ticks_in, loads_in};
@@ -18,7 +19,7 @@ pub fn counter_between_loads()
 pub fn one_more_sample()
     ensures { (setting : Setting) (base sample : Bool) (older : List Bool)
         → filtered_state setting base (sample ∷ older)
-            ≡ (if ends_run setting (sample ∷ older) then sample else filtered_state setting base older) }
+        ≡ (if ends_run setting (sample ∷ older) then sample else filtered_state setting base older) }
 {}
 
 /// The state is the sample at the latest place that ends such a run, and the base where there is

@@ -3,3 +3,11 @@ pub mod BlockLaws
 pub mod WaitingLaws
 pub mod SendingLaws
 pub mod LifeLaws
+pub mod Words
+pub mod Marks
+pub mod Fronts
+pub mod Walks
+pub mod Scans
+pub mod EntryRanges
+pub mod NewBlocks
+pub mod Polls

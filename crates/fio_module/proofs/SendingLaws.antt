@@ -3,7 +3,8 @@ use Rattle.std.proofs.Common.{◌≡◌, ℕ, Bool, true, false, List, [], ◌�
 use Rattle.std.specs.Prelude.{option_map}
 use Rattle.std.proofs.lemmas.Bool.Decides.{eqb_tells}
 use Rattle.fio_message.specs.declared.commands.Command.TheVariants.{Poll}
-use Rattle.fio_module.specs.Life.{Commanded}
+use Rattle.fio_module.specs.Settings.{Settings}
+use Rattle.fio_module.specs.Life.{Life, Commanded}
 use Rattle.fio_module.specs.Blocks.{MadeBlock, latest_poll, is_new, blocks_of, next_block}
 use Rattle.fio_module.specs.Sendings.{Sending, latest_sending, first_sending, sent_again}
 use Rattle.fio_module.specs.Laws.{Carries, SendingsCarry, SendingsAnswerPolls}
@@ -66,3 +67,16 @@ sendings_answer_polls settings (Commanded (Poll number) ∷ life) =
     number-after (latest_poll life) (latest_sending settings life) (first_sending settings life number) number
     (sendings_answer_polls settings life) refl
 sendings_answer_polls settings (other ∷ life) = sendings_answer_polls settings life
+
+repeated-if : (polled : Option ℕ) (latest : Option Sending) (number : ℕ)
+    → polled ≡ sent_number latest → is_new polled number ≡ false → (sending : Sending) × (latest ≡ Some sending)
+repeated-if polled None number same repeated =
+    let new : is_new polled number ≡ true = rw same refl in
+    absurd (cc (repeated, new))
+repeated-if polled (Some sending) number same repeated = (sending, refl)
+
+-- a poll that is not new has a sending to repeat
+pub repeated_sending : (settings : Settings) (life : Life) (number : ℕ) → is_new (latest_poll life) number ≡ false
+    → (sending : Sending) × (latest_sending settings life ≡ Some sending)
+repeated_sending settings life number repeated =
+    repeated-if (latest_poll life) (latest_sending settings life) number (sendings_answer_polls settings life) repeated

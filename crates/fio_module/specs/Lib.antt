@@ -7,3 +7,6 @@ pub mod Sendings
 pub mod Flags
 pub mod Replies
 pub mod Laws
+pub mod Waiting
+pub mod Sent
+pub mod Module

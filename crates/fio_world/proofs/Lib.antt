@@ -1,3 +1,6 @@
+pub mod LineLemmas
+pub mod CollectedLemmas
+pub mod DigitLemmas
 pub mod Places
 pub mod RoundNumbers
 pub mod Spelled
@@ -20,3 +23,5 @@ pub mod Times
 pub mod Promises
 pub mod SettingsInRange
 pub mod Examples
+pub mod Shown
+pub mod SoundWorlds

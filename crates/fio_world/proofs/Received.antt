@@ -12,7 +12,7 @@ use Rattle.fio_message.specs.Octets.{IsEntry}
 use Rattle.fio_message.specs.Answers.{answer_octets}
 use Rattle.fio_message.specs.Status.{says_again, says_out_of_sequence}
 use Rattle.fio_message.specs.Decoding.{command_in, polled_number, answered_block, block_in}
-use Rattle.fio_message.proofs.MessageLaws.{status_back}
+use Rattle.fio_message.proofs.StatusBits.{status_back}
 use Rattle.fio_module.specs.Settings.{Settings}
 use Rattle.fio_module.specs.Life.{Received, Restart, History, Life, life_of, with_command}
 use Rattle.fio_module.specs.Log.{entry_of}

@@ -1,3 +1,7 @@
+pub mod Lines
+pub mod Words
+pub mod Hexadecimal
+pub mod Collected
 pub mod Link
 pub mod Frames
 pub mod Pieces
@@ -6,3 +10,5 @@ pub mod Claims
 pub mod Rounds
 pub mod Rising
 pub mod Sound
+pub mod Ends
+pub mod Worlds

@@ -1,6 +1,6 @@
 //! Laws of the definitions that the contracts cite: each function states some in its contract, and
 //! does nothing.
-ghost use Rattle.std.specs.Prelude.{◌≡◌, ℕ, ◌≤◌, true, List};
+ghost use Rattle.std.specs.Prelude.{◌≡◌, ℕ, ◌≤◌, true, List, ◌≢◌, ◌++◌, [], ◌∷◌, Result};
 ghost use Rattle.fio_module.specs.Limits.{Limits, are_limits};
 ghost use Rattle.fio_module.specs.Settings.{standard_settings, settings_with, AreInRange};
 ghost use Rattle.fio_world.specs.Pieces.{TakenArePieces, PiecesBeginLog};
@@ -8,6 +8,9 @@ ghost use Rattle.fio_world.specs.Headline.{Headline};
 ghost use Rattle.fio_world.specs.Rounds.{PollsOf, NewestPollIsOf, NewestPollMadeNewestBlock, BlockAnswersOf, AnswersCarryBlocks};
 ghost use Rattle.fio_world.specs.Rising.{IsRising};
 ghost use Rattle.fio_world.specs.Sound.{HoldsOfRuns, HoldsWithoutRestart, IsSoundRun, LeadToOneMachine};
+ghost use Rattle.std.specs.List.{AllByRecursion};
+ghost use Rattle.fio_world.specs.Collected.{Collects};
+ghost use Rattle.fio_world.specs.Lines.{IsOneLine, lines_of, text_of};
 
 /// What the first m blocks of a life are in the record are pieces of its transition log from the
 /// start through the end of the m-th.
@@ -74,4 +77,18 @@ pub fn settings_are_in_range()
     ensures standard { (id : ℕ) → id ≤ 255 → AreInRange (standard_settings id) }
     ensures limits { (id : ℕ) (limits : Limits) → id ≤ 255
         → are_limits limits.per_block limits.waiting ≡ true → AreInRange (settings_with id limits) }
+{}
+
+/// The lines of a text are those that it was made of, whether the last one is ended or not.
+pub fn lines_are_read_back()
+    ensures ended { (lines : List (List ℕ)) → AllByRecursion IsOneLine lines
+        → lines_of (text_of lines) ≡ lines }
+    ensures unended { (lines : List (List ℕ)) (last : List ℕ) → AllByRecursion IsOneLine lines
+        → IsOneLine last → last ≢ [] → lines_of (text_of lines ++ last) ≡ lines ++ last ∷ [] }
+{}
+
+/// Reading a list answers all its values, or the first fault in it.
+#[tactic(auto, using(crate::proofs::CollectedLemmas::collects))]
+pub fn first_fault_decides<V, E>()
+    ensures { (readings : List (Result V E)) → Collects readings }
 {}

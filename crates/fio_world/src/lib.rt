@@ -1,13 +1,30 @@
-//! Both ends of the transition link and the bus between them, and what holds of every run.
+//! Both ends of the transition link and the bus between them, what holds of every run, and the texts that
+//! tell of runs.
 //!
-//! The definitions stand in `specs/`, in this order: the link machine, event by event (`Link`);
-//! polls and block answers among its frames (`Frames`); the record as pieces of the transition log
-//! (`Pieces`); the headline (`Headline`); what else is promised (`Claims`); the order of rounds
-//! that it rests on (`Rounds`); the rising record, through restarts too (`Rising`); all of it for
-//! one run (`Sound`). The laws are the contracts of the module `laws`.
+//! What the crate above uses: a run is a run of the link machine, and of each machine that a run leads to
+//! the headline and the other promises hold; a report is that of its script.
+//!
+//! The definitions stand in `specs/`, in this order: the words of texts, that is the lines of a text
+//! (`Lines`), the words of a line (`Words`), octets as hexadecimal digits (`Hexadecimal`), readings of
+//! which the first fault decides (`Collected`); then the link machine, event by event (`Link`), polls and
+//! block answers among its frames (`Frames`), the record as pieces of the transition log (`Pieces`), the
+//! headline (`Headline`), what else is promised (`Claims`), the order of rounds that it rests on
+//! (`Rounds`), the rising record, through restarts too (`Rising`), all of it for one run (`Sound`); then
+//! what contracts see of a world (`Ends`) and how it shows the machine (`Worlds`). The laws are the
+//! contracts of the module `laws`.
 #![tactic(auto)]
 
 mod event;
 pub mod laws;
+mod outcome;
+mod reports;
+pub mod text;
+mod world;
 
 pub use event::Event;
+pub use outcome::{Outcome, RunError, WorldError};
+pub use reports::{Report, push_fault};
+pub use world::World;
+
+#[cfg(test)]
+mod tests;

@@ -1,0 +1,23 @@
+-- Readings, of which the first fault decides.
+use Rattle.std.specs.Prelude.{◌≡◌, List, [], ◌∷◌, ◌++◌, map, Result, Ok, Err}
+
+-- these values in front of what comes, unless that is a fault
+abbrev pub with_first : {A E : Type 0} → List A → Result (List A) E → Result (List A) E
+with_first values (Ok more) = Ok (values ++ more)
+with_first values (Err e) = Err e
+
+-- all the values, or the first fault
+abbrev pub collected : {A E : Type 0} → List (Result A E) → Result (List A) E
+collected [] = Ok []
+collected (Ok value ∷ rest) = with_first (value ∷ []) (collected rest)
+collected (Err e ∷ rest) = Err e
+
+-- the fault stands at a place above which each reading is a value
+abbrev pub IsFirstFault : {A E : Type 0} → List (Result A E) → E → Type 0
+IsFirstFault {A} {E} readings e =
+    (values : List A) × (rest : List (Result A E)) × (readings ≡ map Ok values ++ (Err e ∷ rest))
+
+-- what is collected is all the values, or the fault above which no other stands
+pub record Collects {A E : Type 0} (readings : List (Result A E)) : Type 0 where
+  pub values : (vs : List A) → collected readings ≡ Ok vs → readings ≡ map Ok vs
+  pub fault : (e : E) → collected readings ≡ Err e → IsFirstFault readings e

@@ -1,0 +1,14 @@
+//! What the texts of the program share: lines and words, how they are read, and what is printed.
+
+mod lines;
+mod numbering;
+mod printing;
+mod words;
+
+pub use lines::{is_skipped, split_line};
+pub use numbering::{NumberedLines, numbered_lines};
+pub use printing::{FaultWords, Hexadecimal};
+pub use words::{
+    after_prefix, read_inputs, read_number, read_octet, read_octets, read_small_number,
+    split_at_blank,
+};
