@@ -72,7 +72,7 @@ marked_again-octets sending =
     let tail = to_be_bytes w32 sending.stamp in
     let status = block_status sending.more sending.lost sending.again sending.out_of_sequence in
     let place : 3 + 3 * length sending.entries ≡ suc (suc (suc (length body))) =
-    omega (arith, length-parts IsEntry entry_octets entry_at entry_is_part sending.entries) in
+    omega (arith, length-parts entry_is_part sending.entries) in
     marked-behind 182 sending.number (length sending.entries) body tail status _ place
     ∙ ap (λ status. 182 ∷ sending.number ∷ length sending.entries ∷ (body ++ status ∷ tail))
     (marked-status sending.more sending.lost sending.again sending.out_of_sequence)
