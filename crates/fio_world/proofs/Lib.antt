@@ -13,6 +13,8 @@ pub mod AnswerOrder
 pub mod Makers
 pub mod RisingPieces
 pub mod Kept
+pub mod ReceivedRows
+pub mod HeardRows
 pub mod Rows
 pub mod Runs
 pub mod OneLife
@@ -20,5 +22,6 @@ pub mod OneLifeRows
 pub mod Times
 pub mod Promises
 pub mod SettingsInRange
+pub mod Examples
 pub mod Shown
 pub mod SoundWorlds
