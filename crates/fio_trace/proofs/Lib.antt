@@ -1,0 +1,2 @@
+mod PlacesAbove
+mod KeptFacts

@@ -1,0 +1,5 @@
+pub mod Show
+pub mod Transcript
+pub mod TranscriptRules
+pub mod TranscriptFacts
+pub mod TranscriptTexts

@@ -1,0 +1,112 @@
+//! The lines of a transcript, read from its text.
+ghost use Rattle.std.specs.Prelude.{◌≡◌, ℕ, Ok, Err, IfOk, option_map};
+ghost use Rattle.fio_trace.specs.Transcript.{frame_of, line_of, trace_of};
+
+use fio_message::Memory;
+use fio_world::text::{after_prefix, numbered_lines, read_octets};
+use std::alloc::{AllocFailed, Global};
+use std::marker::Model;
+use thiserror::Error;
+
+/// A line of a transcript: a frame that the CPU's end of the link sent or heard.
+#[derive(Debug, Drop)]
+pub struct Line {
+    /// The number of the line in its text, from 1.
+    pub number: usize,
+    /// Whether the CPU sent the frame. If not, it heard it.
+    pub from_cpu: bool,
+    /// The octets of the frame.
+    pub octets: Vec<u8>,
+}
+
+impl Model for Line {
+    ghost use Rattle.fio_trace.specs.Transcript.{TraceLine};
+
+    ghost Value = { TraceLine };
+
+    ghost view = { λ line. record { number = line.number; from_cpu = line.from_cpu; octets = line.octets.items } };
+}
+
+/// Why a text is no transcript.
+#[derive(Clone, Copy, Debug, PartialEq, Eq, Error)]
+pub enum TraceError {
+    /// A line that says something is no frame. It is the first one.
+    #[error("line {line}: bad line")]
+    BadLine {
+        /// The number of the line in the text, from 1.
+        line: usize,
+    },
+    /// There was no memory for the lines above the first faulty one.
+    #[error("out of memory")]
+    Memory,
+}
+
+impl From<Memory> for TraceError {
+    ghost use Rattle.fio_trace.specs.declared.transcript.reading.TraceError.TheVariants as faults;
+
+    ghost from_gives = { λ _ fault. fault ≡ faults.Memory };
+
+    fn from(_fault: Memory) -> TraceError {
+        TraceError::Memory
+    }
+}
+
+impl<T: Drop> From<AllocFailed<T>> for TraceError {
+    ghost use Rattle.fio_trace.specs.declared.transcript.reading.TraceError.TheVariants as faults;
+
+    ghost from_gives = { λ _ fault. fault ≡ faults.Memory };
+
+    fn from(_fault: AllocFailed<T>) -> TraceError {
+        TraceError::Memory
+    }
+}
+
+/// The lines of a transcript: each line of the text that is neither empty nor begins with `#` is
+/// `> HEX`, a frame that the CPU sent, or `< HEX`, one that it heard. A text of any length is read.
+///
+/// # Errors
+/// `BadLine` for the first line that is neither; `Memory` where there was none for the lines above it.
+pub fn read_trace(alloc: Global, text: &[u8]) -> Result<Vec<Line>, TraceError>
+    ensures lines { IfOk result (λ lines. trace_of text.now ≡ Ok lines.items) }
+    ensures bad_line { (number : ℕ) → result ≡ Err (TraceError.BadLine number)
+        → trace_of text.now ≡ Err number }
+{
+    let mut lines = Vec::new(alloc);
+    'lines: for (number, line) in numbered_lines(text, 1) {
+        let line = read_line(alloc, number, line)?;
+        lines.push(line)?;
+    }
+    Ok(lines)
+}
+
+/// The line of a transcript that a line with this number writes.
+fn read_line(alloc: Global, number: usize, line: &[u8]) -> Result<Line, TraceError>
+    ensures line { IfOk result (λ found. line_of (number, line.now) ≡ Ok found) }
+    ensures bad_line { (faulty : ℕ) → result ≡ Err (TraceError.BadLine faulty)
+        → line_of (number, line.now) ≡ Err faulty }
+{
+    let Some((from_cpu, octets)) = read_frame(alloc, line)? else {
+        return Err(TraceError::BadLine { line: number });
+    };
+    Ok(Line {
+        number,
+        from_cpu,
+        octets,
+    })
+}
+
+/// Whether the CPU sent the frame of a line, and its octets; `None` where the line is no frame.
+fn read_frame(alloc: Global, line: &[u8]) -> Result<Option<(bool, Vec<u8>)>, Memory>
+    ensures { IfOk result (λ found.
+        option_map (λ frame. (frame.0, frame.1.items)) found ≡ frame_of line.now) }
+{
+    let (from_cpu, word) = match (after_prefix(line, b"> "), after_prefix(line, b"< ")) {
+        (Some(word), _) => (true, word),
+        (None, Some(word)) => (false, word),
+        (None, None) => return Ok(None),
+    };
+    match read_octets(alloc, word)? {
+        Some(octets) => Ok(Some((from_cpu, octets))),
+        None => Ok(None),
+    }
+}
