@@ -1,6 +1,6 @@
 -- What is kept of the lines above a place says whether the line there breaks a rule.
-use Rattle.std.proofs.Common.{◌≡◌, ◌<◌, ◌⊎◌, inl, inr, ℕ, zero, suc, ◌+◌, Bool, true, false, Option, Some, None, refl, ap, sym, ◌∙◌, arith, cond}
-use Rattle.std.specs.Prelude.{List, length, ◌==◌, ◌&&◌, ◌||◌, ◌%◌, if◌then◌else◌, nat_lt, not, find, is_some, option_map, option_and_then, slice_get}
+use Rattle.std.proofs.Common.{◌≡◌, ◌<◌, ◌⊎◌, inl, inr, ℕ, zero, suc, ◌+◌, Bool, true, false, Option, Some, None, refl, ap, sym, arith, cond}
+use Rattle.std.specs.Prelude.{List, length, ◌==◌, ◌&&◌, ◌||◌, ◌%◌, if◌then◌else◌, not, find, is_some, option_map, slice_get}
 use Rattle.std.proofs.lemmas.Bool.{le-ltb, lt-ltb, not-false}
 use Rattle.fio_message.specs.Answers.{answer_code}
 use Rattle.fio_message.specs.Blocks.{Block}
@@ -14,7 +14,7 @@ use Rattle.fio_message.specs.declared.answers.Answer.{Answer}
 use Rattle.fio_message.specs.declared.answers.Answer.TheVariants as answers
 use Rattle.fio_trace.specs.Transcript.{TraceLine, Placed, command_on, answer_on, command_sent, answer_heard, poll_sent, block_heard, number_polled, block_answered, command_above, poll_above, earlier_poll, earlier_block, is_some_and}
 use Rattle.fio_trace.specs.TranscriptRules.{is_broken, rule_broken, rules, number_due}
-use Rattle.fio_trace.specs.TranscriptFacts.{facts_at, has_advanced, is_answered_above, with_command, with_answer, with_line, rule_broken_by, is_broken_by_answer, is_broken_by_command, is_broken_by_block}
+use Rattle.fio_trace.specs.TranscriptFacts.{facts_at, is_answered_above, with_command, with_answer, with_line, rule_broken_by, is_broken_by_answer, is_broken_by_command, is_broken_by_block}
 use Rattle.fio_trace.specs.declared.transcript.facts.Facts.{Facts}
 use Rattle.fio_trace.specs.declared.transcript.rules.Rule.{Rule}
 use Rattle.fio_trace.specs.declared.transcript.rules.Rule.TheVariants.{Readable, Pair, Number, Advance, Same, Sequence, Limits, Rest, Refusal}

@@ -1,2 +1,3 @@
-mod PlacesAbove
-mod KeptFacts
+pub mod PlacesAbove
+pub mod KeptFacts
+pub mod TranscriptLemmas

@@ -1,11 +1,11 @@
 -- What is said at the latest place above a place.
-use Rattle.std.proofs.Common.{◌≡◌, ◌<◌, ◌⊎◌, inl, inr, ℕ, zero, suc, Bool, true, false, Option, Some, None, refl, ap, sym, ◌∙◌, arith}
-use Rattle.std.specs.Prelude.{List, is_some, ◌&&◌, nat_lt, option_map}
+use Rattle.std.proofs.Common.{◌≡◌, ◌<◌, ◌⊎◌, inl, inr, ℕ, zero, suc, Bool, false, Option, Some, None, refl, sym, arith}
+use Rattle.std.specs.Prelude.{List, is_some, option_map}
 use Rattle.std.specs.Option.{option_or}
 use Rattle.std.proofs.lemmas.Bool.{lt-ltb}
 use Rattle.std.proofs.lemmas.Bool.Decides.{eqb_tells}
 use Rattle.std.proofs.Math.Bool.{and-false}
-use Rattle.fio_trace.specs.Transcript.{TraceLine, Placed, placed, latest_above, block_heard, is_some_and}
+use Rattle.fio_trace.specs.Transcript.{TraceLine, Placed, latest_above, block_heard, is_some_and}
 use Rattle.fio_trace.specs.TranscriptFacts.{is_answered_above}
 
 -- ---- options
@@ -22,17 +22,17 @@ is_some-map f (Some x) = refl
 
 -- ---- places
 
-placed-here : {A : Type 0} (place : ℕ) (o : Option A) (later : Option (Placed A)) (n : ℕ) → place < n
+said_here-below : {A : Type 0} (place : ℕ) (o : Option A) (later : Option (Placed A)) (n : ℕ) → place < n
     → ((found : Placed A) → later ≡ Some found → found.place < n)
     → (found : Placed A) → option_or (option_map (λ value. record { place = place; value = value }) o) later ≡ Some found → found.place < n
-placed-here place None later n within below found e = below found e
-placed-here place (Some x) later n within below found e = let same : place ≡ found.place = cc in omega arith
+said_here-below place None later n within below found e = below found e
+said_here-below place (Some x) later n within below found e = let same : place ≡ found.place = cc in omega arith
 
 -- the latest place above a place is above it
 pub latest_above-below : {A : Type 0} (said : ℕ → Option A) (n : ℕ) (found : Placed A) → latest_above said n ≡ Some found → found.place < n
 latest_above-below said zero found e = absurd (cc)
 latest_above-below said (suc n) found e =
-    placed-here n (said n) (latest_above said n) (suc n) (omega arith) (λ f h. let less : f.place < n = latest_above-below said n f h in omega arith) found e
+    said_here-below n (said n) (latest_above said n) (suc n) (omega arith) (λ f h. let less : f.place < n = latest_above-below said n f h in omega arith) found e
 
 -- where no block stands at a place, one stands directly below a poll above it exactly if it is above the place too
 answered-step : (lines : List TraceLine) (place : ℕ) (poll : Placed ℕ) → (suc poll.place < place) ⊎ (place ≡ suc poll.place) → is_some (block_heard lines place) ≡ false

@@ -3,3 +3,4 @@ pub mod Transcript
 pub mod TranscriptRules
 pub mod TranscriptFacts
 pub mod TranscriptTexts
+pub mod TranscriptLaws

@@ -82,18 +82,18 @@ abbrev pub place_above : ℕ → Option ℕ
 place_above zero = None
 place_above (suc place) = Some place
 
--- something that a line says, and its place
+-- what a line says, with its place
 pub record Placed (A : Type 0) : Type 0 where
   pub place : ℕ
   pub value : A
 
-abbrev pub placed : {A : Type 0} → (ℕ → Option A) → ℕ → Option (Placed A)
-placed said place = option_map (λ value. record { place = place; value = value }) (said place)
+abbrev pub said_at : {A : Type 0} → (ℕ → Option A) → ℕ → Option (Placed A)
+said_at said place = option_map (λ value. record { place = place; value = value }) (said place)
 
--- what is said at the latest place above this one where it is said
+-- the latest that lines above a place say
 abbrev pub latest_above : {A : Type 0} → (ℕ → Option A) → ℕ → Option (Placed A)
 latest_above said zero = None
-latest_above said (suc place) = option_or (placed said place) (latest_above said place)
+latest_above said (suc place) = option_or (said_at said place) (latest_above said place)
 
 -- the command directly above
 abbrev pub command_above : List TraceLine → ℕ → Option Command
@@ -101,7 +101,7 @@ command_above lines place = option_and_then (command_sent lines) (place_above pl
 
 -- the poll directly above, by its number
 abbrev pub poll_above : List TraceLine → ℕ → Option (Placed ℕ)
-poll_above lines place = option_and_then (placed (poll_sent lines)) (place_above place)
+poll_above lines place = option_and_then (said_at (poll_sent lines)) (place_above place)
 
 -- the latest poll above, by its number
 abbrev pub earlier_poll : List TraceLine → ℕ → Option (Placed ℕ)

@@ -1,12 +1,12 @@
 -- What is kept of the lines above a place while a transcript is checked, and the rules by it.
-use Rattle.std.specs.Prelude.{ℕ, suc, ◌+◌, ◌%◌, Bool, true, false, List, Option, Some, None, length, find, ◌==◌, ◌&&◌, ◌||◌, nat_lt, not, is_some, option_map, option_and_then, if◌then◌else◌}
+use Rattle.std.specs.Prelude.{ℕ, suc, ◌+◌, ◌%◌, Bool, true, false, List, Option, Some, None, length, find, ◌==◌, ◌&&◌, ◌||◌, nat_lt, not, is_some, option_map, if◌then◌else◌}
 use Rattle.fio_message.specs.Answers.{answer_code}
 use Rattle.fio_message.specs.Blocks.{Block}
 use Rattle.fio_message.specs.Commands.{command_code}
 use Rattle.fio_message.specs.Status.{says_more, says_again, says_out_of_sequence}
 use Rattle.fio_message.specs.declared.answers.Answer.{Answer}
 use Rattle.fio_message.specs.declared.commands.Command.{Command}
-use Rattle.fio_trace.specs.Transcript.{TraceLine, Placed, command_on, answer_on, number_polled, block_answered, block_heard, command_above, earlier_poll, earlier_block, is_some_and}
+use Rattle.fio_trace.specs.Transcript.{TraceLine, Placed, number_polled, block_answered, block_heard, command_above, earlier_poll, earlier_block, is_some_and}
 use Rattle.fio_trace.specs.TranscriptRules.{is_beyond_limits, accepts, names_absent, rules}
 use Rattle.fio_trace.specs.declared.transcript.facts.Facts.{Facts}
 use Rattle.fio_trace.specs.declared.transcript.rules.Rule.{Rule}

@@ -34,7 +34,8 @@ abbrev pub breaks_number : List TraceLine → ℕ → Bool
 breaks_number lines place = is_some_and (block_heard lines place) (λ block.
     is_some_and (poll_above lines place) (λ poll. not (block.number == poll.value)))
 
--- the number of the poll after this one: the next number where a block stands directly below this one, else the same
+-- the number of the poll after this one: the next number where a block stands directly below this
+-- one, else the same number
 abbrev pub number_due : List TraceLine → Placed ℕ → ℕ
 number_due lines poll =
     if is_some (block_heard lines (suc poll.place)) then (poll.value + 1) % 256 else poll.value
@@ -86,7 +87,8 @@ abbrev pub names_absent : Command → Bool
 names_absent (commands.ConfigureInputs items) = list_any (λ item. is_absent item.input) items.items
 names_absent _ = false
 
--- Refusal: an answer that a configuration was taken, where the command directly above names an input above 63.
+-- Refusal: an answer that a configuration was taken, where the command directly above names an input
+-- above 63.
 abbrev pub breaks_refusal : List TraceLine → ℕ → Bool
 breaks_refusal lines place =
     is_some_and (answer_heard lines place) accepts && is_some_and (command_above lines place) names_absent

@@ -4,6 +4,8 @@
 mod showing;
 mod transcript;
 
+pub mod transcript_laws;
+
 pub use transcript::{Line, Rule, TraceError, Verdict, check_text, check_trace, read_trace};
 
 #[cfg(test)]
