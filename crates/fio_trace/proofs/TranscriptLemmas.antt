@@ -6,10 +6,12 @@ use Rattle.std.proofs.lemmas.Bool.{cases_order}
 use Rattle.std.proofs.lemmas.Bool.Decides.{eqb_tells}
 use Rattle.std.proofs.lemmas.Option.{slice_get_within}
 use Rattle.fio_trace.specs.Show.{is_too_long}
-use Rattle.fio_trace.specs.Transcript.{TraceLine, Placed, latest_above, trace_of}
+use Rattle.fio_trace.specs.Transcript.{TraceLine, Placed, latest_above, trace_in}
 use Rattle.fio_trace.specs.TranscriptLaws.{IsLatestAbove, TellsTheLatest, HasOneVerdict, HasOneCheckText}
 use Rattle.fio_trace.specs.TranscriptRules.{IsFirstBreach, KeepsRulesAbove, rule_broken}
 use Rattle.fio_trace.specs.TranscriptTexts.{TellsOf, verdict_text, is_good}
+use Rattle.fio_trace.specs.declared.transcript.reading.TraceError.{TraceError}
+use Rattle.fio_trace.specs.declared.transcript.reading.TraceError.TheVariants.{BadLine, Memory}
 use Rattle.fio_trace.specs.declared.transcript.rules.Rule.{Rule}
 use Rattle.fio_trace.specs.declared.transcript.rules.Verdict.TheVariants.{Good, Broken}
 
@@ -86,14 +88,15 @@ one_verdict lines (Broken number rule) (Broken others other_rule) one other =
 
 -- ---- one text
 
-one-telling : (read : Result (List TraceLine) ℕ) (text other_text : List ℕ) (good other_good : Bool)
+one-telling : (read : Result (List TraceLine) TraceError) (text other_text : List ℕ) (good other_good : Bool)
     → TellsOf read text good → TellsOf read other_text other_good → (text ≡ other_text) × (good ≡ other_good)
 one-telling (Ok lines) text other_text good other_good one other =
     let same = one_verdict lines one.0 other.0 one.1 other.1 in
     (one.2 ∙ ap verdict_text same ∙ sym other.2, one.3 ∙ ap is_good same ∙ sym other.3)
-one-telling (Err number) text other_text good other_good one other = (one.0 ∙ sym other.0, one.1 ∙ sym other.1)
+one-telling (Err (BadLine line)) text other_text good other_good one other = (one.0 ∙ sym other.0, one.1 ∙ sym other.1)
+one-telling (Err Memory) text other_text good other_good one other = absurd one
 
-one-choice : (long : Bool) (words : List ℕ) (read : Result (List TraceLine) ℕ) (text other_text : List ℕ) (good other_good : Bool)
+one-choice : (long : Bool) (words : List ℕ) (read : Result (List TraceLine) TraceError) (text other_text : List ℕ) (good other_good : Bool)
     → MatchBool long ((text ≡ words) × (good ≡ false)) (TellsOf read text good)
     → MatchBool long ((other_text ≡ words) × (other_good ≡ false)) (TellsOf read other_text other_good)
     → (text ≡ other_text) × (good ≡ other_good)
@@ -102,4 +105,4 @@ one-choice false words read text other_text good other_good one other = one-tell
 
 pub one_check_text : (input : List ℕ) → HasOneCheckText input
 one_check_text input text other_text good other_good one other =
-    one-choice (is_too_long input) _ (trace_of input) text other_text good other_good one other
+    one-choice (is_too_long input) _ (trace_in input) text other_text good other_good one other

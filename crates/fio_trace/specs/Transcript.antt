@@ -11,6 +11,8 @@ use Rattle.fio_world.specs.Collected.{collected}
 use Rattle.fio_world.specs.Hexadecimal.{octets_of}
 use Rattle.fio_world.specs.Lines.{lines_of, numbered}
 use Rattle.fio_world.specs.Words.{after_prefix}
+use Rattle.fio_trace.specs.declared.transcript.reading.TraceError.{TraceError}
+use Rattle.fio_trace.specs.declared.transcript.reading.TraceError.TheVariants as faults
 
 -- a line: its number in the text, whether the CPU sent the frame or heard it, and the frame's octets
 pub record TraceLine : Type 0 where
@@ -25,20 +27,20 @@ abbrev pub frame_with : Bool → List ℕ → Option (Bool × List ℕ)
 frame_with from_cpu word = option_map (λ octets. (from_cpu, octets)) (octets_of word)
 
 -- the frame of a line, and whether the CPU sent it: `> HEX` was sent, `< HEX` was heard
-abbrev pub frame_of : List ℕ → Option (Bool × List ℕ)
-frame_of line = option_or
+abbrev pub frame_in : List ℕ → Option (Bool × List ℕ)
+frame_in line = option_or
     (option_and_then (frame_with true) (after_prefix (codes "> ") line))
     (option_and_then (frame_with false) (after_prefix (codes "< ") line))
 
--- the line of a transcript that a numbered line writes, or the number of a line that is no frame
-abbrev pub line_of : ℕ × List ℕ → Result TraceLine ℕ
-line_of line = ok_or
-    (option_map (λ frame. record { number = line.0; from_cpu = frame.0; octets = frame.1 }) (frame_of line.1))
-    line.0
+-- the line of a transcript that a numbered line writes, or that it is no frame
+abbrev pub line_in : ℕ × List ℕ → Result TraceLine TraceError
+line_in (number, line) = ok_or
+    (option_map (λ frame. record { number = number; from_cpu = frame.0; octets = frame.1 }) (frame_in line))
+    (faults.BadLine number)
 
--- the lines of a transcript, or the number of the first line that is no frame
-abbrev pub trace_of : List ℕ → Result (List TraceLine) ℕ
-trace_of text = collected (map line_of (numbered 1 (lines_of text)))
+-- the lines of a transcript, or the first line that is no frame
+abbrev pub trace_in : List ℕ → Result (List TraceLine) TraceError
+trace_in text = collected (map line_in (numbered 1 (lines_of text)))
 
 -- ---- what a line says
 

@@ -1,8 +1,10 @@
 -- What `check` tells of a text.
 use Rattle.std.specs.Prelude.{◌≡◌, ℕ, Bool, true, false, List, ◌++◌, codes, decimal, Result, Ok, Err, MatchBool}
 use Rattle.fio_trace.specs.Show.{is_too_long}
-use Rattle.fio_trace.specs.Transcript.{TraceLine, trace_of}
+use Rattle.fio_trace.specs.Transcript.{TraceLine, trace_in}
 use Rattle.fio_trace.specs.TranscriptRules.{IsVerdict}
+use Rattle.fio_trace.specs.declared.transcript.reading.TraceError.{TraceError}
+use Rattle.fio_trace.specs.declared.transcript.reading.TraceError.TheVariants.{BadLine, Memory}
 use Rattle.fio_trace.specs.declared.transcript.rules.Rule.{Rule}
 use Rattle.fio_trace.specs.declared.transcript.rules.Rule.TheVariants.{Readable, Pair, Number, Advance, Same, Sequence, Limits, Rest, Refusal}
 use Rattle.fio_trace.specs.declared.transcript.rules.Verdict.{Verdict}
@@ -29,13 +31,14 @@ is_good (Good frames) = true
 is_good (Broken number rule) = false
 
 -- the text and the ending for what is read: the verdict on the transcript, or its first faulty line
-abbrev pub TellsOf : Result (List TraceLine) ℕ → List ℕ → Bool → Type 0
+abbrev pub TellsOf : Result (List TraceLine) TraceError → List ℕ → Bool → Type 0
 TellsOf (Ok lines) text good =
     (verdict : Verdict) × IsVerdict lines verdict × (text ≡ verdict_text verdict) × (good ≡ is_good verdict)
-TellsOf (Err number) text good =
-    (text ≡ codes "line " ++ (decimal number ++ codes ": bad line\n")) × (good ≡ false)
+TellsOf (Err (BadLine line)) text good =
+    (text ≡ codes "line " ++ (decimal line ++ codes ": bad line\n")) × (good ≡ false)
+TellsOf (Err Memory) text good = ⊥
 
 -- the text that `check` writes for an input, and whether it tells of no fault
 abbrev pub IsCheckText : List ℕ → List ℕ → Bool → Type 0
 IsCheckText input text good = MatchBool (is_too_long input)
-    ((text ≡ codes "input too long\n") × (good ≡ false)) (TellsOf (trace_of input) text good)
+    ((text ≡ codes "input too long\n") × (good ≡ false)) (TellsOf (trace_in input) text good)

@@ -1,6 +1,7 @@
 //! The lines of a transcript, read from its text.
-ghost use Rattle.std.specs.Prelude.{◌≡◌, ℕ, Ok, Err, IfOk, option_map};
-ghost use Rattle.fio_trace.specs.Transcript.{frame_of, line_of, trace_of};
+ghost use Rattle.std.specs.Prelude.{◌≡◌, ◌≢◌, [], Ok, Err, IfOk, IfErr, option_map};
+ghost use Rattle.fio_world.specs.Lines.{lines_of, numbered};
+ghost use Rattle.fio_trace.specs.Transcript.{frame_in, line_in, trace_in};
 
 use fio_message::Memory;
 use fio_world::text::{after_prefix, numbered_lines, read_octets};
@@ -67,9 +68,9 @@ impl<T: Drop> From<AllocFailed<T>> for TraceError {
 /// # Errors
 /// `BadLine` for the first line that is neither; `Memory` where there was none for the lines above it.
 pub fn read_trace(alloc: Global, text: &[u8]) -> Result<Vec<Line>, TraceError>
-    ensures lines { IfOk result (λ lines. trace_of text.now ≡ Ok lines.items) }
-    ensures bad_line { (number : ℕ) → result ≡ Err (TraceError.BadLine number)
-        → trace_of text.now ≡ Err number }
+    ensures ok { IfOk result (λ lines. trace_in text.now ≡ Ok lines.items) }
+    ensures err { IfErr result (λ fault. fault ≢ TraceError.Memory → trace_in text.now ≡ Err fault) }
+    ensures memory { result ≡ Err TraceError.Memory → numbered 1 (lines_of text.now) ≢ [] }
 {
     let mut lines = Vec::new(alloc);
     'lines: for (number, line) in numbered_lines(text, 1) {
@@ -81,9 +82,9 @@ pub fn read_trace(alloc: Global, text: &[u8]) -> Result<Vec<Line>, TraceError>
 
 /// The line of a transcript that a line with this number writes.
 fn read_line(alloc: Global, number: usize, line: &[u8]) -> Result<Line, TraceError>
-    ensures line { IfOk result (λ found. line_of (number, line.now) ≡ Ok found) }
-    ensures bad_line { (faulty : ℕ) → result ≡ Err (TraceError.BadLine faulty)
-        → line_of (number, line.now) ≡ Err faulty }
+    ensures ok { IfOk result (λ found. line_in (number, line.now) ≡ Ok found) }
+    ensures err { IfErr result (λ fault. fault ≢ TraceError.Memory
+        → line_in (number, line.now) ≡ Err fault) }
 {
     let Some((from_cpu, octets)) = read_frame(alloc, line)? else {
         return Err(TraceError::BadLine { line: number });
@@ -98,7 +99,7 @@ fn read_line(alloc: Global, number: usize, line: &[u8]) -> Result<Line, TraceErr
 /// Whether the CPU sent the frame of a line, and its octets; `None` where the line is no frame.
 fn read_frame(alloc: Global, line: &[u8]) -> Result<Option<(bool, Vec<u8>)>, Memory>
     ensures { IfOk result (λ found.
-        option_map (λ frame. (frame.0, frame.1.items)) found ≡ frame_of line.now) }
+        option_map (λ frame. (frame.0, frame.1.items)) found ≡ frame_in line.now) }
 {
     let (from_cpu, word) = match (after_prefix(line, b"> "), after_prefix(line, b"< ")) {
         (Some(word), _) => (true, word),
