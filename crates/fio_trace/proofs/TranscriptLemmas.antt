@@ -36,7 +36,7 @@ later-is_latest said place None found is e above =
     let latest = above e in
     let less : found.place < place = latest.above in
     let none : (between : ℕ) → found.place < between → between < suc place → (between ≡ place) ⊎ (between < place) → said between ≡ None =
-      λ between after before where_it_is. elim where_it_is as (λ _. said between ≡ None) [ inl same ↦ rw same is | inr below ↦ latest.none_between between after below ] in
+    λ between after before where_it_is. elim where_it_is as (λ _. said between ≡ None) [ inl same ↦ rw same is | inr below ↦ latest.none_between between after below ] in
     record { above = omega arith; here = latest.here; none_between = λ between after before. none between after before (below-or-at between place before) }
 
 latest_above-is_latest : {A : Type 0} (said : ℕ → Option A) (place : ℕ) (found : Placed A) → latest_above said place ≡ Some found → IsLatestAbove said place found
@@ -50,9 +50,9 @@ is_latest-found said (suc place) found latest =
     elim (below-or-at found.place place latest.above) as (λ _. latest_above said (suc place) ≡ Some found) [
       | inl here ↦ (let said_here : said place ≡ Some found.value = rw (← here) latest.here in rw said_here (ap (λ n. Some (record { place = n; value = found.value })) (sym here)))
       | inr below ↦ (
-        let none : said place ≡ None = latest.none_between place below (omega arith) in
-        let above : IsLatestAbove said place found = record { above = below; here = latest.here; none_between = λ between after before. latest.none_between between after (omega arith) } in
-        rw none (is_latest-found said place found above))
+          let none : said place ≡ None = latest.none_between place below (omega arith) in
+          let above : IsLatestAbove said place found = record { above = below; here = latest.here; none_between = λ between after before. latest.none_between between after (omega arith) } in
+          rw none (is_latest-found said place found above))
     ]
 
 pub tells_the_latest : {A : Type 0} (said : ℕ → Option A) → TellsTheLatest said

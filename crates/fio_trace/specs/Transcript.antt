@@ -22,7 +22,7 @@ pub record TraceLine : Type 0 where
 
 -- ---- how a transcript is written
 
--- the octets of a word of hexadecimal digits, behind whether the CPU sent them
+-- a word of hexadecimal digits as the octets of a frame, behind whether the CPU sent it
 abbrev pub frame_with : Bool → List ℕ → Option (Bool × List ℕ)
 frame_with from_cpu word = option_map (λ octets. (from_cpu, octets)) (octets_of word)
 
@@ -35,7 +35,8 @@ frame_in line = option_or
 -- the line of a transcript that a numbered line writes, or that it is no frame
 abbrev pub line_in : ℕ × List ℕ → Result TraceLine TraceError
 line_in (number, line) = ok_or
-    (option_map (λ frame. record { number = number; from_cpu = frame.0; octets = frame.1 }) (frame_in line))
+    (option_map (λ frame. record { number = number; from_cpu = frame.0; octets = frame.1 })
+    (frame_in line))
     (faults.BadLine number)
 
 -- the lines of a transcript, or the first line that is no frame
@@ -84,7 +85,7 @@ abbrev pub place_above : ℕ → Option ℕ
 place_above zero = None
 place_above (suc place) = Some place
 
--- what a line says, with its place
+-- what a line says, and the line's place
 pub record Placed (A : Type 0) : Type 0 where
   pub place : ℕ
   pub value : A

@@ -1,6 +1,6 @@
--- The rules of a transcript. It is what the CPU's end logs on a bus that doubles nothing and brings an
--- answer before the CPU's next command or never; the module is not restarted, and has the limits of 255
--- entries a block and 1,024 waiting.
+-- The rules of a transcript. It is what the CPU's end logs on a bus that doubles nothing and brings
+-- an answer before the CPU's next command or never. The module is not restarted, and has the limits
+-- of 255 entries in a block and 1,024 waiting.
 use Rattle.std.specs.Prelude.{◌≡◌, ℕ, suc, ◌+◌, ◌%◌, ◌<◌, Bool, false, List, [], ◌∷◌, Option, Some, None, length, find, slice_get, ◌==◌, ◌&&◌, ◌||◌, nat_lt, not, is_some, if◌then◌else◌}
 use Rattle.std.specs.List.{list_any}
 use Rattle.fio_message.specs.Answers.{answer_code}
@@ -22,12 +22,14 @@ use Rattle.fio_trace.specs.declared.transcript.rules.Verdict.TheVariants.{Good, 
 
 -- Readable: the octets are no message of their direction.
 abbrev pub breaks_readable : List TraceLine → ℕ → Bool
-breaks_readable lines place = not (is_some (command_sent lines place) || is_some (answer_heard lines place))
+breaks_readable lines place =
+    not (is_some (command_sent lines place) || is_some (answer_heard lines place))
 
 -- Pair: an answer, and directly above is no command whose type plus 128 is the answer's type.
 abbrev pub breaks_pair : List TraceLine → ℕ → Bool
 breaks_pair lines place = is_some_and (answer_heard lines place) (λ answer.
-    not (is_some_and (command_above lines place) (λ command. command_code command + 128 == answer_code answer)))
+    not (is_some_and (command_above lines place) (λ command.
+    command_code command + 128 == answer_code answer)))
 
 -- Number: a block whose number is not that of the poll directly above.
 abbrev pub breaks_number : List TraceLine → ℕ → Bool
@@ -49,7 +51,7 @@ breaks_advance lines place = is_some_and (poll_sent lines place) (λ number.
 abbrev pub breaks_same : List TraceLine → ℕ → Bool
 breaks_same lines place = is_some_and (block_heard lines place) (λ block. says_again block.status
     && is_some_and (poll_above lines place) (λ poll.
-        is_some_and (earlier_poll lines poll.place) (λ earlier. not (poll.value == earlier.value))))
+    is_some_and (earlier_poll lines poll.place) (λ earlier. not (poll.value == earlier.value))))
 
 -- Sequence: a block with G that also has E, or that has another block above it.
 abbrev pub breaks_sequence : List TraceLine → ℕ → Bool
@@ -91,7 +93,8 @@ names_absent _ = false
 -- above 63.
 abbrev pub breaks_refusal : List TraceLine → ℕ → Bool
 breaks_refusal lines place =
-    is_some_and (answer_heard lines place) accepts && is_some_and (command_above lines place) names_absent
+    is_some_and (answer_heard lines place) accepts
+    && is_some_and (command_above lines place) names_absent
 
 -- ---- the rules in order
 

@@ -33,7 +33,8 @@ is_good (Broken number rule) = false
 -- the text and the ending for what is read: the verdict on the transcript, or its first faulty line
 abbrev pub TellsOf : Result (List TraceLine) TraceError → List ℕ → Bool → Type 0
 TellsOf (Ok lines) text good =
-    (verdict : Verdict) × IsVerdict lines verdict × (text ≡ verdict_text verdict) × (good ≡ is_good verdict)
+    (verdict : Verdict) × IsVerdict lines verdict
+    × (text ≡ verdict_text verdict) × (good ≡ is_good verdict)
 TellsOf (Err (BadLine line)) text good =
     (text ≡ codes "line " ++ (decimal line ++ codes ": bad line\n")) × (good ≡ false)
 TellsOf (Err Memory) text good = ⊥

@@ -10,9 +10,9 @@ use fio_world::Report;
 use std::alloc::{AllocError, Global};
 
 /// The text that tells whether the transcript in the input keeps the rules: `good N frames`, or
-/// `line N breaks RULE` with the first line that breaks one. A line that is no frame gives the one line
-/// `line N: bad line`, and then no rule is tried; an input of more than 1,048,576 octets gives the one
-/// line `input too long`. The report is good for `good N frames` alone.
+/// `line N breaks RULE` with the first line that breaks one. A line that is no frame gives the one
+/// line `line N: bad line`, and then no rule is tried; an input of more than 1,048,576 octets gives
+/// the one line `input too long`. The report is good for `good N frames` alone.
 ///
 /// # Errors
 /// `Memory` where there is none for the lines of the transcript or for the text.

@@ -1,17 +1,17 @@
 //! What is kept of the lines above while a transcript is checked.
 ghost use Rattle.std.specs.Prelude.{◌≡◌, ◌==◌, ◌&&◌, ◌||◌, not, is_some, length, OnOk, Some, find};
 ghost use Rattle.std.specs.List.{list_any};
+ghost use Rattle.std.specs.Result.{result_err};
 ghost use Rattle.fio_message.specs.Bits.{is_set};
 ghost use Rattle.fio_message.specs.Status.{says_again, says_out_of_sequence};
-ghost use Rattle.std.specs.Result.{result_err};
 ghost use Rattle.fio_message.specs.declared.answers.Answer.{Answer};
 ghost use Rattle.fio_trace.specs.Transcript.{command_on, answer_on, is_some_and};
 ghost use Rattle.fio_trace.specs.TranscriptRules.{is_absent, is_beyond_limits, names_absent, rules};
 ghost use Rattle.fio_trace.specs.TranscriptFacts.{with_poll, with_command, with_answer, with_line, number_due_by, is_broken_by_command, is_broken_by_block, is_broken_by_answer, rule_broken_by};
 
+use super::reading::Line;
 use super::rules::Rule;
 use super::status_bits::{AGAIN, LOST, MORE, OUT_OF_SEQUENCE, REFUSED, is_set};
-use super::reading::Line;
 use fio_message::{Answer, Command, Entry, InputItem, InputNumber, decode_answer, decode_command};
 
 /// What the rules read of the lines above.
@@ -34,8 +34,10 @@ pub(crate) struct Facts {
 impl Facts {
     /// Adds a line, or tells the first rule that it breaks below the lines that were added.
     pub(crate) fn add(&mut self, line: &Line) -> Result<(), Rule>
-        ensures broken { result_err result ≡ rule_broken_by self.old (command_on line.now) (answer_on line.now) }
-        ensures kept { OnOk result (self.new ≡ with_line self.old (command_on line.now) (answer_on line.now)) }
+        ensures broken { result_err result
+            ≡ rule_broken_by self.old (command_on line.now) (answer_on line.now) }
+        ensures kept { OnOk result (self.new
+            ≡ with_line self.old (command_on line.now) (answer_on line.now)) }
     {
         if line.from_cpu {
             let Ok(command) = decode_command(line.octets.as_slice()) else {

@@ -25,7 +25,11 @@ impl Model for Line {
 
     ghost Value = { TraceLine };
 
-    ghost view = { λ line. record { number = line.number; from_cpu = line.from_cpu; octets = line.octets.items } };
+    ghost view = { λ line. record {
+      number = line.number;
+      from_cpu = line.from_cpu;
+      octets = line.octets.items;
+    } };
 }
 
 /// Why a text is no transcript.
@@ -37,7 +41,7 @@ pub enum TraceError {
         /// The number of the line in the text, from 1.
         line: usize,
     },
-    /// There was no memory for the lines above the first faulty one.
+    /// There was no memory for a line. Each line above it is a frame.
     #[error("out of memory")]
     Memory,
 }
@@ -66,7 +70,8 @@ impl<T: Drop> From<AllocFailed<T>> for TraceError {
 /// `> HEX`, a frame that the CPU sent, or `< HEX`, one that it heard. A text of any length is read.
 ///
 /// # Errors
-/// `BadLine` for the first line that is neither; `Memory` where there was none for the lines above it.
+/// `BadLine` for the first line that is neither; `Memory` where there was none for a line above it or
+/// for it.
 pub fn read_trace(alloc: Global, text: &[u8]) -> Result<Vec<Line>, TraceError>
     ensures ok { IfOk result (λ lines. trace_in text.now ≡ Ok lines.items) }
     ensures err { IfErr result (λ fault. fault ≢ TraceError.Memory → trace_in text.now ≡ Err fault) }

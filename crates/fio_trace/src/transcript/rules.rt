@@ -13,12 +13,12 @@ pub enum Rule {
     Pair,
     /// A block has the number of the poll directly above.
     Number,
-    /// A poll has the next number where the earlier poll is answered by a block directly below it, else
-    /// the same number again.
+    /// A poll has the next number where a block stands directly below the earlier poll, else the same
+    /// number again. The next number after 255 is 0.
     Advance,
-    /// A block has E only where its poll repeats the number of the earlier poll, or is the first.
+    /// A block has E only where its poll has the number of the poll before it, or is the first poll.
     Same,
-    /// A block has G only where it is the first, and then no E.
+    /// A block has G only where it is the first block, and then it has no E.
     Sequence,
     /// A block has F only with C, has C only with 255 entries, and names no input above 63.
     Limits,
@@ -45,18 +45,16 @@ pub enum Verdict {
     },
 }
 
-/// The verdict on a transcript: good if no line breaks a rule, else the first line that does and the
-/// first rule that it breaks. Takes no memory.
+/// The verdict on a transcript: good if no line breaks a rule, else the number of the first line that
+/// does, and the first rule that it breaks. Goes through the lines once and takes no memory.
 pub fn check_trace(lines: &[Line]) -> Verdict
     ensures { IsVerdict lines.now result }
 {
     let mut facts = Facts::default();
     for line in lines {
         if let Err(rule) = facts.add(line) {
-            return Verdict::Broken {
-                number: line.number,
-                rule,
-            };
+            let number = line.number;
+            return Verdict::Broken { number, rule };
         }
     }
     Verdict::Good {
