@@ -1,12 +1,12 @@
 -- What is kept of the lines above a place says which rule the line there breaks.
-use Rattle.std.proofs.Common.{◌≡◌, ◌<◌, ◌⊎◌, inl, inr, ℕ, zero, suc, ◌+◌, Bool, true, false, Option, Some, None, refl, ap, sym, ◌∙◌, arith, cond}
-use Rattle.std.specs.Prelude.{List, length, ◌==◌, ◌&&◌, ◌||◌, ◌%◌, if◌then◌else◌, nat_lt, not, find, is_some, option_map, option_and_then, slice_get}
+use Rattle.std.proofs.Common.{◌≡◌, ◌<◌, ◌⊎◌, inl, inr, ℕ, zero, suc, ◌+◌, Bool, true, false, Option, Some, None, refl, ap, sym, arith, cond}
+use Rattle.std.specs.Prelude.{List, length, ◌==◌, ◌&&◌, if◌then◌else◌, not, find, is_some, option_map, slice_get}
 use Rattle.std.proofs.lemmas.Bool.{le-ltb, lt-ltb, not-false}
 use Rattle.fio_message.specs.Answers.{answer_code}
 use Rattle.fio_message.specs.Blocks.{Block}
 use Rattle.fio_message.specs.Decoding.{command_in, answer_in}
 use Rattle.fio_message.specs.Commands.{command_code}
-use Rattle.fio_message.specs.Status.{says_more, says_again, says_out_of_sequence}
+use Rattle.fio_message.specs.Status.{says_more}
 use Rattle.fio_message.specs.declared.commands.Command.{Command}
 use Rattle.fio_message.specs.declared.commands.Command.TheVariants as commands
 use Rattle.fio_message.specs.declared.commands.OtherCommand.TheVariants as others

@@ -1,4 +1,4 @@
-use Rattle.std.proofs.Common.{◌≡◌, ◌∙◌, suc, sym, ap, refl, add-one, below_more, None}
+use Rattle.std.proofs.Common.{◌≡◌, ◌∙◌, sym, ap, refl, add-one, below_more, None}
 use Rattle.std.specs.Result.{result_err}
 use Rattle.std.proofs.lemmas.Option.{slice_get_read}
 use Rattle.fio_trace.specs.TranscriptFacts.{facts_at}
