@@ -20,6 +20,9 @@ const ABOUT: &str =
 const ABOUT_SHOW: &str =
     "Tells what the frames on standard input say, a line of hexadecimal digits each";
 
+const ABOUT_CHECK: &str =
+    "Tells whether a transcript on standard input keeps the rules of the link, frame by frame";
+
 /// The tool that the words of a command line name, the program's name first: `None` where they name
 /// no subcommand.
 ///
@@ -47,11 +50,13 @@ fn command_line<'a>(alloc: Global) -> Result<Command<'a>, AllocError>
     ensures { IfOk result (λ command. app_of command ≡ command_line) }
 {
     let show = Command::new(alloc, "show").about(ABOUT_SHOW);
+    let check = Command::new(alloc, "check").about(ABOUT_CHECK);
     Command::new(alloc, "fio2070")
         .about(ABOUT)
         .version(VERSION)
         .disable_help_subcommand(true)
-        .subcommand(show)
+        .subcommand(show)?
+        .subcommand(check)
 }
 
 /// The tool of a subcommand.
@@ -61,6 +66,7 @@ fn tool_named(name: &str) -> Option<Tool>
 {
     match name {
         "show" => Some(Tool::Show),
+        "check" => Some(Tool::Check),
         _ => None,
     }
 }

@@ -8,9 +8,11 @@
 //! tool has done so.
 //!
 //! The definitions stand in `specs/`, in this order: the lines that tell of each message
-//! (`ShowCommands`, `ShowAnswers`), what `show` tells of a text (`Show`), what is read and written
-//! (`Streams`), what each tool does (`Tools`), the command line (`CommandLine`), the exit status
-//! (`Running`). A law of them is the contract of the module `laws`.
+//! (`ShowCommands`, `ShowAnswers`), what `show` tells of a text (`Show`); the lines of a transcript and
+//! what they say (`Transcript`), its rules and the verdict on it (`TranscriptRules`), what is kept while
+//! it is checked (`TranscriptFacts`), what `check` tells of a text (`TranscriptTexts`); what is read and
+//! written (`Streams`), what each tool does (`Tools`), the command line (`CommandLine`), the exit status
+//! (`Running`). Their laws are the contracts of the modules `laws` and `transcript_laws`.
 #![tactic(auto)]
 
 mod answers;
@@ -22,12 +24,15 @@ mod running;
 mod showing;
 mod streams;
 mod tools;
+mod transcript;
+pub mod transcript_laws;
 
 pub use choosing::choose;
 pub use endings::{Ending, ToolFault};
 pub use running::run_program;
 pub use showing::show_text;
-pub use tools::{Tool, show};
+pub use tools::{Tool, check, show};
+pub use transcript::{Line, Rule, TraceError, Verdict, check_text, check_trace, read_trace};
 
 #[cfg(test)]
 mod tests;

@@ -1,10 +1,10 @@
 use Rattle.std.proofs.Common.{◌≡◌, ◌∙◌, sym, ap, refl, add-one, below_more, None}
 use Rattle.std.specs.Result.{result_err}
 use Rattle.std.proofs.lemmas.Option.{slice_get_read}
-use Rattle.fio_trace.specs.TranscriptFacts.{facts_at}
-use Rattle.fio_trace.specs.TranscriptRules.{rule_broken}
-use Rattle.fio_trace.proofs.KeptFacts.{rule_broken-kept, facts_at-next}
-use Rattle.fio_trace.proofs.transcript.rules.check_trace.Goals as goal
+use Rattle.fio_tool.specs.TranscriptFacts.{facts_at}
+use Rattle.fio_tool.specs.TranscriptRules.{rule_broken}
+use Rattle.fio_tool.proofs.KeptFacts.{rule_broken-kept, facts_at-next}
+use Rattle.fio_tool.proofs.transcript.rules.check_trace.Goals as goal
 
 pub returns-in-Err : goal.returns-in-Err
 returns-in-Err c =

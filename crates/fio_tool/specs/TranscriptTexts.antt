@@ -1,14 +1,14 @@
 -- What `check` tells of a text.
 use Rattle.std.specs.Prelude.{◌≡◌, ℕ, Bool, true, false, List, ◌++◌, codes, decimal, Result, Ok, Err, MatchBool}
-use Rattle.fio_trace.specs.Show.{is_too_long}
-use Rattle.fio_trace.specs.Transcript.{TraceLine, trace_in}
-use Rattle.fio_trace.specs.TranscriptRules.{IsVerdict}
-use Rattle.fio_trace.specs.declared.transcript.reading.TraceError.{TraceError}
-use Rattle.fio_trace.specs.declared.transcript.reading.TraceError.TheVariants.{BadLine, Memory}
-use Rattle.fio_trace.specs.declared.transcript.rules.Rule.{Rule}
-use Rattle.fio_trace.specs.declared.transcript.rules.Rule.TheVariants.{Readable, Pair, Number, Advance, Same, Sequence, Limits, Rest, Refusal}
-use Rattle.fio_trace.specs.declared.transcript.rules.Verdict.{Verdict}
-use Rattle.fio_trace.specs.declared.transcript.rules.Verdict.TheVariants.{Good, Broken}
+use Rattle.fio_tool.specs.Show.{is_too_long}
+use Rattle.fio_tool.specs.Transcript.{TraceLine, trace_in}
+use Rattle.fio_tool.specs.TranscriptRules.{IsVerdict}
+use Rattle.fio_tool.specs.declared.transcript.reading.TraceError.{TraceError}
+use Rattle.fio_tool.specs.declared.transcript.reading.TraceError.TheVariants.{BadLine, Memory}
+use Rattle.fio_tool.specs.declared.transcript.rules.Rule.{Rule}
+use Rattle.fio_tool.specs.declared.transcript.rules.Rule.TheVariants.{Readable, Pair, Number, Advance, Same, Sequence, Limits, Rest, Refusal}
+use Rattle.fio_tool.specs.declared.transcript.rules.Verdict.{Verdict}
+use Rattle.fio_tool.specs.declared.transcript.rules.Verdict.TheVariants.{Good, Broken}
 
 abbrev pub rule_name : Rule → List ℕ
 rule_name Readable = codes "readable"

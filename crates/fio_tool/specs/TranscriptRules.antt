@@ -12,11 +12,11 @@ use Rattle.fio_message.specs.declared.answers.Answer.{Answer}
 use Rattle.fio_message.specs.declared.answers.Answer.TheVariants as answers
 use Rattle.fio_message.specs.declared.commands.Command.{Command}
 use Rattle.fio_message.specs.declared.commands.Command.TheVariants as commands
-use Rattle.fio_trace.specs.Transcript.{TraceLine, Placed, command_sent, answer_heard, poll_sent, block_heard, command_above, poll_above, earlier_poll, earlier_block, is_some_and}
-use Rattle.fio_trace.specs.declared.transcript.rules.Rule.{Rule}
-use Rattle.fio_trace.specs.declared.transcript.rules.Rule.TheVariants.{Readable, Pair, Number, Advance, Same, Sequence, Limits, Rest, Refusal}
-use Rattle.fio_trace.specs.declared.transcript.rules.Verdict.{Verdict}
-use Rattle.fio_trace.specs.declared.transcript.rules.Verdict.TheVariants.{Good, Broken}
+use Rattle.fio_tool.specs.Transcript.{TraceLine, Placed, command_sent, answer_heard, poll_sent, block_heard, command_above, poll_above, earlier_poll, earlier_block, is_some_and}
+use Rattle.fio_tool.specs.declared.transcript.rules.Rule.{Rule}
+use Rattle.fio_tool.specs.declared.transcript.rules.Rule.TheVariants.{Readable, Pair, Number, Advance, Same, Sequence, Limits, Rest, Refusal}
+use Rattle.fio_tool.specs.declared.transcript.rules.Verdict.{Verdict}
+use Rattle.fio_tool.specs.declared.transcript.rules.Verdict.TheVariants.{Good, Broken}
 
 -- ---- each rule, broken by the line at a place
 

@@ -1,8 +1,8 @@
 //! Laws of the definitions that the contracts on transcripts cite: each function states one in its
 //! contract, and does nothing.
 ghost use Rattle.std.specs.Prelude.{ℕ, List};
-ghost use Rattle.fio_trace.specs.Transcript.{TraceLine, poll_sent, block_heard};
-ghost use Rattle.fio_trace.specs.TranscriptLaws.{HasOneCheckText, HasOneVerdict, TellsTheLatest};
+ghost use Rattle.fio_tool.specs.Transcript.{TraceLine, poll_sent, block_heard};
+ghost use Rattle.fio_tool.specs.TranscriptLaws.{HasOneCheckText, HasOneVerdict, TellsTheLatest};
 
 /// The earlier poll of a line is the latest poll above it, and so is the earlier block among blocks.
 pub fn earlier_is_latest_above()

@@ -1,7 +1,7 @@
 //! The lines of a transcript, read from its text.
 ghost use Rattle.std.specs.Prelude.{◌≡◌, ◌≢◌, [], Ok, Err, IfOk, IfErr, option_map};
 ghost use Rattle.fio_world.specs.Lines.{lines_of, numbered};
-ghost use Rattle.fio_trace.specs.Transcript.{frame_in, line_in, trace_in};
+ghost use Rattle.fio_tool.specs.Transcript.{frame_in, line_in, trace_in};
 
 use fio_message::Memory;
 use fio_world::text::{after_prefix, numbered_lines, read_octets};
@@ -21,7 +21,7 @@ pub struct Line {
 }
 
 impl Model for Line {
-    ghost use Rattle.fio_trace.specs.Transcript.{TraceLine};
+    ghost use Rattle.fio_tool.specs.Transcript.{TraceLine};
 
     ghost Value = { TraceLine };
 
@@ -47,7 +47,7 @@ pub enum TraceError {
 }
 
 impl From<Memory> for TraceError {
-    ghost use Rattle.fio_trace.specs.declared.transcript.reading.TraceError.TheVariants as faults;
+    ghost use Rattle.fio_tool.specs.declared.transcript.reading.TraceError.TheVariants as faults;
 
     ghost from_gives = { λ _ fault. fault ≡ faults.Memory };
 
@@ -57,7 +57,7 @@ impl From<Memory> for TraceError {
 }
 
 impl<T: Drop> From<AllocFailed<T>> for TraceError {
-    ghost use Rattle.fio_trace.specs.declared.transcript.reading.TraceError.TheVariants as faults;
+    ghost use Rattle.fio_tool.specs.declared.transcript.reading.TraceError.TheVariants as faults;
 
     ghost from_gives = { λ _ fault. fault ≡ faults.Memory };
 

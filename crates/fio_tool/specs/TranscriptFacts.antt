@@ -6,11 +6,11 @@ use Rattle.fio_message.specs.Commands.{command_code}
 use Rattle.fio_message.specs.Status.{says_more, says_again, says_out_of_sequence}
 use Rattle.fio_message.specs.declared.answers.Answer.{Answer}
 use Rattle.fio_message.specs.declared.commands.Command.{Command}
-use Rattle.fio_trace.specs.Transcript.{TraceLine, Placed, number_polled, block_answered, block_heard, command_above, earlier_poll, earlier_block, is_some_and}
-use Rattle.fio_trace.specs.TranscriptRules.{is_beyond_limits, accepts, names_absent, rules}
-use Rattle.fio_trace.specs.declared.transcript.facts.Facts.{Facts}
-use Rattle.fio_trace.specs.declared.transcript.rules.Rule.{Rule}
-use Rattle.fio_trace.specs.declared.transcript.rules.Rule.TheVariants.{Readable, Pair, Number, Advance, Same, Sequence, Limits, Rest, Refusal}
+use Rattle.fio_tool.specs.Transcript.{TraceLine, Placed, number_polled, block_answered, block_heard, command_above, earlier_poll, earlier_block, is_some_and}
+use Rattle.fio_tool.specs.TranscriptRules.{is_beyond_limits, accepts, names_absent, rules}
+use Rattle.fio_tool.specs.declared.transcript.facts.Facts.{Facts}
+use Rattle.fio_tool.specs.declared.transcript.rules.Rule.{Rule}
+use Rattle.fio_tool.specs.declared.transcript.rules.Rule.TheVariants.{Readable, Pair, Number, Advance, Same, Sequence, Limits, Rest, Refusal}
 
 -- a block stands directly below a poll, and above a place
 abbrev pub is_answered_above : List TraceLine → ℕ → Placed ℕ → Bool

@@ -5,9 +5,9 @@ ghost use Rattle.std.specs.Result.{result_err};
 ghost use Rattle.fio_message.specs.Bits.{is_set};
 ghost use Rattle.fio_message.specs.Status.{says_again, says_out_of_sequence};
 ghost use Rattle.fio_message.specs.declared.answers.Answer.{Answer};
-ghost use Rattle.fio_trace.specs.Transcript.{command_on, answer_on, is_some_and};
-ghost use Rattle.fio_trace.specs.TranscriptRules.{is_absent, is_beyond_limits, names_absent, rules};
-ghost use Rattle.fio_trace.specs.TranscriptFacts.{with_poll, with_command, with_answer, with_line, number_due_by, is_broken_by_command, is_broken_by_block, is_broken_by_answer, rule_broken_by};
+ghost use Rattle.fio_tool.specs.Transcript.{command_on, answer_on, is_some_and};
+ghost use Rattle.fio_tool.specs.TranscriptRules.{is_absent, is_beyond_limits, names_absent, rules};
+ghost use Rattle.fio_tool.specs.TranscriptFacts.{with_poll, with_command, with_answer, with_line, number_due_by, is_broken_by_command, is_broken_by_block, is_broken_by_answer, rule_broken_by};
 
 use super::reading::Line;
 use super::rules::Rule;

@@ -1,9 +1,9 @@
 -- Laws of the rules of a transcript.
 use Rattle.std.specs.Prelude.{◌≡◌, ◌↔◌, ℕ, ◌<◌, Bool, List, Option, Some, None}
-use Rattle.fio_trace.specs.Transcript.{TraceLine, Placed, latest_above}
-use Rattle.fio_trace.specs.TranscriptRules.{IsVerdict}
-use Rattle.fio_trace.specs.TranscriptTexts.{IsCheckText}
-use Rattle.fio_trace.specs.declared.transcript.rules.Verdict.{Verdict}
+use Rattle.fio_tool.specs.Transcript.{TraceLine, Placed, latest_above}
+use Rattle.fio_tool.specs.TranscriptRules.{IsVerdict}
+use Rattle.fio_tool.specs.TranscriptTexts.{IsCheckText}
+use Rattle.fio_tool.specs.declared.transcript.rules.Verdict.{Verdict}
 
 -- it is said at its place, above this one, and not again between the two
 pub record IsLatestAbove {A : Type 0} (said : ℕ → Option A) (place : ℕ) (found : Placed A)

@@ -1,5 +1,5 @@
 //! The rules of a transcript.
-ghost use Rattle.fio_trace.specs.TranscriptRules.{IsVerdict};
+ghost use Rattle.fio_tool.specs.TranscriptRules.{IsVerdict};
 
 use super::facts::Facts;
 use super::reading::Line;

@@ -5,8 +5,8 @@ use Rattle.std.specs.Option.{option_or}
 use Rattle.std.proofs.lemmas.Bool.{lt-ltb}
 use Rattle.std.proofs.lemmas.Bool.Decides.{eqb_tells}
 use Rattle.std.proofs.Math.Bool.{and-false}
-use Rattle.fio_trace.specs.Transcript.{TraceLine, Placed, latest_above, block_heard, is_some_and}
-use Rattle.fio_trace.specs.TranscriptFacts.{is_answered_above}
+use Rattle.fio_tool.specs.Transcript.{TraceLine, Placed, latest_above, block_heard, is_some_and}
+use Rattle.fio_tool.specs.TranscriptFacts.{is_answered_above}
 
 -- ---- options
 

@@ -5,15 +5,15 @@ use Rattle.std.specs.Option.{option_or}
 use Rattle.std.proofs.lemmas.Bool.{cases_order}
 use Rattle.std.proofs.lemmas.Bool.Decides.{eqb_tells}
 use Rattle.std.proofs.lemmas.Option.{slice_get_within}
-use Rattle.fio_trace.specs.Show.{is_too_long}
-use Rattle.fio_trace.specs.Transcript.{TraceLine, Placed, latest_above, trace_in}
-use Rattle.fio_trace.specs.TranscriptLaws.{IsLatestAbove, TellsTheLatest, HasOneVerdict, HasOneCheckText}
-use Rattle.fio_trace.specs.TranscriptRules.{IsFirstBreach, KeepsRulesAbove, rule_broken}
-use Rattle.fio_trace.specs.TranscriptTexts.{TellsOf, verdict_text, is_good}
-use Rattle.fio_trace.specs.declared.transcript.reading.TraceError.{TraceError}
-use Rattle.fio_trace.specs.declared.transcript.reading.TraceError.TheVariants.{BadLine, Memory}
-use Rattle.fio_trace.specs.declared.transcript.rules.Rule.{Rule}
-use Rattle.fio_trace.specs.declared.transcript.rules.Verdict.TheVariants.{Good, Broken}
+use Rattle.fio_tool.specs.Show.{is_too_long}
+use Rattle.fio_tool.specs.Transcript.{TraceLine, Placed, latest_above, trace_in}
+use Rattle.fio_tool.specs.TranscriptLaws.{IsLatestAbove, TellsTheLatest, HasOneVerdict, HasOneCheckText}
+use Rattle.fio_tool.specs.TranscriptRules.{IsFirstBreach, KeepsRulesAbove, rule_broken}
+use Rattle.fio_tool.specs.TranscriptTexts.{TellsOf, verdict_text, is_good}
+use Rattle.fio_tool.specs.declared.transcript.reading.TraceError.{TraceError}
+use Rattle.fio_tool.specs.declared.transcript.reading.TraceError.TheVariants.{BadLine, Memory}
+use Rattle.fio_tool.specs.declared.transcript.rules.Rule.{Rule}
+use Rattle.fio_tool.specs.declared.transcript.rules.Verdict.TheVariants.{Good, Broken}
 
 -- ---- numbers and options
 

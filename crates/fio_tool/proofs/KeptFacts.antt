@@ -12,13 +12,13 @@ use Rattle.fio_message.specs.declared.commands.Command.TheVariants as commands
 use Rattle.fio_message.specs.declared.commands.OtherCommand.TheVariants as others
 use Rattle.fio_message.specs.declared.answers.Answer.{Answer}
 use Rattle.fio_message.specs.declared.answers.Answer.TheVariants as answers
-use Rattle.fio_trace.specs.Transcript.{TraceLine, Placed, command_on, answer_on, command_sent, answer_heard, poll_sent, block_heard, number_polled, block_answered, command_above, poll_above, earlier_poll, earlier_block, is_some_and}
-use Rattle.fio_trace.specs.TranscriptRules.{is_broken, rule_broken, rules, number_due}
-use Rattle.fio_trace.specs.TranscriptFacts.{facts_at, is_answered_above, number_due_by, with_command, with_answer, with_line, rule_broken_by, is_broken_by_answer, is_broken_by_command, is_broken_by_block}
-use Rattle.fio_trace.specs.declared.transcript.facts.Facts.{Facts}
-use Rattle.fio_trace.specs.declared.transcript.rules.Rule.{Rule}
-use Rattle.fio_trace.specs.declared.transcript.rules.Rule.TheVariants.{Readable, Pair, Number, Advance, Same, Sequence, Limits, Rest, Refusal}
-use Rattle.fio_trace.proofs.PlacesAbove.{is_some_and-map, is_some-map, latest_above-below, answered-above, answered-below}
+use Rattle.fio_tool.specs.Transcript.{TraceLine, Placed, command_on, answer_on, command_sent, answer_heard, poll_sent, block_heard, number_polled, block_answered, command_above, poll_above, earlier_poll, earlier_block, is_some_and}
+use Rattle.fio_tool.specs.TranscriptRules.{is_broken, rule_broken, rules, number_due}
+use Rattle.fio_tool.specs.TranscriptFacts.{facts_at, is_answered_above, number_due_by, with_command, with_answer, with_line, rule_broken_by, is_broken_by_answer, is_broken_by_command, is_broken_by_block}
+use Rattle.fio_tool.specs.declared.transcript.facts.Facts.{Facts}
+use Rattle.fio_tool.specs.declared.transcript.rules.Rule.{Rule}
+use Rattle.fio_tool.specs.declared.transcript.rules.Rule.TheVariants.{Readable, Pair, Number, Advance, Same, Sequence, Limits, Rest, Refusal}
+use Rattle.fio_tool.proofs.PlacesAbove.{is_some_and-map, is_some-map, latest_above-below, answered-above, answered-below}
 
 -- ---- a block below a poll
 

@@ -1,6 +1,6 @@
-use Rattle.fio_trace.specs.Transcript.{poll_sent, block_heard}
-use Rattle.fio_trace.proofs.TranscriptLemmas.{tells_the_latest}
-use Rattle.fio_trace.proofs.transcript_laws.earlier_is_latest_above.Goals as goal
+use Rattle.fio_tool.specs.Transcript.{poll_sent, block_heard}
+use Rattle.fio_tool.proofs.TranscriptLemmas.{tells_the_latest}
+use Rattle.fio_tool.proofs.transcript_laws.earlier_is_latest_above.Goals as goal
 
 pub returns-clause-polls : goal.returns-clause-polls
 returns-clause-polls c = λ lines. tells_the_latest (poll_sent lines)

@@ -11,8 +11,8 @@ use Rattle.fio_world.specs.Collected.{collected}
 use Rattle.fio_world.specs.Hexadecimal.{octets_of}
 use Rattle.fio_world.specs.Lines.{lines_of, numbered}
 use Rattle.fio_world.specs.Words.{after_prefix}
-use Rattle.fio_trace.specs.declared.transcript.reading.TraceError.{TraceError}
-use Rattle.fio_trace.specs.declared.transcript.reading.TraceError.TheVariants as faults
+use Rattle.fio_tool.specs.declared.transcript.reading.TraceError.{TraceError}
+use Rattle.fio_tool.specs.declared.transcript.reading.TraceError.TheVariants as faults
 
 -- a line: its number in the text, whether the CPU sent the frame or heard it, and the frame's octets
 pub record TraceLine : Type 0 where

@@ -1,3 +1,0 @@
-pub mod PlacesAbove
-pub mod KeptFacts
-pub mod TranscriptLemmas
