@@ -1,3 +1,4 @@
 pub mod LineLemmas
 pub mod CollectedLemmas
 pub mod DigitLemmas
+pub mod ReadingLemmas

@@ -1,0 +1,2 @@
+//! The worked examples of scripts.
+mod scripts;
