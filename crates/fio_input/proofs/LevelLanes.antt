@@ -1,9 +1,10 @@
 -- The levels of 16 inputs as lanes of 0 and 1.
-use Rattle.std.proofs.Common.{◌≡◌, ℕ, ◌+◌, ◌/◌, ◌^◌, ◌<◌, ◌==◌, min, Bool, true, false, cond, eqb, if◌then◌else◌, refl, ap, ◌∙◌}
+use Rattle.std.proofs.Common.{◌≡◌, ℕ, ◌+◌, ◌/◌, ◌^◌, ◌<◌, ◌==◌, min, Bool, true, false, cond, eqb, leb, if◌then◌else◌, refl, ap, ap₂, ◌∙◌}
 use Rattle.std.specs.Int.Bits.{bit_and}
 use Rattle.fio_message.specs.Bits.{is_set, bit_of}
 use Rattle.fio_message.proofs.Bits.{is_set_masked, is_set-low, is_set-shr}
-use Rattle.fio_input.specs.Runs.{next_length}
+use Rattle.fio_input.specs.Filtering.{in_force}
+use Rattle.fio_input.specs.Runs.{next_length, meets_filter}
 use lib.Lanes.{top}
 
 -- the lane that a compare gives, made 1 or 0
@@ -22,14 +23,25 @@ low-lane n i h = compared_bit_is _ ∙ ap bit_of (is_set_masked (bit_and n 255) 
 pub high-lane : (n i : ℕ) → compared_bit (eqb (bit_and (n / 256) (2 ^ i)) (2 ^ i)) ≡ bit_of (is_set n (8 + i))
 high-lane n i = compared_bit_is _ ∙ ap bit_of (is_set_masked (n / 256) i ∙ is_set-shr n 8 i)
 
--- a run's next length, where its level and the sample are lanes
-pub next_in_lane : (n : ℕ) (level sample : Bool) → (if bit_of level == bit_of sample then min (n + 1) 255 else 1) ≡ next_length n level sample
-next_in_lane n true true = refl
-next_in_lane n true false = refl
-next_in_lane n false true = refl
-next_in_lane n false false = refl
+same_lane : (n : ℕ) (level sample : Bool)
+    → (if bit_of level == bit_of sample then min (n + 1) 255 else 1) ≡ next_length n level sample
+same_lane n true true = refl
+same_lane n true false = refl
+same_lane n false true = refl
+same_lane n false false = refl
 
--- a lane is 1 exactly if its level is
-pub bit_of_is_one : (level : Bool) → (bit_of level == 1) ≡ level
-bit_of_is_one true = refl
-bit_of_is_one false = refl
+one_lane : (level : Bool) → (bit_of level == 1) ≡ level
+one_lane true = refl
+one_lane false = refl
+
+module _ (level_lane sample_lane : ℕ) (level sample : Bool)
+    (level_is : level_lane ≡ bit_of level) (sample_is : sample_lane ≡ bit_of sample) where
+  -- a run's next length, where its level and the sample are lanes
+  pub next_in_lanes : (n : ℕ) → (if level_lane == sample_lane then min (n + 1) 255 else 1) ≡ next_length n level sample
+  next_in_lanes n = ap₂ (λ l s. if l == s then min (n + 1) 255 else 1) level_is sample_is ∙ same_lane n level sample
+
+  -- whether a run meets its filter, where the sample is a lane
+  pub meets_in_lanes : (leading trailing length : ℕ)
+      → leb (in_force (if sample_lane == 1 then trailing else leading)) length ≡ meets_filter leading trailing sample length
+  meets_in_lanes leading trailing length =
+      ap (λ one. leb (in_force (if one then trailing else leading)) length) (ap (λ lane. lane == 1) sample_is ∙ one_lane sample)

@@ -5,6 +5,7 @@ pub mod Places
 pub mod Present
 pub mod RunLengths
 pub mod Scanned
+pub mod Stepped
 pub mod Ticks
 pub mod Times
 pub mod LastItem

@@ -1,7 +1,7 @@
 -- The counter through ticks and line syncs.
-use Rattle.std.proofs.Common.{◌≡◌, ℕ, ◌+◌, ◌%◌, ◌^◌, ◌≤◌, List, [], ◌∷◌, ◌++◌, Option, Some, None, refl, ap, ◌∙◌, arith}
+use Rattle.std.proofs.Common.{◌≡◌, ℕ, ◌+◌, ◌%◌, ◌^◌, ◌≤◌, List, [], ◌∷◌, ◌++◌, Option, Some, None, refl, ◌∙◌, arith}
 use Rattle.std.specs.Prelude.{unwrap_or}
-use Rattle.fio_input.specs.Counter.{CounterEvent, Tick, AskLoad, LineSync, asked_number, loaded_number, ticks_unless_loaded, ticks_after_load, counter, ticks_in, one_more_if_loaded, loads_in}
+use Rattle.fio_input.specs.Counter.{CounterEvent, Tick, AskLoad, LineSync, asked_number, ticks_unless_loaded, counter, ticks_in, one_more_if_loaded, loads_in}
 
 -- a line sync takes no load away
 loads_grow : (asked : Option ℕ) (loads : ℕ) → loads ≤ one_more_if_loaded asked loads
@@ -39,11 +39,11 @@ pub counter-append : (later history : List CounterEvent) → loads_in (later ++ 
     → counter (later ++ history) ≡ (counter history + ticks_in later) % 2 ^ 32
 counter-append [] history e = omega arith
 counter-append (Tick ∷ later) history e =
-    one_more_tick (loaded_number (later ++ history)) (ticks_after_load (later ++ history)) (counter history) (ticks_in later) (counter-append later history e)
+    one_more_tick _ _ (counter history) (ticks_in later) (counter-append later history e)
 counter-append (AskLoad number ∷ later) history e = counter-append later history e
 counter-append (LineSync ∷ later) history e =
     let asked = asked_number (later ++ history) in
     let loads = loads_in (later ++ history) in
     let grown = loads_in-append later history in
-    same_counter asked loads (loads_in history) (loaded_number (later ++ history)) (ticks_after_load (later ++ history)) grown e
+    same_counter asked loads (loads_in history) _ _ grown e
     ∙ counter-append later history (same_loads asked loads (loads_in history) grown e)

@@ -23,7 +23,8 @@ latest_are (suc n) level (sample ∷ older) = beq sample level && latest_are n l
 -- trailing one
 abbrev pub ends_run : Setting → List Bool → Bool
 ends_run setting samples =
-    latest_are (in_force setting.leading) false samples || latest_are (in_force setting.trailing) true samples
+    latest_are (in_force setting.leading) false samples
+    || latest_are (in_force setting.trailing) true samples
 
 -- the latest sample that ends such a run, sought from the newest sample on, and the base where
 -- there is none

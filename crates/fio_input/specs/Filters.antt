@@ -7,7 +7,8 @@ use Rattle.fio_input.specs.Runs.{run_length}
 use Rattle.fio_input.specs.FilterHistory.{FilterEvent, setting, samples, state, raw_levels}
 
 -- what the filters keep of one input
-pub record Keeps (filters : Filters) (input : ℕ) (setting : Setting) (samples : List Bool) (state : Bool) : Type 0 where
+pub record Keeps (filters : Filters) (input : ℕ)
+    (setting : Setting) (samples : List Bool) (state : Bool) : Type 0 where
   pub run_length : slice_index filters.run_lengths input ≡ min (run_length samples) 255
   pub leading : slice_index filters.leading input ≡ setting.leading
   pub trailing : slice_index filters.trailing input ≡ setting.trailing

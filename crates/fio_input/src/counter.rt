@@ -24,7 +24,8 @@ impl Counter {
 
     /// The milliseconds counted, modulo 2^32.
     pub fn now(&self) -> u32
-        ensures { (history : List CounterEvent) → StandsFor self.now history → result ≡ counter history }
+        ensures { (history : List CounterEvent) → StandsFor self.now history
+            → result ≡ counter history }
     {
         self.value
     }

@@ -129,7 +129,8 @@ impl Filters {
 
     /// The raw levels of the last scan, all ones before any (own profile): bit i is input i.
     pub fn raw(&self) -> u64
-        ensures { (history : List FilterEvent) → StandsFor self.now history → result ≡ raw_levels history }
+        ensures { (history : List FilterEvent) → StandsFor self.now history
+            → result ≡ raw_levels history }
     {
         self.raw
     }

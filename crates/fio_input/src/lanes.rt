@@ -44,8 +44,7 @@ pub(crate) fn step_runs(
 /// The lengths of 16 runs after one more sample: one more, held at 255, where the sample has the
 /// run's level, and else 1.
 fn next_lengths(lengths: u8x16, levels: u8x16, samples: u8x16) -> u8x16
-    ensures len { length result ≡ 16 }
-    ensures lanes { (lane : ℕ) → lane < 16
+    ensures { (lane : ℕ) → lane < 16
         → slice_index result lane
         ≡ (if slice_index levels lane == slice_index samples lane
         then min (slice_index lengths lane + 1) 255 else 1) }
@@ -58,8 +57,7 @@ fn next_lengths(lengths: u8x16, levels: u8x16, samples: u8x16) -> u8x16
 
 /// The filters of 16 inputs that their samples ask for, 0 as 1.
 fn filters_in_force(leading: u8x16, trailing: u8x16, samples: u8x16) -> u8x16
-    ensures len { length result ≡ 16 }
-    ensures lanes { (lane : ℕ) → lane < 16
+    ensures { (lane : ℕ) → lane < 16
         → slice_index result lane
         ≡ in_force (if slice_index samples lane == 1
         then slice_index trailing lane else slice_index leading lane) }
@@ -89,8 +87,7 @@ fn levels_from(levels: u64, first: usize) -> u64
 /// The levels of 16 inputs, each as a lane of 0 or 1.
 fn lanes_of(levels: u64) -> u8x16
     requires { levels < 65536 }
-    ensures len { length result ≡ 16 }
-    ensures lanes { (lane : ℕ) → lane < 16
+    ensures { (lane : ℕ) → lane < 16
         → slice_index result lane ≡ bit_of (is_set levels lane) }
 {
     let low = (levels & 0xff) as u8;

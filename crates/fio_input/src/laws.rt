@@ -1,4 +1,5 @@
-//! Laws of the definitions that the contracts cite: each function states one in its contract, and does nothing.
+//! Laws of the definitions that the contracts cite: each function states one in its contract, and
+//! does nothing.
 ghost use Rattle.std.specs.Prelude.{◌≡◌, ◌≢◌, ◌+◌, ◌%◌, ◌^◌, ℕ, ◌<◌, ◌↔◌, Bool, true, List, ◌∷◌, ◌++◌, length, take, drop, replicate, slice_index_or, if◌then◌else◌};
 ghost use Rattle.fio_message.specs.declared.fields.InputItem.{InputItem as Item};
 ghost use Rattle.fio_input.specs.Counter.{CounterEvent, counter, ticks_in, loads_in};

@@ -2,11 +2,14 @@
 use Rattle.std.specs.Prelude.{ℕ, ◌+◌, ◌==◌, ◌&&◌, nat_le, nat_lt, Bool, false, List, [], ◌∷◌, length, Option, Some, None, Result, if◌then◌else◌}
 use Rattle.std.specs.Option.{ok_or}
 use Rattle.fio_message.specs.declared.commands.Command.{Command}
+use Rattle.fio_message.specs.declared.commands.Command.TheVariants.{Poll}
 use Rattle.fio_message.specs.declared.answers.Answer.{Answer}
+use Rattle.fio_message.specs.declared.answers.Answer.TheVariants as answers
 use Rattle.fio_message.specs.declared.faults.DecodeError.{DecodeError}
 use Rattle.fio_message.specs.declared.faults.DecodeError.TheVariants.{Empty, TooLong, UnknownType, WrongLength}
 use Rattle.fio_message.specs.Commands.{command_length}
 use Rattle.fio_message.specs.Answers.{answer_length}
+use Rattle.fio_message.specs.Blocks.{Block}
 use Rattle.fio_message.specs.Reading.{command_at, answer_at}
 
 -- whether so many octets are as many as are needed, where there is a message of that type
@@ -34,6 +37,25 @@ answer_in octets = message_in answer_length answer_at octets
 abbrev pub mismatch : Option ℕ → ℕ → ℕ → DecodeError
 mismatch None code got = UnknownType code
 mismatch (Some needed) code got = WrongLength needed got
+
+-- the block number that a command polls for, if it is a poll
+abbrev pub polled_number : Option Command → Option ℕ
+polled_number (Some (Poll number)) = Some number
+polled_number other = None
+
+-- the block number that octets poll for, if they spell a poll
+abbrev pub poll_in : List ℕ → Option ℕ
+poll_in octets = polled_number (command_in octets)
+
+-- the block that an answer is, if it is a block answer
+abbrev pub answered_block : Option Answer → Option Block
+answered_block (Some (answers.Block number entries status stamp)) =
+    Some (record { number = number; entries = entries.items; status = status; stamp = stamp })
+answered_block other = None
+
+-- the block that octets spell, if they spell a block answer
+abbrev pub block_in : List ℕ → Option Block
+block_in octets = answered_block (answer_in octets)
 
 -- the fault of octets that spell no message, where a message of their type and count needs so many
 abbrev pub fault_in : Option ℕ → List ℕ → DecodeError

@@ -1,3 +1,13 @@
+pub mod Link
+pub mod Frames
+pub mod Pieces
+pub mod Headline
+pub mod Claims
+pub mod Rounds
+pub mod Rising
+pub mod Sound
+pub mod Ends
+pub mod Worlds
 pub mod Lines
 pub mod Words
 pub mod Hexadecimal

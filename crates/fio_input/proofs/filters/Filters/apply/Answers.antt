@@ -9,7 +9,8 @@ returns-then-item c history items present s =
     let item = c.args.item in
     rw c.get-input.ensures.same (
     item_carries old item _ items history (omega arith) (omega arith) (omega arith) (omega arith) (omega arith) (omega arith)
-    (is_set-set_same old.ignored item.input (omega arith) ∙ sym c.if-item.true) (λ i h other. is_set-set_other old.ignored item.input (omega arith) i other) present s)
+    (is_set-set_same old.ignored item.input (omega arith) ∙ sym c.if-item.true)
+    (λ i h other. is_set-set_other old.ignored item.input (omega arith) i other) present s)
 
 pub returns-else-item : goal.returns-else-item
 returns-else-item c history items present s =
@@ -17,4 +18,5 @@ returns-else-item c history items present s =
     let item = c.args.item in
     rw c.get-input.ensures.same (
     item_carries old item _ items history (omega arith) (omega arith) (omega arith) (omega arith) (omega arith) (omega arith)
-    (is_set-clear_same old.ignored item.input (omega arith) ∙ sym c.if-item.false) (λ i h other. is_set-clear_other old.ignored item.input (omega arith) i h other) present s)
+    (is_set-clear_same old.ignored item.input (omega arith) ∙ sym c.if-item.false)
+    (λ i h other. is_set-clear_other old.ignored item.input (omega arith) i h other) present s)

@@ -1,4 +1,4 @@
-use Rattle.std.proofs.Common.{◌∷◌, [], take, true, false, refl, sym, ◌∙◌, subst, arith}
+use Rattle.std.proofs.Common.{◌∷◌, [], take, sym, ◌∙◌, refl, subst, arith}
 use Rattle.std.proofs.lemmas.List.{take_more, take_all}
 use Rattle.fio_input.specs.FilterHistory.{Configure}
 use Rattle.fio_input.specs.Filters.{StandsFor}
@@ -11,8 +11,9 @@ loop-item-init c history s = StandsFor-unapplied c.args.self.now [] history refl
 
 pub apply-requires : goal.apply-requires
 apply-requires c =
-    let all = all_present-none c.args.items.now (sym c.first_bad_item.ensures ∙ c.in_default.is) in
-    rw c.item-item.is (all_present-at c.args.items.now c.loop-item.item-index c.item-item.result c.loop-item-test.true all)
+    let items = c.args.items.now in
+    let all = all_present-none items (sym c.first_bad_item.ensures ∙ c.in_default.is) in
+    rw c.item-item.is (all_present-at items c.loop-item.item-index c.item-item.result c.loop-item-test.true all)
 
 pub loop-item-preserved : goal.loop-item-preserved
 loop-item-preserved c history s =
@@ -24,15 +25,18 @@ loop-item-preserved c history s =
 
 pub returns-clause-carried : goal.returns-clause-carried
 returns-clause-carried c history s =
-    let items = c.args.items.now in
-    subst (λ front. StandsFor c.loop-item.self (Configure front ∷ history)) (take_all c.loop-item.item-index items (omega arith)) (c.loop-item.invariant history s)
+    subst (λ front. StandsFor c.loop-item.self (Configure front ∷ history))
+    (take_all c.loop-item.item-index c.args.items.now (omega arith)) (c.loop-item.invariant history s)
 
 pub returns-clause-ok : goal.returns-clause-ok
 returns-clause-ok c = sym (all_present-none c.args.items.now (sym c.first_bad_item.ensures ∙ c.in_default.is))
 
 pub returns-in-Some-clause-carried : goal.returns-in-Some-clause-carried
 returns-in-Some-clause-carried c history s =
-    StandsFor-unapplied c.args.self.now c.args.items.now history (applied_items-some c.args.items.now c.in-Some.place (sym c.first_bad_item.ensures ∙ c.in-Some.is)) s
+    let items = c.args.items.now in
+    let found = sym c.first_bad_item.ensures ∙ c.in-Some.is in
+    StandsFor-unapplied c.args.self.now items history (applied_items-some items c.in-Some.place found) s
 
 pub returns-in-Some-clause-ok : goal.returns-in-Some-clause-ok
-returns-in-Some-clause-ok c = sym (all_present-some c.args.items.now c.in-Some.place (sym c.first_bad_item.ensures ∙ c.in-Some.is))
+returns-in-Some-clause-ok c =
+    sym (all_present-some c.args.items.now c.in-Some.place (sym c.first_bad_item.ensures ∙ c.in-Some.is))

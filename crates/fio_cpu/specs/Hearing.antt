@@ -1,0 +1,41 @@
+-- What the CPU makes of octets that it hears.
+use Rattle.std.specs.Prelude.{◌≡◌, ◌≢◌, ℕ, ◌+◌, ◌%◌, ◌==◌, [], ◌++◌, length, Option, Some, None, Result, Ok, Err, if◌then◌else◌}
+use Rattle.fio_message.specs.declared.answers.Answer.{Answer}
+use Rattle.fio_message.specs.declared.answers.Answer.TheVariants as answers
+use Rattle.fio_message.specs.declared.faults.DecodeError.{DecodeError}
+use Rattle.fio_message.specs.Answers.{answer_code}
+use Rattle.fio_message.specs.Blocks.{Block as BlockOf}
+use Rattle.fio_cpu.specs.declared.hearing.Heard.{Heard}
+use Rattle.fio_cpu.specs.declared.hearing.Heard.TheVariants.{Unreadable, Other, Stale, Block}
+use Rattle.fio_cpu.specs.Poller.{Polling}
+use Rattle.fio_cpu.specs.Record.{recorded}
+
+-- a block answer is taken if it has the CPU's number, and is stale otherwise; any other answer is
+-- only named
+abbrev pub heard_answer : ℕ → Answer → Heard
+heard_answer number (answers.Block block entries status stamp) =
+    if block == number then Block (length entries.items) status else Stale block
+heard_answer number other = Other (answer_code other)
+
+-- what a CPU with this number tells of octets that are decoded so
+abbrev pub heard_as : ℕ → Result Answer DecodeError → Heard
+heard_as number (Err fault) = Unreadable fault
+heard_as number (Ok answer) = heard_answer number answer
+
+-- the CPU after a block answer: where it has the CPU's number it is recorded, and the number is the
+-- next modulo 256
+abbrev pub after_block : Polling → BlockOf → Polling
+after_block cpu block =
+    if block.number == cpu.number
+    then record { number = (cpu.number + 1) % 256; items = cpu.items ++ recorded block }
+    else cpu
+
+-- the CPU after octets that spell this block, or none: whatever is no block answer changes nothing
+abbrev pub after_hearing : Polling → Option BlockOf → Polling
+after_hearing cpu None = cpu
+after_hearing cpu (Some block) = after_block cpu block
+
+-- hearing octets that spell this block, or none, adds to the record
+abbrev pub AddsItems : Polling → Option BlockOf → Type 0
+AddsItems cpu None = ⊥
+AddsItems cpu (Some block) = (block.number ≡ cpu.number) × (recorded block ≢ [])

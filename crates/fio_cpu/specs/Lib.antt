@@ -1,0 +1,3 @@
+pub mod Poller
+pub mod Record
+pub mod Hearing

@@ -1,0 +1,122 @@
+//! The poller: the CPU's number and its record.
+ghost use Rattle.std.specs.Prelude.{◌≡◌, ℕ, [], OnOk, OnErr, IfOk, Some, None};
+ghost use Rattle.fio_message.specs.Commands.{SpellsCommand};
+ghost use Rattle.fio_message.specs.Blocks.{block_answer};
+ghost use Rattle.fio_message.specs.Decoding.{decoded_answer, block_in};
+ghost use Rattle.fio_message.specs.declared.commands.Command.TheVariants as commands;
+ghost use Rattle.fio_cpu.specs.Hearing.{heard_answer, heard_as, after_block, after_hearing, AddsItems};
+
+use crate::recording::record_block;
+use crate::{Heard, Item};
+use fio_message::{BlockView, Command, Frame, Memory, decode_answer, encode_command, read_block};
+use std::alloc::Global;
+use std::marker::Model;
+
+/// The CPU's end: the block number that its next poll carries, and the record of all that it has
+/// taken.
+#[derive(Drop)]
+pub struct Poller {
+    number: u8,
+    items: Vec<Item>,
+}
+
+impl Model for Poller {
+    ghost use Rattle.fio_cpu.specs.Poller.{Polling};
+
+    ghost Value = { Polling };
+
+    ghost view = { λ poller. record { number = poller.number; items = poller.items.items } };
+}
+
+impl Poller {
+    /// A poller whose record is empty and whose first block number is this one. Takes no memory.
+    pub fn new(alloc: Global, first: u8) -> Poller
+        ensures { result ≡ record { number = first; items = [] } }
+    {
+        Poller {
+            number: first,
+            items: Vec::new(alloc),
+        }
+    }
+
+    /// The block number of the next poll, from 0 to 255. It rises by one modulo 256 with each block
+    /// that is taken, and with nothing else (own profile).
+    pub fn number(&self) -> u8
+        ensures { result ≡ self.now.number }
+    {
+        self.number
+    }
+
+    /// A poll with the present block number (TEES 2009, command 54). Nothing changes: until an
+    /// answer with this number is taken each poll carries the same one (own profile).
+    pub fn poll(&self) -> Frame
+        ensures { SpellsCommand (commands.Poll self.now.number) result.items }
+    {
+        encode_command(&Command::Poll { block: self.number })
+    }
+
+    /// The record: all that was taken, in order.
+    pub fn items(&self) -> &[Item]
+        ensures { result.now ≡ self.now.items }
+    {
+        self.items.as_slice()
+    }
+
+    /// Hears the octets of a frame. A block answer (TEES 2009, answer 182) with the present number
+    /// is taken whole; anything else is told and changes nothing (own profile).
+    ///
+    /// Taking a block appends one gap mark to the record if F is set, then all its entries in
+    /// order, each with its time in milliseconds, and raises the number by one modulo 256.
+    ///
+    /// # Errors
+    /// `Memory` where the record had to grow and no room was given: only for a block answer with
+    /// the present number that has F or entries. Record and number are then as before, so the same
+    /// octets may be heard again.
+    pub fn hear(&mut self, octets: &[u8]) -> Result<Heard, Memory>
+        ensures heard { IfOk result (λ heard.
+            heard ≡ heard_as self.old.number (decoded_answer octets.now)) }
+        ensures taken { OnOk result (self.new ≡ after_hearing self.old (block_in octets.now)) }
+        ensures unchanged { OnErr result (self.new ≡ self.old) }
+        ensures wanted { OnErr result (AddsItems self.old (block_in octets.now)) }
+    {
+        match read_block(octets) {
+            Ok(block) => self.hear_block(&block),
+            Err(_) => Ok(hear_other(octets)),
+        }
+    }
+
+    /// Takes a block with the present number. Any other block is stale.
+    fn hear_block(&mut self, block: &BlockView<'_>) -> Result<Heard, Memory>
+        ensures heard { IfOk result (λ heard.
+            heard ≡ heard_answer self.old.number (block_answer block.now)) }
+        ensures taken { OnOk result (self.new ≡ after_block self.old block.now) }
+        ensures unchanged { OnErr result (self.new ≡ self.old) }
+        ensures wanted { OnErr result (AddsItems self.old (Some block.now)) }
+    {
+        let number = block.block();
+        if number != self.number {
+            return Ok(Heard::Stale { block: number });
+        }
+        record_block(&mut self.items, block)?;
+        self.number = number.wrapping_add(1);
+        Ok(Heard::Block {
+            entries: block.len(),
+            status: block.status(),
+        })
+    }
+}
+
+/// What octets are that spell no block answer: another answer, or unreadable, whatever the CPU's
+/// number is. It stands apart since an answer as a value takes a kilobyte.
+#[inline(never)]
+fn hear_other(octets: &[u8]) -> Heard
+    requires { block_in octets.now ≡ None }
+    ensures { (number : ℕ) → result ≡ heard_as number (decoded_answer octets.now) }
+{
+    match decode_answer(octets) {
+        Ok(answer) => Heard::Other {
+            code: answer.code(),
+        },
+        Err(fault) => Heard::Unreadable(fault),
+    }
+}

@@ -1,0 +1,60 @@
+//! Blocks as items of the record.
+ghost use Rattle.std.specs.Prelude.{◌≡◌, ◌≢◌, ◌+◌, ◌≤◌, [], ◌++◌, length, map, vec_len, OnOk, OnErr};
+ghost use Rattle.std.specs.Vec.{vec_capacity};
+ghost use Rattle.fio_message.specs.Status.{says_lost};
+ghost use Rattle.fio_cpu.specs.Record.{item_of, recorded};
+
+use crate::Item;
+use fio_input::widen;
+use fio_message::{BlockView, Entry, Memory};
+
+/// F in the status of a block answer.
+const LOST: u8 = 4;
+
+/// Whether F is set: entries that waited directly before the block were pushed out.
+fn says_lost(status: u8) -> bool
+    ensures { result ≡ says_lost status }
+{
+    status & LOST == LOST
+}
+
+/// An entry of an answer with this stamp, as an item of the record.
+fn item_of(stamp: u32, entry: Entry) -> Item
+    ensures { result ≡ item_of stamp entry }
+{
+    Item::Entry {
+        input: entry.input,
+        level: entry.level,
+        stamp: entry.stamp,
+        wide: widen(stamp, entry.stamp),
+    }
+}
+
+/// Appends the entries of a block, where there is room for them.
+fn record_entries(items: &mut Vec<Item>, block: &BlockView<'_>)
+    requires { vec_len items.old + length block.now.entries ≤ vec_capacity items.old }
+    ensures { items.new.items ≡ items.old.items ++ map (item_of block.now.stamp) block.now.entries }
+{
+    let stamp = block.stamp();
+    for entry in block.entries() {
+        items.push(item_of(stamp, entry)).unwrap();
+    }
+}
+
+/// Appends what a block adds to the record: a gap mark if F is set, then its entries.
+///
+/// Room for all of it is asked for once, before anything is appended. A block that adds nothing
+/// asks for none.
+pub(crate) fn record_block(items: &mut Vec<Item>, block: &BlockView<'_>) -> Result<(), Memory>
+    ensures recorded { OnOk result (items.new.items ≡ items.old.items ++ recorded block.now) }
+    ensures unchanged { OnErr result (items.new.items ≡ items.old.items) }
+    ensures wanted { OnErr result (recorded block.now ≢ []) }
+{
+    let lost = says_lost(block.status());
+    items.reserve(usize::from(lost) + block.len())?;
+    if lost {
+        items.push(Item::Gap).unwrap();
+    }
+    record_entries(items, block);
+    Ok(())
+}

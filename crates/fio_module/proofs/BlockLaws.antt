@@ -1,0 +1,107 @@
+-- Blocks follow one another through the transition log.
+use Rattle.std.proofs.Common.{◌≡◌, ℕ, ◌+◌, ◌-◌, ◌<◌, ◌≤◌, max, Bool, true, false, List, [], ◌∷◌, ◌++◌, length, take, drop, refl, ap, sym, ◌∙◌, arith, length-append, if◌then◌else◌}
+use Rattle.std.specs.Prelude.{nat_lt}
+use Rattle.std.proofs.lemmas.List.{take-append-le, drop-append-le, length-drop}
+use Rattle.std.proofs.lemmas.Bool.Decides.{nat_tests}
+use Rattle.fio_message.specs.declared.commands.Command.TheVariants.{Poll}
+use Rattle.fio_module.specs.Settings.{Settings}
+use Rattle.fio_module.specs.Life.{Life, Scanned, Commanded}
+use Rattle.fio_module.specs.Log.{Transition, log_of, transitions_below}
+use Rattle.fio_module.specs.Blocks.{MadeBlock, latest_poll, is_new, blocks_of, newest_end, next_block, last_end, end_of, start_after, count_from}
+use Rattle.fio_module.specs.Laws.{BlocksEndWithin, IsPartOf, FollowOneAnother, BlocksFollow, LossesLeaveMore}
+use Rattle.fio_module.proofs.Ends.{last_end-append, end-within}
+
+end_within-if : (new : Bool) (len : ℕ) (blocks : List MadeBlock) (block : MadeBlock)
+    → end_of blocks ≤ len → block.end ≤ len → end_of (if new then blocks ++ block ∷ [] else blocks) ≤ len
+end_within-if true len blocks block before within = rw last_end-append within
+end_within-if false len blocks block before within = before
+
+-- the newest block ends within the transition log
+pub blocks_end_within : BlocksEndWithin
+blocks_end_within settings [] = omega arith
+blocks_end_within settings (Commanded (Poll number) ∷ life) =
+    let before = blocks_end_within settings life in
+    end_within-if (is_new (latest_poll life) number) (length (log_of life)) (blocks_of settings life)
+    (next_block settings life) before
+    (end-within (newest_end settings life) (length (log_of life)) settings.waiting settings.per_block before)
+blocks_end_within settings (Scanned raw ∷ life) =
+    let before = blocks_end_within settings life in
+    omega (arith, length-append (log_of life) (transitions_below 64 raw life))
+blocks_end_within settings (other ∷ life) = blocks_end_within settings life
+
+-- a part of a log is a part of a longer one
+part-longer : (log more : List Transition) (per_block : ℕ) (block : MadeBlock)
+    → IsPartOf log per_block block → IsPartOf (log ++ more) per_block block
+part-longer log more per_block block part =
+    let inside : block.start ≤ length log = omega (arith, part.ends, part.within) in
+    let size = block.end - block.start in
+    let room : size ≤ length (drop block.start log) =
+    omega (arith, part.within, length-drop block.start log) in
+    record {
+      forward = part.forward;
+      ends = part.ends;
+      few = part.few;
+      within = omega (arith, part.within, length-append log more);
+      transitions =
+          part.transitions
+          ∙ sym (take-append-le size (drop block.start log) more room)
+          ∙ ap (take size) (sym (drop-append-le block.start log more inside));
+      lost = part.lost;
+    }
+
+follow-longer : (log more : List Transition) (per_block before : ℕ) (blocks : List MadeBlock)
+    → FollowOneAnother log per_block before blocks → FollowOneAnother (log ++ more) per_block before blocks
+follow-longer log more per_block before [] follow = tt
+follow-longer log more per_block before (block ∷ blocks) follow =
+    (follow.0, part-longer log more per_block block follow.1, follow-longer log more per_block block.end blocks follow.2)
+
+follow-append : (log : List Transition) (per_block before : ℕ) (blocks : List MadeBlock) (block : MadeBlock)
+    → FollowOneAnother log per_block before blocks → block.before ≡ last_end before blocks
+    → IsPartOf log per_block block → FollowOneAnother log per_block before (blocks ++ block ∷ [])
+follow-append log per_block before [] block follow begins part = (begins, part, tt)
+follow-append log per_block before (first ∷ blocks) block follow begins part =
+    (follow.0, follow.1, follow-append log per_block first.end blocks block follow.2 begins part)
+
+follow-if : (new : Bool) (log : List Transition) (per_block : ℕ) (blocks : List MadeBlock) (block : MadeBlock)
+    → FollowOneAnother log per_block 0 blocks → block.before ≡ end_of blocks → IsPartOf log per_block block
+    → FollowOneAnother log per_block 0 (if new then blocks ++ block ∷ [] else blocks)
+follow-if true log per_block blocks block follow begins part = follow-append log per_block 0 blocks block follow begins part
+follow-if false log per_block blocks block follow begins part = follow
+
+-- the block that a new poll makes is a part of the transition log
+pub next_is_part : (settings : Settings) (life : Life)
+    → IsPartOf (log_of life) settings.per_block (next_block settings life)
+next_is_part settings life =
+    let log = log_of life in
+    let within = blocks_end_within settings life in
+    let start = start_after settings log (newest_end settings life) in
+    let count = count_from settings log start in
+    let size : start + count - start ≡ count = omega arith in
+    record {
+      forward = omega arith;
+      ends = omega arith;
+      few = omega arith;
+      within = omega arith;
+      transitions = ap (λ n. take n (drop start log)) (sym size);
+      lost = refl;
+    }
+
+-- the blocks follow one another through the present transition log
+pub blocks_follow : BlocksFollow
+blocks_follow settings [] = tt
+blocks_follow settings (Commanded (Poll number) ∷ life) =
+    follow-if (is_new (latest_poll life) number) (log_of life) settings.per_block (blocks_of settings life)
+    (next_block settings life) (blocks_follow settings life) refl (next_is_part settings life)
+blocks_follow settings (Scanned raw ∷ life) =
+    follow-longer (log_of life) (transitions_below 64 raw life) settings.per_block 0 (blocks_of settings life)
+    (blocks_follow settings life)
+blocks_follow settings (other ∷ life) = blocks_follow settings life
+
+lost_then_more : (before len limit count : ℕ) → count < limit → nat_lt before (max before (len - limit)) ≡ true
+    → nat_lt count (len - max before (len - limit)) ≡ true
+lost_then_more before len limit count fewer lost = grind (arith, nat_tests)
+
+-- a block after a loss leaves some waiting
+pub losses_leave_more : LossesLeaveMore
+losses_leave_more settings life fewer lost =
+    lost_then_more (newest_end settings life) (length (log_of life)) settings.waiting settings.per_block fewer lost

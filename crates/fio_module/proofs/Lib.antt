@@ -1,0 +1,11 @@
+pub mod Ends
+pub mod BlockLaws
+pub mod WaitingLaws
+pub mod SendingLaws
+pub mod LifeLaws
+pub mod Words
+pub mod Scans
+pub mod Fronts
+pub mod Marks
+pub mod NewBlocks
+pub mod Polls

@@ -1,0 +1,94 @@
+-- The blocks of a life, by places in its transition log.
+use Rattle.std.specs.Prelude.{ℕ, ◌+◌, ◌-◌, ◌==◌, Bool, true, not, List, [], ◌∷◌, ◌++◌, length, take, drop, min, max, nat_lt, Option, Some, None, if◌then◌else◌}
+use Rattle.fio_message.specs.declared.commands.Command.TheVariants.{Poll}
+use Rattle.fio_module.specs.Settings.{Settings}
+use Rattle.fio_module.specs.Life.{Commanded, Life, counter_of, scans_of, loads_of}
+use Rattle.fio_module.specs.Log.{Transition, log_of}
+
+-- the number of the poll received last
+abbrev pub latest_poll : Life → Option ℕ
+latest_poll [] = None
+latest_poll (Commanded (Poll number) ∷ life) = Some number
+latest_poll (other ∷ life) = latest_poll life
+
+-- whether a poll is new after the poll received before it: it is the first one, or its number differs
+abbrev pub is_new : Option ℕ → ℕ → Bool
+is_new None number = true
+is_new (Some before) number = not (before == number)
+
+-- a block that was made, and where it lies in the transition log
+pub record MadeBlock : Type 0 where
+  -- where the block before it ended, 0 for the first
+  pub before : ℕ
+  -- the places from which and up to which its transitions stand
+  pub start : ℕ
+  pub end : ℕ
+  pub transitions : List Transition
+  -- F: some entries between `before` and `start` were pushed out
+  pub lost : Bool
+  -- C: more waited than a block takes
+  pub more : Bool
+  -- the counter when it was made, and how many scans and loads of the counter there had been
+  pub stamp : ℕ
+  pub scans : ℕ
+  pub loads : ℕ
+
+-- where the waiting entries begin, if the newest block ended at `before`
+abbrev pub start_after : Settings → List Transition → ℕ → ℕ
+start_after settings log before = max before (length log - settings.waiting)
+
+-- how many of them a block takes
+abbrev pub count_from : Settings → List Transition → ℕ → ℕ
+count_from settings log start = min settings.per_block (length log - start)
+
+-- the block that a new poll makes after a life, if the newest block ended at `before`
+abbrev pub block_after : Settings → Life → ℕ → MadeBlock
+block_after settings life before =
+    let log = log_of life in
+    let start = start_after settings log before in
+    let count = count_from settings log start in
+    record {
+      before = before;
+      start = start;
+      end = start + count;
+      transitions = take count (drop start log);
+      lost = nat_lt before start;
+      more = nat_lt settings.per_block (length log - start);
+      stamp = counter_of life;
+      scans = scans_of life;
+      loads = loads_of life;
+    }
+
+-- where the last of these blocks ends, and this place if there is none
+abbrev pub last_end : ℕ → List MadeBlock → ℕ
+last_end place [] = place
+last_end place (block ∷ blocks) = last_end block.end blocks
+
+-- where the last of these blocks ends, 0 if there is none
+abbrev pub end_of : List MadeBlock → ℕ
+end_of blocks = last_end 0 blocks
+
+-- the blocks of a life, oldest first: each new poll makes one, from the transition log as it then is
+abbrev pub blocks_of : Settings → Life → List MadeBlock
+blocks_of settings [] = []
+blocks_of settings (Commanded (Poll number) ∷ life) =
+    if is_new (latest_poll life) number
+    then blocks_of settings life ++ block_after settings life (end_of (blocks_of settings life)) ∷ []
+    else blocks_of settings life
+blocks_of settings (other ∷ life) = blocks_of settings life
+
+-- where the newest block ends
+abbrev pub newest_end : Settings → Life → ℕ
+newest_end settings life = end_of (blocks_of settings life)
+
+-- the block that a new poll makes next
+abbrev pub next_block : Settings → Life → MadeBlock
+next_block settings life = block_after settings life (newest_end settings life)
+
+-- where the waiting entries begin
+abbrev pub waiting_from : Settings → Life → ℕ
+waiting_from settings life = start_after settings (log_of life) (newest_end settings life)
+
+-- the transitions that wait
+abbrev pub waiting_of : Settings → Life → List Transition
+waiting_of settings life = drop (waiting_from settings life) (log_of life)

@@ -1,0 +1,12 @@
+pub mod Limits
+pub mod Settings
+pub mod Life
+pub mod Log
+pub mod Blocks
+pub mod Sendings
+pub mod Flags
+pub mod Replies
+pub mod Laws
+pub mod Waiting
+pub mod Sent
+pub mod Module

@@ -1,0 +1,70 @@
+-- What has happened to a module. Histories and lives stand newest first.
+use Rattle.std.specs.Prelude.{ℕ, List, [], ◌∷◌, Option, Some, None}
+use Rattle.fio_message.specs.declared.commands.Command.{Command}
+use Rattle.fio_message.specs.declared.commands.Command.TheVariants.{LoadCounter, ConfigureInputs}
+use Rattle.fio_message.specs.Decoding.{command_in}
+use Rattle.fio_input.specs.Counter as counting
+use Rattle.fio_input.specs.FilterHistory as filtering
+
+-- what reaches a module from outside: a scan with the raw levels of all inputs, LINESYNC going from 0 to 1,
+-- status flags that are raised, the octets of a frame, a restart
+pub data Event : Type 0 where
+  Scan : (raw : ℕ) → Event
+  LineSync : Event
+  Raise : (mask : ℕ) → Event
+  Received : (octets : List ℕ) → Event
+  Restart : Event
+
+abbrev pub History : Type 0
+History = List Event
+
+-- what happened to it: a frame is there as the command that it spells
+pub data Occurrence : Type 0 where
+  Scanned : (raw : ℕ) → Occurrence
+  LineSynced : Occurrence
+  Raised : (mask : ℕ) → Occurrence
+  Commanded : (command : Command) → Occurrence
+
+-- what has happened since the module's latest start
+abbrev pub Life : Type 0
+Life = List Occurrence
+
+-- octets that spell no command change nothing
+abbrev pub with_command : Option Command → Life → Life
+with_command None life = life
+with_command (Some command) life = Commanded command ∷ life
+
+-- a restart begins a new life
+abbrev pub life_of : History → Life
+life_of [] = []
+life_of (Scan raw ∷ history) = Scanned raw ∷ life_of history
+life_of (LineSync ∷ history) = LineSynced ∷ life_of history
+life_of (Raise mask ∷ history) = Raised mask ∷ life_of history
+life_of (Received octets ∷ history) = with_command (command_in octets) (life_of history)
+life_of (Restart ∷ history) = []
+
+-- what of a life reaches the counter: each scan ticks it
+abbrev pub counter_events : Life → List counting.CounterEvent
+counter_events [] = []
+counter_events (Scanned raw ∷ life) = counting.Tick ∷ counter_events life
+counter_events (LineSynced ∷ life) = counting.LineSync ∷ counter_events life
+counter_events (Commanded (LoadCounter load) ∷ life) = counting.AskLoad load ∷ counter_events life
+counter_events (other ∷ life) = counter_events life
+
+-- the counter after a life
+abbrev pub counter_of : Life → ℕ
+counter_of life = counting.counter (counter_events life)
+
+-- how many scans a life has, and how many line syncs that loaded the counter
+abbrev pub scans_of : Life → ℕ
+scans_of life = counting.ticks_in (counter_events life)
+
+abbrev pub loads_of : Life → ℕ
+loads_of life = counting.loads_in (counter_events life)
+
+-- what of a life reaches the filters
+abbrev pub filter_events : Life → List filtering.FilterEvent
+filter_events [] = []
+filter_events (Scanned raw ∷ life) = filtering.Scan raw ∷ filter_events life
+filter_events (Commanded (ConfigureInputs items) ∷ life) = filtering.Configure items.items ∷ filter_events life
+filter_events (other ∷ life) = filter_events life

@@ -1,0 +1,56 @@
+-- The reply that octets get after a history.
+use Rattle.std.specs.Prelude.{◌≡◌, ℕ, List, [], ◌∷◌, Option, Some, None, option_map, is_some, if◌then◌else◌}
+use Rattle.std.specs.Int.{w32, to_be_bytes}
+use Rattle.arrayvec.specs.ArrayVec.{ArrayVec}
+use Rattle.fio_message.specs.declared.answers.Answer.{Answer}
+use Rattle.fio_message.specs.declared.answers.Answer.TheVariants as answers
+use Rattle.fio_message.specs.declared.answers.OtherAnswer.TheVariants as other_answers
+use Rattle.fio_message.specs.declared.commands.Command.{Command}
+use Rattle.fio_message.specs.declared.commands.Command.TheVariants.{Status, LoadCounter, ConfigureInputs, Poll, Watchdog, RawInputs, FilteredInputs, SetOutputs, Identify, Other}
+use Rattle.fio_message.specs.Answers.{SpellsAnswer}
+use Rattle.fio_message.specs.Decoding.{command_in}
+use Rattle.fio_input.specs.FilterHistory.{all_present, raw_levels, state}
+use Rattle.fio_module.specs.Settings.{Settings}
+use Rattle.fio_module.specs.Life.{History, Commanded, Life, life_of, counter_of, filter_events}
+use Rattle.fio_module.specs.Sendings.{answer_of, latest_sending}
+use Rattle.fio_module.specs.Flags.{flags_of, watchdog_of, word_of}
+
+-- the answer to a command after a life. Where a stamp stands it is the counter after that life
+abbrev pub answer_to : Settings → Life → Command → Option Answer
+-- the flags that are left after the clearing; both error counts stay 0
+answer_to settings life (Status clear) =
+    Some (answers.Status (flags_of (Commanded (Status clear) ∷ life)) 0 0 (counter_of life))
+answer_to settings life (LoadCounter load) = Some (answers.LoadCounter 0)
+-- 0 where the configuration is applied, 1 where an item names an input above 63
+answer_to settings life (ConfigureInputs items) =
+    Some (answers.ConfigureInputs (if all_present items.items then 0 else 1))
+answer_to settings life RawInputs =
+    Some (answers.RawInputs (raw_levels (filter_events life)) (counter_of life))
+answer_to settings life FilteredInputs =
+    Some (answers.FilteredInputs (word_of 64 (λ input. state input (filter_events life))) (counter_of life))
+answer_to settings life (Poll number) =
+    option_map answer_of (latest_sending settings (Commanded (Poll number) ∷ life))
+-- the octet 0 and the four octets of the stamp
+answer_to settings life (SetOutputs levels controls) =
+    Some (answers.Other other_answers.SetOutputs (record { items = 0 ∷ to_be_bytes w32 (counter_of life) }))
+-- 1 where the watchdog had been set before
+answer_to settings life (Watchdog timeout) = Some (answers.Watchdog (if is_some (watchdog_of life) then 1 else 0))
+answer_to settings life Identify =
+    Some (answers.Other other_answers.Identify (record { items = settings.id ∷ [] }))
+-- 56, 57 and 59 get none
+answer_to settings life (Other kind body) = None
+
+-- octets that spell no command get no answer
+abbrev pub answer_if : Settings → Life → Option Command → Option Answer
+answer_if settings life None = None
+answer_if settings life (Some command) = answer_to settings life command
+
+-- the reply to octets after a history
+abbrev pub reply_to : Settings → History → List ℕ → Option Answer
+reply_to settings history octets = answer_if settings (life_of history) (command_in octets)
+
+-- the frame, if there is one, spells the answer, and there is one exactly if there is an answer
+abbrev pub Encodes : Option Answer → Option (ArrayVec ℕ) → Type 0
+Encodes None frame = frame ≡ None
+Encodes (Some answer) None = ⊥
+Encodes (Some answer) (Some frame) = SpellsAnswer answer frame.items

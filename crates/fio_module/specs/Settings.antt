@@ -1,0 +1,24 @@
+-- What a module is made with.
+use Rattle.std.specs.Prelude.{ℕ, ◌≤◌}
+use Rattle.fio_module.specs.Limits.{Limits}
+
+-- its identification octet, the most entries of one block, and the most that wait
+pub record Settings : Type 0 where
+  pub id : ℕ
+  pub per_block : ℕ
+  pub waiting : ℕ
+
+abbrev pub settings_with : ℕ → Limits → Settings
+settings_with id limits =
+    record { id = id; per_block = limits.per_block; waiting = limits.waiting }
+
+-- where no limits are handed in
+abbrev pub standard_settings : ℕ → Settings
+standard_settings id = record { id = id; per_block = 255; waiting = 1024 }
+
+-- what holds of the standard settings and of those with any limits that there are
+pub record AreInRange (settings : Settings) : Type 0 where
+  pub id_fits : settings.id ≤ 255
+  pub some_per_block : 1 ≤ settings.per_block
+  pub few_per_block : settings.per_block ≤ 255
+  pub many_waiting : 1024 ≤ settings.waiting

@@ -1,0 +1,61 @@
+//! How many entries a block has, and how many may wait.
+use std::marker::Model;
+
+/// The limits of a module: the most entries of one block, 1 to 255, and the most entries that wait
+/// for a poll, 1,024 to 8,192 (own profile; TEES 2009 has 255 and 1,024).
+#[derive(Clone, Copy, Debug, PartialEq, Eq)]
+pub struct Limits {
+    per_block: u8,
+    waiting: u16,
+}
+
+impl Model for Limits {
+    ghost use Rattle.std.specs.Prelude.{◌≤◌};
+    ghost use Rattle.fio_module.specs.Limits.{Limits as Values};
+
+    ghost Value = { Values };
+
+    ghost view = { λ limits. record { per_block = limits.per_block; waiting = limits.waiting } };
+
+    ghost invariant = { λ limits. (1 ≤ limits.per_block) × (1024 ≤ limits.waiting) × (limits.waiting ≤ 8192) };
+
+    ghost inverse = { λ values. record { per_block = values.per_block; waiting = values.waiting } };
+}
+
+impl Limits {
+    ghost use Rattle.std.specs.Prelude.{◌≡◌, Some, None, if◌then◌else◌};
+    ghost use Rattle.fio_module.specs.Limits.{are_limits};
+
+    /// Those of TEES 2009, which a module has where none are handed in.
+    pub const STANDARD: Limits = Limits {
+        per_block: 255,
+        waiting: 1024,
+    };
+
+    /// The limits with these numbers, or `None` where one is out of its range: `per_block` from 1
+    /// on, `waiting` from 1,024 to 8,192.
+    pub fn new(per_block: u8, waiting: u16) -> Option<Limits>
+        ensures { result
+            ≡ (if are_limits per_block waiting then Some (record { per_block = per_block; waiting = waiting }) else None) }
+    {
+        if per_block >= 1 && waiting >= 1024 && waiting <= 8192 {
+            Some(Limits { per_block, waiting })
+        } else {
+            None
+        }
+    }
+
+    /// The most entries of one block.
+    pub(crate) fn per_block(self) -> u8
+        ensures { result ≡ self.per_block }
+    {
+        self.per_block
+    }
+
+    /// The most entries that wait.
+    pub(crate) fn waiting(self) -> u16
+        ensures { result ≡ self.waiting }
+    {
+        self.waiting
+    }
+}

@@ -1,0 +1,101 @@
+-- The polls that made the blocks, and the blocks that answers bring.
+use Rattle.std.proofs.Common.{◌≡◌, ℕ, ◌+◌, ◌<◌, ◌≤◌, false, List, [], ◌∷◌, ◌++◌, length, Option, Some, None, slice_get, refl, ap, sym, subst, ◌∙◌, arith, inl, inr, length-append}
+use Rattle.std.proofs.lemmas.Option.{slice_get_within}
+use Rattle.fio_message.specs.Blocks.{Block}
+use Rattle.fio_message.specs.Status.{says_out_of_sequence}
+use Rattle.fio_message.specs.Decoding.{block_in}
+use Rattle.fio_module.specs.Blocks.{MadeBlock}
+use Rattle.fio_world.specs.Link.{Sent, number_of}
+use Rattle.fio_world.specs.Frames.{HasBlock}
+use Rattle.fio_world.specs.Rounds.{Brings}
+use Rattle.fio_world.proofs.Places.{get_before_push, get_push, get_after_push}
+use Rattle.fio_world.proofs.AnswerOrder.{block_after_push, block_before_other}
+
+-- the rounds of the polls that made the blocks never fall, and are of polls received
+pub record MakersAreInOrder (makers : List ℕ) (next : ℕ) (blocks : List MadeBlock) : Type 0 where
+  pub count : length makers ≡ length blocks
+  pub rise : (j k r s : ℕ) → j ≤ k → slice_get makers j ≡ Some r → slice_get makers k ≡ Some s → r ≤ s
+  pub below : (j r : ℕ) → slice_get makers j ≡ Some r → r < next
+
+-- the newest block was made by a poll of the newest round received
+pub record NewestIsMaker (makers : List ℕ) (next : ℕ) : Type 0 where
+  pub place : ℕ
+  pub round : ℕ
+  pub last : length makers ≡ place + 1
+  pub made_by : slice_get makers place ≡ Some round
+  pub newest : next ≡ round + 1
+
+-- a block answer has the number of its round, in sequence, and brings a block that a poll of that round made
+pub record BringsMadeOf (first : ℕ) (blocks : List MadeBlock) (makers : List ℕ) (answer : Block) (round : ℕ) : Type 0 where
+  pub number : answer.number ≡ number_of first round
+  pub in_sequence : says_out_of_sequence answer.status ≡ false
+  pub place : ℕ
+  pub block : MadeBlock
+  pub is_made : slice_get blocks place ≡ Some block
+  pub made_by : slice_get makers place ≡ Some round
+  pub brought : Brings answer block
+
+abbrev pub AnswersBringMade : ℕ → List MadeBlock → List ℕ → List Sent → Type 0
+AnswersBringMade first blocks makers frames = (place : ℕ) (answer : Block) (round : ℕ) →
+    HasBlock frames place answer round → BringsMadeOf first blocks makers answer round
+
+-- a poll of the newest round received makes nothing
+pub makers-repeated : (makers : List ℕ) (next later : ℕ) (blocks : List MadeBlock) → next ≤ later
+    → MakersAreInOrder makers next blocks → MakersAreInOrder makers later blocks
+makers-repeated makers next later blocks le o =
+    record { count = o.count; rise = o.rise; below = λ j r is. omega (arith, o.below j r is) }
+
+-- a poll of a round not below it makes a block
+pub makers-new : (makers : List ℕ) (next round : ℕ) (blocks : List MadeBlock) (block : MadeBlock) → next ≤ round + 1
+    → MakersAreInOrder makers next blocks → MakersAreInOrder (makers ++ round ∷ []) (round + 1) (blocks ++ block ∷ [])
+makers-new makers next round blocks block high o =
+    record {
+      count = omega (arith, length-append makers (round ∷ []), length-append blocks (block ∷ []), o.count);
+      rise = λ j k r s le p q. elim (get_after_push makers round k s q) as (λ _. r ≤ s) [
+        | inl older ↦ elim (get_after_push makers round j r p) as (λ _. r ≤ s) [
+          | inl old ↦ o.rise j k r s le old older
+          | inr new ↦ absurd (omega (arith, slice_get_within makers k s older))
+        ]
+        | inr newer ↦ elim (get_after_push makers round j r p) as (λ _. r ≤ s) [
+          | inl old ↦ omega (arith, o.below j r old)
+          | inr new ↦ omega arith
+        ]
+      ];
+      below = λ j r p. elim (get_after_push makers round j r p) as (λ _. r < round + 1) [
+        | inl old ↦ omega (arith, o.below j r old)
+        | inr new ↦ omega arith
+      ];
+    }
+
+-- a frame is sent that is no block answer
+pub bring-other : (first : ℕ) (blocks : List MadeBlock) (makers : List ℕ) (frames : List Sent) (f : Sent) → block_in f.octets ≡ None
+    → AnswersBringMade first blocks makers frames → AnswersBringMade first blocks makers (frames ++ f ∷ [])
+bring-other first blocks makers frames f none bring p a r h = bring p a r (block_before_other frames f p a r none h)
+
+-- a block answer is sent that brings a block
+pub bring-more : (first : ℕ) (blocks : List MadeBlock) (makers : List ℕ) (frames : List Sent) (f : Sent) (answer : Block)
+    → block_in f.octets ≡ Some answer → BringsMadeOf first blocks makers answer f.round
+    → AnswersBringMade first blocks makers frames → AnswersBringMade first blocks makers (frames ++ f ∷ [])
+bring-more first blocks makers frames f answer spells brought bring p a r h =
+    elim (block_after_push frames f p a r h) as (λ _. BringsMadeOf first blocks makers a r) [
+      | inl old ↦ bring p a r old
+      | inr new ↦
+          let same : answer ≡ a = cc (spells, new.1) in
+          subst (BringsMadeOf first blocks makers a) new.2 (subst (λ x. BringsMadeOf first blocks makers x f.round) same brought)
+    ]
+
+-- one more block is made
+pub bring-new : (first : ℕ) (blocks : List MadeBlock) (makers : List ℕ) (frames : List Sent) (block : MadeBlock) (round : ℕ)
+    → AnswersBringMade first blocks makers frames
+    → AnswersBringMade first (blocks ++ block ∷ []) (makers ++ round ∷ []) frames
+bring-new first blocks makers frames block round bring p a r h =
+    let b = bring p a r h in
+    record {
+      number = b.number;
+      in_sequence = b.in_sequence;
+      place = b.place;
+      block = b.block;
+      is_made = get_before_push blocks (block ∷ []) b.place b.block b.is_made;
+      made_by = get_before_push makers (round ∷ []) b.place r b.made_by;
+      brought = b.brought;
+    }

@@ -1,0 +1,203 @@
+-- What runs without restarts keep besides.
+use Rattle.std.proofs.Common.{◌≡◌, ◌≢◌, ℕ, zero, suc, ◌+◌, ◌<◌, ◌≤◌, ◌==◌, Bool, true, false, List, [], ◌∷◌, ◌++◌, length, take, map, Option, Some, None, slice_get, refl, ap, sym, subst, ◌∙◌, arith, inl, inr, length-append, append-nil, if◌then◌else◌}
+use Rattle.std.specs.Prelude.{option_map}
+use Rattle.std.specs.List.{flat_map}
+use Rattle.std.proofs.lemmas.Grind.{flat_map-append}
+use Rattle.std.proofs.lemmas.List.{take-append-le}
+use Rattle.std.proofs.lemmas.Bool.Decides.{nat_tests}
+use Rattle.fio_message.specs.declared.answers.Answer.{Answer}
+use Rattle.fio_message.specs.Answers.{answer_octets}
+use Rattle.fio_message.specs.Blocks.{Block}
+use Rattle.fio_message.specs.Status.{says_lost, says_again}
+use Rattle.fio_message.specs.Decoding.{block_in}
+use Rattle.fio_module.specs.Settings.{Settings}
+use Rattle.fio_module.specs.Life.{Received, History, life_of}
+use Rattle.fio_module.specs.Log.{Transition, entry_of}
+use Rattle.fio_module.specs.Blocks.{MadeBlock, is_new, blocks_of, latest_poll}
+use Rattle.fio_cpu.specs.declared.items.Item.{Item}
+use Rattle.fio_cpu.specs.declared.items.Item.TheVariants as items
+use Rattle.fio_cpu.specs.Record.{item_of, recorded}
+use Rattle.fio_world.specs.Link.{Sent, Machine, number_of, answered}
+use Rattle.fio_world.specs.Frames.{is_repeated, repeats, answer_before, block_answers}
+use Rattle.fio_world.specs.Claims.{SaysAgainWhereRepeated}
+use Rattle.fio_world.specs.Rounds.{next_round, Brings}
+use Rattle.fio_world.proofs.Places.{get_after_push, take_one_more}
+use Rattle.fio_world.proofs.RoundNumbers.{rounds_from_numbers}
+use Rattle.fio_world.proofs.AllLives.{past_log, behind, past_blocks, all_blocks}
+
+-- a block in the record, with its wide times
+abbrev pub recorded_of : MadeBlock → List Item
+recorded_of block =
+    (if block.lost then items.Gap ∷ [] else []) ++ map (item_of block.stamp) (map entry_of block.transitions)
+
+-- the first m blocks in the record
+abbrev pub record_of : ℕ → List MadeBlock → List Item
+record_of m blocks = flat_map recorded_of (take m blocks)
+
+-- the number of the newest of these polls
+abbrev pub newest_number : ℕ → List ℕ → Option ℕ
+newest_number first [] = None
+newest_number first (round ∷ older) = Some (number_of first round)
+
+-- What runs without restarts keep besides, for the blocks of the one life and its latest poll: the newest poll received
+-- made the newest block, each block was made by a poll of its round, the record is what the taken blocks are, and block
+-- answers say which polls were repeated.
+pub record InOneLife (first : ℕ) (blocks : List MadeBlock) (latest : Option ℕ) (machine : Machine) : Type 0 where
+  pub made : next_round machine.polls ≡ length blocks
+  pub own : (k r : ℕ) → slice_get machine.makers k ≡ Some r → r ≡ k
+  pub polled : latest ≡ newest_number first machine.polls
+  pub kept : machine.items ≡ record_of machine.round blocks
+  pub again : SaysAgainWhereRepeated machine
+
+-- no life before the present one
+pub record HasNoPast (settings : Settings) (history : History) : Type 0 where
+  pub log : past_log history ≡ []
+  pub blocks : past_blocks settings history ≡ []
+
+behind_nothing : (blocks : List MadeBlock) → map (behind 0) blocks ≡ blocks
+behind_nothing [] = refl
+behind_nothing (block ∷ blocks) =
+    let before : 0 + block.before ≡ block.before = omega arith in
+    let start : 0 + block.start ≡ block.start = omega arith in
+    let end : 0 + block.end ≡ block.end = omega arith in
+    ap (λ n. record block { before = n; start = 0 + block.start; end = 0 + block.end } ∷ map (behind 0) blocks) before
+    ∙ ap (λ n. record block { before = block.before; start = n; end = 0 + block.end } ∷ map (behind 0) blocks) start
+    ∙ ap (λ n. record block { before = block.before; start = block.start; end = n } ∷ map (behind 0) blocks) end
+    ∙ ap (λ bs. block ∷ bs) (behind_nothing blocks)
+
+-- then the blocks of all lives are those of the present one
+pub all_in_life : (settings : Settings) (history : History) → HasNoPast settings history
+    → all_blocks settings history ≡ blocks_of settings (life_of history)
+all_in_life settings history none =
+    let own = blocks_of settings (life_of history) in
+    ap (λ past. past ++ map (behind (length (past_log history))) own) none.blocks
+    ∙ ap (λ (log : List Transition). map (behind (length log)) own) none.log
+    ∙ behind_nothing own
+
+-- what a poll of a round is to a module whose polls, all of one life, have these rounds: a new one is of the next
+-- round, and another repeats the newest
+abbrev pub Continues : Bool → ℕ → List ℕ → Type 0
+Continues true round polls = (round ≡ next_round polls) × (is_repeated round polls ≡ false)
+Continues false round polls = (round + 1 ≡ next_round polls) × (is_repeated round polls ≡ true)
+
+pub continues : (first round number : ℕ) (polls : List ℕ) (new : Bool) → number ≡ number_of first round
+    → round ≤ next_round polls → next_round polls ≤ round + 1 → is_new (newest_number first polls) number ≡ new
+    → Continues new round polls
+continues first round number [] true numbered low high is = (omega arith, refl)
+continues first round number [] false numbered low high is = absurd (cc is)
+continues first round number (s ∷ ss) true numbered low high is =
+    let apart : number_of first s ≢ number = grind (arith, nat_tests) in
+    let not_same : round ≢ s = λ same. apart (ap (number_of first) (sym same) ∙ sym numbered) in
+    let next : round ≡ s + 1 = omega arith in
+    (next, grind (arith, nat_tests))
+continues first round number (s ∷ ss) false numbered low high is =
+    let alike : number_of first s ≡ number = grind (arith, nat_tests) in
+    let same : s ≡ round = rounds_from_numbers first s round (omega arith) (omega arith) (alike ∙ numbered) in
+    (omega arith, grind (arith, nat_tests))
+
+-- the block answers among frames and one more
+pub block_answers-push : (frames : List Sent) (f : Sent)
+    → block_answers (frames ++ f ∷ []) ≡ block_answers frames ++ answer_before (block_in f.octets) f.round []
+block_answers-push [] f = refl
+block_answers-push (g ∷ frames) f =
+    ap (answer_before (block_in g.octets) g.round) (block_answers-push frames f)
+    ∙ before_more (block_in g.octets) g.round (block_answers frames) (answer_before (block_in f.octets) f.round [])
+    where
+      before_more : (found : Option Block) (round : ℕ) (xs ys : List (ℕ × Bool))
+          → answer_before found round (xs ++ ys) ≡ answer_before found round xs ++ ys
+      before_more None round xs ys = refl
+      before_more (Some block) round xs ys = refl
+
+-- an answer that brings a block is recorded as the block is
+pub recorded-brought : (answer : Block) (block : MadeBlock) → Brings answer block → recorded answer ≡ recorded_of block
+recorded-brought answer block b =
+    ap (λ lost. (if lost then items.Gap ∷ [] else []) ++ map (item_of answer.stamp) answer.entries) b.lost
+    ∙ ap (λ entries. (if block.lost then items.Gap ∷ [] else []) ++ map (item_of answer.stamp) entries) b.entries
+    ∙ ap (λ stamp. (if block.lost then items.Gap ∷ [] else []) ++ map (item_of stamp) (map entry_of block.transitions)) b.stamp
+
+-- the record with one more block
+pub record_of-next : (blocks : List MadeBlock) (m : ℕ) (taken : List Item) (answer : Block) (block : MadeBlock)
+    → slice_get blocks m ≡ Some block → Brings answer block → taken ≡ record_of m blocks
+    → taken ++ recorded answer ≡ record_of (m + 1) blocks
+record_of-next blocks m taken answer block found brought kept =
+    ap (λ xs. xs ++ recorded answer) kept
+    ∙ ap (λ xs. record_of m blocks ++ xs) (recorded-brought answer block brought ∙ sym (append-nil (recorded_of block)))
+    ∙ sym (flat_map-append recorded_of (take m blocks) (block ∷ []))
+    ∙ ap (flat_map recorded_of) (sym (take_one_more blocks m block found))
+
+module _ (first : ℕ) (blocks : List MadeBlock) (latest : Option ℕ) (machine : Machine) (o : InOneLife first blocks latest machine) (index : ℕ) (frame : Sent) where
+  -- a frame that is no poll is received, and what it gets is no block answer
+  pub life-other : (reply : Option Answer) → ((answer : Answer) → reply ≡ Some answer → block_in (answer_octets answer) ≡ None)
+      → InOneLife first blocks latest (record machine {
+        last_to_module = index;
+        history = Received frame.octets ∷ machine.history;
+        to_cpu = machine.to_cpu ++ answered reply frame.round;
+      })
+  life-other None other =
+      record { made = o.made; own = o.own; polled = o.polled; kept = o.kept; again = ap block_answers (append-nil machine.to_cpu) ∙ o.again }
+  life-other (Some answer) other =
+      let f : Sent = record { octets = answer_octets answer; round = frame.round } in
+      record {
+        made = o.made;
+        own = o.own;
+        polled = o.polled;
+        kept = o.kept;
+        again =
+            block_answers-push machine.to_cpu f
+            ∙ ap (λ found. block_answers machine.to_cpu ++ answer_before found frame.round []) (other answer refl)
+            ∙ append-nil (block_answers machine.to_cpu) ∙ o.again;
+      }
+
+  -- a block answer joins those that were sent
+  answers-again : (octets : List ℕ) (answer : Block) → block_in octets ≡ Some answer
+      → says_again answer.status ≡ is_repeated frame.round machine.polls
+      → block_answers (machine.to_cpu ++ record { octets = octets; round = frame.round } ∷ []) ≡ repeats (frame.round ∷ machine.polls)
+  answers-again octets answer reads says =
+      block_answers-push machine.to_cpu (record { octets = octets; round = frame.round })
+      ∙ ap (λ found. block_answers machine.to_cpu ++ answer_before found frame.round []) reads
+      ∙ ap (λ again. block_answers machine.to_cpu ++ (frame.round, again) ∷ []) says
+      ∙ ap (λ xs. xs ++ (frame.round, is_repeated frame.round machine.polls) ∷ []) o.again
+
+  -- a new poll is received
+  pub life-new : (number : ℕ) (block : MadeBlock) (octets : List ℕ) (answer : Block) → number ≡ number_of first frame.round
+      → Continues true frame.round machine.polls → length machine.makers ≡ length blocks → machine.round ≤ length blocks
+      → block_in octets ≡ Some answer → says_again answer.status ≡ false
+      → InOneLife first (blocks ++ block ∷ []) (Some number) (record machine {
+        last_to_module = index;
+        history = Received frame.octets ∷ machine.history;
+        to_cpu = machine.to_cpu ++ record { octets = octets; round = frame.round } ∷ [];
+        polls = frame.round ∷ machine.polls;
+        makers = machine.makers ++ frame.round ∷ [];
+      })
+  life-new number block octets answer numbered met count upto reads says =
+      let made : next_round machine.polls ≡ length blocks = o.made in
+      let next : frame.round ≡ next_round machine.polls = met.0 in
+      record {
+        made = omega (arith, length-append blocks (block ∷ []));
+        own = λ k r is. elim (get_after_push machine.makers frame.round k r is) as (λ _. r ≡ k) [
+          | inl old ↦ o.own k r old
+          | inr new ↦ let at : k ≡ length machine.makers = new.0 in let this : r ≡ frame.round = new.1 in omega arith
+        ];
+        polled = ap Some numbered;
+        kept = o.kept ∙ ap (flat_map recorded_of) (sym (take-append-le machine.round blocks (block ∷ []) upto));
+        again = answers-again octets answer reads (says ∙ sym met.1);
+      }
+
+  -- the newest poll is received again
+  pub life-repeated : (number : ℕ) (octets : List ℕ) (answer : Block) → number ≡ number_of first frame.round
+      → Continues false frame.round machine.polls → block_in octets ≡ Some answer → says_again answer.status ≡ true
+      → InOneLife first blocks (Some number) (record machine {
+        last_to_module = index;
+        history = Received frame.octets ∷ machine.history;
+        to_cpu = machine.to_cpu ++ record { octets = octets; round = frame.round } ∷ [];
+        polls = frame.round ∷ machine.polls;
+        makers = machine.makers;
+      })
+  life-repeated number octets answer numbered met reads says =
+      record {
+        made = met.0 ∙ o.made;
+        own = o.own;
+        polled = ap Some numbered;
+        kept = o.kept;
+        again = answers-again octets answer reads (says ∙ sym met.1);
+      }

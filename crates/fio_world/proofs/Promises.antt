@@ -1,0 +1,154 @@
+-- The promises, from what every run keeps.
+use Rattle.std.proofs.Common.{◌≡◌, ℕ, ◌+◌, ◌-◌, ◌<◌, ◌≤◌, ◌⊎◌, max, Bool, true, false, List, [], ◌∷◌, ◌++◌, length, take, drop, map, refl, ap, sym, subst, ◌∙◌, arith, inl, inr, length-drop, if◌then◌else◌}
+use Rattle.std.specs.List.{flat_map, AllZip}
+use Rattle.std.proofs.lemmas.Bool.{cases_lt}
+use Rattle.std.proofs.lemmas.List.{map-append, take_all}
+use Rattle.fio_module.specs.Settings.{Settings, AreInRange}
+use Rattle.fio_module.specs.Life.{Life, life_of}
+use Rattle.fio_module.specs.Log.{Transition, entry_of, log_of}
+use Rattle.fio_module.specs.Blocks.{MadeBlock, blocks_of, end_of, newest_end, waiting_from}
+use Rattle.fio_module.proofs.BlockLaws.{blocks_end_within}
+use Rattle.fio_cpu.specs.declared.items.Item.TheVariants as items
+use Rattle.fio_cpu.specs.Record.{item_of}
+use Rattle.fio_world.specs.declared.event.Event.{Event}
+use Rattle.fio_world.specs.Link.{Machine, IsRun}
+use Rattle.fio_world.specs.Pieces.{Gap, Got, piece_of, pieces_of, taken, ArePieces}
+use Rattle.fio_world.specs.Headline.{HaveNoRestart, RecordIsLog, Headline}
+use Rattle.fio_world.specs.Claims.{blocks_in, StandsAtTaken, RestIsTold, HasTimes, IsTimed, sources_of}
+use Rattle.fio_world.specs.Rounds.{next_round, PollsOf, NewestPollIsOf, NewestPollMadeNewestBlock, BlockAnswersOf, AnswersBringBlocks}
+use Rattle.fio_world.specs.Rising.{IsRising}
+use Rattle.fio_world.specs.Sound.{IsSound, IsSoundRun, HoldsOfRuns, HoldsWithoutRestart}
+use Rattle.fio_world.proofs.MadeBlocks.{each-take}
+use Rattle.fio_world.proofs.PieceLaws.{taken_are_pieces, pieces_begin_log}
+use Rattle.fio_world.proofs.Kept.{HasInvariant}
+use Rattle.fio_world.proofs.Runs.{invariant, rising, in_sequence, takes}
+use Rattle.fio_world.proofs.OneLife.{recorded_of}
+use Rattle.fio_world.proofs.OneLifeRows.{IsKept, kept, brings_own}
+use Rattle.fio_world.proofs.Times.{BlockTimely, blocks_timely, blocks_timed}
+
+-- what a block is in the record, without times
+got_entries : (stamp : ℕ) (ts : List Transition)
+    → map piece_of (map (item_of stamp) (map entry_of ts)) ≡ map (λ transition. Got (entry_of transition)) ts
+got_entries stamp [] = refl
+got_entries stamp (t ∷ ts) = ap (λ ps. Got (entry_of t) ∷ ps) (got_entries stamp ts)
+
+got_marked : (lost : Bool) (stamp : ℕ) (ts : List Transition)
+    → map piece_of ((if lost then items.Gap ∷ [] else []) ++ map (item_of stamp) (map entry_of ts))
+    ≡ (if lost then Gap ∷ [] else []) ++ map (λ transition. Got (entry_of transition)) ts
+got_marked true stamp ts = ap (λ ps. Gap ∷ ps) (got_entries stamp ts)
+got_marked false stamp ts = got_entries stamp ts
+
+got_blocks : (blocks : List MadeBlock) → map piece_of (flat_map recorded_of blocks) ≡ flat_map pieces_of blocks
+got_blocks [] = refl
+got_blocks (block ∷ blocks) =
+    map-append piece_of (recorded_of block) (flat_map recorded_of blocks)
+    ∙ ap (λ ps. ps ++ map piece_of (flat_map recorded_of blocks)) (got_marked block.lost block.stamp block.transitions)
+    ∙ ap (λ ps. pieces_of block ++ ps) (got_blocks blocks)
+
+one_behind : (m b : ℕ) → m ≤ b → b ≤ m + 1 → (m ≡ b) ⊎ (m + 1 ≡ b)
+one_behind m b low high =
+    elim (cases_lt m b) as (λ _. (m ≡ b) ⊎ (m + 1 ≡ b)) [
+      | inl below ↦ inr (omega arith)
+      | inr same ↦ inl (omega arith)
+    ]
+
+-- what is not recorded, of any life
+pub rest_is_told : (settings : Settings) (life : Life) → RestIsTold settings life
+rest_is_told settings life =
+    let blocks = blocks_of settings life in
+    let within : newest_end settings life ≤ length (log_of life) = blocks_end_within settings life in
+    let all : take (length blocks) blocks ≡ blocks = take_all (length blocks) blocks (omega arith) in
+    let waiting = length-drop (waiting_from settings life) (log_of life) in
+    record {
+      in_blocks = subst (λ bs. ArePieces settings life 0 (taken (length blocks) blocks) (end_of bs)) all
+      (taken_are_pieces settings life (length blocks) (omega arith));
+      pushed_out = omega arith;
+      only_when_full = λ pushed. omega (arith, waiting);
+      waiting = omega (arith, waiting);
+      few = omega (arith, waiting);
+    }
+
+module _ (settings : Settings) (range : AreInRange settings) (first : ℕ) (machine : Machine) (k : IsKept settings first machine) where
+  behind : machine.round ≤ length (blocks_in settings machine)
+  behind = let made = k.one_life.in_life.made in omega (arith, k.always.answers.behind)
+
+  -- the record without times is what the taken blocks are
+  taken_items : map piece_of machine.items ≡ taken machine.round (blocks_in settings machine)
+  taken_items = ap (map piece_of) k.one_life.in_life.kept ∙ got_blocks (take machine.round (blocks_in settings machine))
+
+  -- the headline
+  record_is_log : RecordIsLog settings machine
+  record_is_log =
+      let life = life_of machine.history in
+      let pieces = subst (λ ps. ArePieces settings life 0 ps (end_of (take machine.round (blocks_in settings machine)))) (sym taken_items)
+      (taken_are_pieces settings life machine.round behind) in
+      record { pieces = pieces; prefix = pieces_begin_log settings life (map piece_of machine.items) _ pieces }
+
+  stands : StandsAtTaken settings machine
+  stands =
+      let made : next_round machine.polls ≡ length (blocks_in settings machine) = k.one_life.in_life.made in
+      record {
+        behind = one_behind machine.round (length (blocks_in settings machine)) behind (omega (arith, k.always.at_most));
+        items = taken_items;
+      }
+
+  times : HasTimes settings machine
+  times =
+      let blocks = blocks_in settings machine in
+      subst (λ items. AllZip IsTimed items (flat_map sources_of (take machine.round blocks))) (sym k.one_life.in_life.kept)
+      (blocks_timed (take machine.round blocks) (each-take BlockTimely machine.round blocks (blocks_timely settings (life_of machine.history))))
+
+  -- all that is promised without restarts
+  pub sound : IsSound settings first machine
+  sound =
+      record {
+        headline = record_is_log;
+        stands = stands;
+        rest = rest_is_told settings (life_of machine.history);
+        takes = takes settings range first machine k.always;
+        in_sequence = in_sequence settings first machine k.always;
+        again = k.one_life.in_life.again;
+        times = times;
+      }
+
+-- every run is sound
+pub runs_are_sound : HoldsOfRuns IsSoundRun
+runs_are_sound settings first events machine range run =
+    let i = invariant settings range first events machine run in
+    record {
+      is_run = run;
+      rising = rising settings first machine i;
+      takes = takes settings range first machine i;
+      in_sequence = in_sequence settings first machine i;
+      sound = λ none. sound settings range first machine (kept settings range first events machine run none);
+    }
+
+-- the headline
+pub headline : HoldsOfRuns (λ settings first events machine. Headline settings first events machine.items)
+headline settings first events machine range run none =
+    (machine, run, refl, ((runs_are_sound settings first events machine range run).sound none).headline)
+
+-- the record rises
+pub record_rises : HoldsOfRuns (λ settings first events machine. IsRising machine)
+record_rises settings first events machine range run = (runs_are_sound settings first events machine range run).rising
+
+-- the facts on rounds
+pub polls_are_in_order : HoldsOfRuns (λ settings first events machine. PollsOf first machine)
+polls_are_in_order settings first events machine range run = (invariant settings range first events machine run).polls
+
+pub newest_poll_rounds : HoldsOfRuns (λ settings first events machine. NewestPollIsOf first machine)
+newest_poll_rounds settings first events machine range run =
+    let i = invariant settings range first events machine run in
+    record { numbers = i.numbered; at_most = i.at_most }
+
+pub newest_poll_made_newest_block : HoldsWithoutRestart (λ settings first machine. NewestPollMadeNewestBlock settings machine)
+newest_poll_made_newest_block settings first events machine range run none =
+    (kept settings range first events machine run none).one_life.in_life.made
+
+pub block_answers_are_in_order : HoldsOfRuns (λ settings first events machine. BlockAnswersOf machine)
+block_answers_are_in_order settings first events machine range run = (invariant settings range first events machine run).answers
+
+pub answers_bring_blocks : HoldsWithoutRestart AnswersBringBlocks
+answers_bring_blocks settings first events machine range run none place answer round has =
+    let k = kept settings range first events machine run none in
+    brings_own settings range first machine k.always k.one_life place answer round has

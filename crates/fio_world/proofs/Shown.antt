@@ -1,0 +1,272 @@
+-- A world shows the machine after each event.
+use Rattle.std.proofs.Common.{◌≡◌, ℕ, zero, suc, ◌+◌, ◌-◌, ◌%◌, ◌<◌, ◌≤◌, ◌==◌, Bool, true, false, List, [], ◌∷◌, ◌++◌, length, map, Option, Some, None, Result, Ok, Err, slice_get, get_or, refl, ap, sym, subst, ◌∙◌, arith, if◌then◌else◌}
+use Rattle.std.specs.Option.{option_map}
+use Rattle.std.specs.Result.{OnErr}
+use Rattle.std.proofs.lemmas.Bool.Decides.{nat_tests}
+use Rattle.std.proofs.lemmas.List.{length-map, map-append}
+use Rattle.std.proofs.lemmas.Option.{slice_get-map, slice_get_read}
+use Rattle.arrayvec.specs.ArrayVec.{ArrayVec}
+use Rattle.fio_message.specs.declared.answers.Answer.{Answer}
+use Rattle.fio_message.specs.declared.commands.Command.{Command}
+use Rattle.fio_message.specs.Answers.{answer_octets}
+use Rattle.fio_message.specs.Commands.{command_octets}
+use Rattle.fio_message.specs.Blocks.{Block}
+use Rattle.fio_message.specs.Decoding.{decoded_answer, block_in, poll_in}
+use Rattle.fio_module.specs.Settings.{Settings}
+use Rattle.fio_module.specs.Life.{Received}
+use Rattle.fio_module.specs.Replies.{reply_to, Encodes}
+use Rattle.fio_module.specs.Module as modules
+use Rattle.fio_cpu.specs.Poller.{Polling}
+use Rattle.fio_cpu.specs.Record.{recorded}
+use Rattle.fio_cpu.specs.Hearing.{heard_as, after_hearing, AddsItems}
+use Rattle.fio_world.specs.declared.event.Event.{Event}
+use Rattle.fio_world.specs.declared.event.Event.TheVariants as events
+use Rattle.fio_world.specs.declared.outcome.Outcome.{Outcome}
+use Rattle.fio_world.specs.declared.outcome.Outcome.TheVariants as outcomes
+use Rattle.fio_world.specs.declared.outcome.WorldError.{WorldError}
+use Rattle.fio_world.specs.declared.outcome.WorldError.TheVariants as errors
+use Rattle.fio_world.specs.Link.{Machine, Sent, Refusal, start, number_of, frame_numbered, delivery_refusal, refusal, sent, answered, received, with_block, heard, after, Leads, IsRun}
+use Rattle.fio_world.specs.Ends.{Ends, frame_octets, octets_numbered}
+use Rattle.fio_world.specs.Worlds.{octets_of, polling_of, Shows, sent_after, replied_after, received_outcome, heard_outcome, outcome_of, AddsFrom, TakesMemory, IsFault, IsDone, Steps, StandsFor, IsSoundWorld, events_done}
+
+-- the frame with a number, and its octets where the octets of all frames are listed
+octets_numbered-map : (frames : List Sent) (index : ℕ) → octets_numbered (map octets_of frames) index ≡ option_map octets_of (frame_numbered frames index)
+octets_numbered-map frames zero = refl
+octets_numbered-map frames (suc place) = slice_get-map octets_of frames place
+
+-- the octets with a number, by their place
+pub octets_numbered-place : (frames : List (List ℕ)) (index : ℕ) → (index ≡ 0 → ⊥) → slice_get frames (index - 1) ≡ octets_numbered frames index
+octets_numbered-place frames zero h = absurd (h refl)
+octets_numbered-place frames (suc place) h = let same : suc place - 1 ≡ place = omega arith in ap (slice_get frames) same
+
+-- an option whose value is mapped to a value has one
+from_mapped : (found : Option Sent) (octets : List ℕ) → option_map octets_of found ≡ Some octets → (frame : Sent) × (found ≡ Some frame) × (frame.octets ≡ octets)
+from_mapped (Some frame) octets e = (frame, refl, cc)
+from_mapped None octets e = absurd cc
+
+-- a frame that may be delivered is the one that is read
+pub read_frame : (frames : List (ArrayVec ℕ)) (count last index : ℕ) (frame : ArrayVec ℕ) → delivery_refusal count last index ≡ None → count ≡ length frames → frame ≡ get_or frames (index - 1) frame → octets_numbered (map frame_octets frames) index ≡ Some frame.items
+read_frame frames count last zero frame fine same read = absurd cc
+read_frame frames count last (suc place) frame fine same read =
+    let high : place < count = grind (arith, nat_tests) in
+    let here : suc place - 1 ≡ place = omega arith in
+    let found : frame ≡ get_or frames place frame = read ∙ ap (λ k. get_or frames k frame) here in
+    slice_get-map frame_octets frames place ∙ ap (option_map frame_octets) (slice_get_read frames count place frame same high found)
+
+-- the CPU after a block, as the machine has it
+polling-next : (first : ℕ) (machine : Machine) (last : ℕ) (found : Option Block) → after_hearing (polling_of first machine) found ≡ polling_of first (with_block first (record machine { last_to_cpu = last }) found)
+polling-next first machine last None = refl
+polling-next first machine last (Some block) = by_test (block.number == number_of first machine.round)
+  where
+    next : (number_of first machine.round + 1) % 256 ≡ number_of first (machine.round + 1)
+    next = omega arith
+    by_test : (same : Bool) →
+        (if same then record { number = (number_of first machine.round + 1) % 256; items = machine.items ++ recorded block } else polling_of first machine)
+        ≡ polling_of first (if same then record machine { last_to_cpu = last; round = machine.round + 1; items = machine.items ++ recorded block } else record machine { last_to_cpu = last })
+    by_test true = ap (λ n. record { number = n; items = machine.items ++ recorded block }) next
+    by_test false = refl
+
+-- the octets of a reply, where there is one
+abbrev pub reply_octets : Option Answer → List (List ℕ)
+reply_octets None = []
+reply_octets (Some answer) = answer_octets answer ∷ []
+
+octets-answered : (reply : Option Answer) (round : ℕ) → reply_octets reply ≡ map octets_of (answered reply round)
+octets-answered None round = refl
+octets-answered (Some answer) round = refl
+
+-- no frame encodes no reply
+pub silent : (reply : Option Answer) (found : Option (ArrayVec ℕ)) → Encodes reply found → found ≡ None → reply ≡ None
+silent None found e is = refl
+silent (Some answer) None e is = absurd e
+silent (Some answer) (Some frame) e is = absurd cc
+
+-- a frame encodes the octets of the reply
+pub told : (reply : Option Answer) (found : Option (ArrayVec ℕ)) (frame : ArrayVec ℕ) → Encodes reply found → found ≡ Some frame → reply_octets reply ≡ frame.items ∷ []
+told None found frame e is = absurd cc
+told (Some answer) None frame e is = absurd e
+told (Some answer) (Some other) frame e is =
+    let same : other ≡ frame = cc in
+    ap (λ os. os ∷ []) (sym e.spelled ∙ ap (λ (f : ArrayVec ℕ). f.items) same)
+
+pub told_outcome : (count : ℕ) (reply : Option Answer) (frame : ArrayVec ℕ) → reply_octets reply ≡ frame.items ∷ [] → replied_after count reply ≡ outcomes.Sent (count + 1) frame
+told_outcome count None frame e = absurd cc
+told_outcome count (Some answer) frame e =
+    let same : answer_octets answer ≡ frame.items = cc in
+    ap (λ (os : List ℕ). sent_after count os) same
+
+-- a refusal is the same fault whether the event takes memory or not
+with_takes : (why : Option Refusal) (takes : Type 0) (fault : WorldError) → IsFault why ⊥ fault → IsFault why takes fault
+with_takes None takes fault r = absurd r.1
+with_takes (Some why) takes fault r = r
+
+module _ (settings : Settings) (first : ℕ) (machine : Machine) (world : Ends) (s : Shows settings first machine world) where
+  -- the refusal of a delivery is the machine's
+  pub refusal-to_module : (index : ℕ) → delivery_refusal (length world.to_module) world.last_to_module index ≡ refusal machine (events.ToModule index)
+  refusal-to_module index =
+      ap (λ n. delivery_refusal n world.last_to_module index) (ap length s.frames_to_module ∙ length-map machine.to_module octets_of)
+      ∙ ap (λ n. delivery_refusal (length machine.to_module) n index) s.last_to_module
+
+  pub refusal-to_cpu : (index : ℕ) → delivery_refusal (length world.to_cpu) world.last_to_cpu index ≡ refusal machine (events.ToCpu index)
+  refusal-to_cpu index =
+      ap (λ n. delivery_refusal n world.last_to_cpu index) (ap length s.frames_to_cpu ∙ length-map machine.to_cpu octets_of)
+      ∙ ap (λ n. delivery_refusal (length machine.to_cpu) n index) s.last_to_cpu
+
+  found_to_module : (index : ℕ) (octets : List ℕ) → octets_numbered world.to_module index ≡ Some octets → (frame : Sent) × (frame_numbered machine.to_module index ≡ Some frame) × (frame.octets ≡ octets)
+  found_to_module index octets at = from_mapped (frame_numbered machine.to_module index) octets (sym (octets_numbered-map machine.to_module index) ∙ ap (λ fs. octets_numbered fs index) (sym s.frames_to_module) ∙ at)
+
+  found_to_cpu : (index : ℕ) (octets : List ℕ) → octets_numbered world.to_cpu index ≡ Some octets → (frame : Sent) × (frame_numbered machine.to_cpu index ≡ Some frame) × (frame.octets ≡ octets)
+  found_to_cpu index octets at = from_mapped (frame_numbered machine.to_cpu index) octets (sym (octets_numbered-map machine.to_cpu index) ∙ ap (λ fs. octets_numbered fs index) (sym s.frames_to_cpu) ∙ at)
+
+  -- the CPU sent one more command
+  pub shown_sent : (command : Command) → Shows settings first (sent machine command) (record world { to_module = world.to_module ++ command_octets command ∷ [] })
+  shown_sent command = record {
+    history = s.history;
+    polling = s.polling;
+    frames_to_module = ap (λ fs. fs ++ command_octets command ∷ []) s.frames_to_module ∙ sym (map-append octets_of machine.to_module (record { octets = command_octets command; round = machine.round } ∷ []));
+    frames_to_cpu = s.frames_to_cpu;
+    last_to_module = s.last_to_module;
+    last_to_cpu = s.last_to_cpu;
+  }
+
+  -- the module received the frame with this number
+  pub done_received : (index : ℕ) (octets : List ℕ) (new : Ends)
+      → delivery_refusal (length world.to_module) world.last_to_module index ≡ None
+      → octets_numbered world.to_module index ≡ Some octets
+      → modules.StandsFor settings new.module_end (Received octets ∷ machine.history)
+      → new.poller_end ≡ world.poller_end
+      → new.to_module ≡ world.to_module
+      → new.to_cpu ≡ world.to_cpu ++ reply_octets (reply_to settings machine.history octets)
+      → new.last_to_module ≡ index
+      → new.last_to_cpu ≡ world.last_to_cpu
+      → IsDone settings first machine (events.ToModule index) (replied_after (length world.to_cpu) (reply_to settings machine.history octets)) new
+  done_received index octets new fine at stands poller to_module to_cpu last_to_module last_to_cpu =
+      let d = found_to_module index octets at in
+      let frame = d.0 in
+      let reply = reply_to settings machine.history frame.octets in
+      let same : octets ≡ frame.octets = sym d.2 in
+      let replies : reply_octets (reply_to settings machine.history octets) ≡ map octets_of (answered reply frame.round) = ap (λ o. reply_octets (reply_to settings machine.history o)) same ∙ octets-answered reply frame.round in
+      record {
+        fine = sym (refusal-to_module index) ∙ fine;
+        brought =
+            ap (λ n. replied_after n (reply_to settings machine.history octets)) (ap length s.frames_to_cpu ∙ length-map machine.to_cpu octets_of)
+            ∙ ap (λ o. replied_after (length machine.to_cpu) (reply_to settings machine.history o)) same
+            ∙ ap (received_outcome settings machine) (sym d.1);
+        shown = subst (λ found. Shows settings first (received settings machine index found) new) (sym d.1) (record {
+            history = subst (λ o. modules.StandsFor settings new.module_end (Received o ∷ machine.history)) same stands;
+            polling = poller ∙ s.polling;
+            frames_to_module = to_module ∙ s.frames_to_module;
+            frames_to_cpu =
+                to_cpu ∙ ap (λ fs. fs ++ reply_octets (reply_to settings machine.history octets)) s.frames_to_cpu
+                ∙ ap (λ fs. map octets_of machine.to_cpu ++ fs) replies
+                ∙ sym (map-append octets_of machine.to_cpu (answered reply frame.round));
+            last_to_module = last_to_module;
+            last_to_cpu = last_to_cpu ∙ s.last_to_cpu;
+          });
+      }
+
+  shown_block : (index : ℕ) (found : Option Block) (new : Ends)
+      → new.module_end ≡ world.module_end → new.poller_end ≡ after_hearing world.poller_end found
+      → new.to_module ≡ world.to_module → new.to_cpu ≡ world.to_cpu
+      → new.last_to_module ≡ world.last_to_module → new.last_to_cpu ≡ index
+      → Shows settings first (with_block first (record machine { last_to_cpu = index }) found) new
+  shown_block index found new module_end poller to_module to_cpu last_to_module last_to_cpu =
+      let polling : new.poller_end ≡ polling_of first (with_block first (record machine { last_to_cpu = index }) found) = poller ∙ ap (λ p. after_hearing p found) s.polling ∙ polling-next first machine index found in
+      others found polling
+    where
+      by_test : (block : Block) (same : Bool)
+          → new.poller_end ≡ polling_of first (if same then record machine { last_to_cpu = index; round = machine.round + 1; items = machine.items ++ recorded block } else record machine { last_to_cpu = index })
+          → Shows settings first (if same then record machine { last_to_cpu = index; round = machine.round + 1; items = machine.items ++ recorded block } else record machine { last_to_cpu = index }) new
+      by_test block true polling = record {
+        history = subst (λ m. modules.StandsFor settings m machine.history) (sym module_end) s.history;
+        polling = polling;
+        frames_to_module = to_module ∙ s.frames_to_module;
+        frames_to_cpu = to_cpu ∙ s.frames_to_cpu;
+        last_to_module = last_to_module ∙ s.last_to_module;
+        last_to_cpu = last_to_cpu;
+      }
+      by_test block false polling = record {
+        history = subst (λ m. modules.StandsFor settings m machine.history) (sym module_end) s.history;
+        polling = polling;
+        frames_to_module = to_module ∙ s.frames_to_module;
+        frames_to_cpu = to_cpu ∙ s.frames_to_cpu;
+        last_to_module = last_to_module ∙ s.last_to_module;
+        last_to_cpu = last_to_cpu;
+      }
+      others : (o : Option Block) → new.poller_end ≡ polling_of first (with_block first (record machine { last_to_cpu = index }) o) → Shows settings first (with_block first (record machine { last_to_cpu = index }) o) new
+      others None polling = record {
+        history = subst (λ m. modules.StandsFor settings m machine.history) (sym module_end) s.history;
+        polling = polling;
+        frames_to_module = to_module ∙ s.frames_to_module;
+        frames_to_cpu = to_cpu ∙ s.frames_to_cpu;
+        last_to_module = last_to_module ∙ s.last_to_module;
+        last_to_cpu = last_to_cpu;
+      }
+      others (Some block) polling = by_test block (block.number == number_of first machine.round) polling
+
+  -- the CPU heard the frame with this number
+  pub done_heard : (index : ℕ) (octets : List ℕ) (new : Ends)
+      → delivery_refusal (length world.to_cpu) world.last_to_cpu index ≡ None
+      → octets_numbered world.to_cpu index ≡ Some octets
+      → new.module_end ≡ world.module_end
+      → new.poller_end ≡ after_hearing world.poller_end (block_in octets)
+      → new.to_module ≡ world.to_module → new.to_cpu ≡ world.to_cpu
+      → new.last_to_module ≡ world.last_to_module → new.last_to_cpu ≡ index
+      → IsDone settings first machine (events.ToCpu index) (outcomes.Heard (heard_as world.poller_end.number (decoded_answer octets))) new
+  done_heard index octets new fine at module_end poller to_module to_cpu last_to_module last_to_cpu =
+      let d = found_to_cpu index octets at in
+      let same : octets ≡ d.0.octets = sym d.2 in
+      let number : world.poller_end.number ≡ number_of first machine.round = ap (λ (p : Polling). p.number) s.polling in
+      record {
+        fine = sym (refusal-to_cpu index) ∙ fine;
+        brought =
+            ap (λ n. outcomes.Heard (heard_as n (decoded_answer octets))) number
+            ∙ ap (λ o. outcomes.Heard (heard_as (number_of first machine.round) (decoded_answer o))) same
+            ∙ ap (heard_outcome (number_of first machine.round)) (sym d.1);
+        shown = subst (λ found. Shows settings first (heard first machine index found) new) (sym d.1)
+            (shown_block index (block_in d.0.octets) new module_end (poller ∙ ap (λ o. after_hearing world.poller_end (block_in o)) same) to_module to_cpu last_to_module last_to_cpu);
+      }
+
+  -- the CPU wanted memory for the frame with this number
+  pub fault_heard : (index : ℕ) (octets : List ℕ)
+      → delivery_refusal (length world.to_cpu) world.last_to_cpu index ≡ None
+      → octets_numbered world.to_cpu index ≡ Some octets
+      → AddsItems world.poller_end (block_in octets)
+      → IsFault (refusal machine (events.ToCpu index)) (TakesMemory first machine (events.ToCpu index)) errors.Memory
+  fault_heard index octets fine at adds =
+      let d = found_to_cpu index octets at in
+      let adds' : AddsFrom (polling_of first machine) (Some d.0) = subst (λ o. AddsItems (polling_of first machine) (block_in o)) (sym d.2) (subst (λ p. AddsItems p (block_in octets)) s.polling adds) in
+      let takes : AddsFrom (polling_of first machine) (frame_numbered machine.to_cpu index) = subst (AddsFrom (polling_of first machine)) (sym d.1) adds' in
+      let fine' : refusal machine (events.ToCpu index) ≡ None = sym (refusal-to_cpu index) ∙ fine in
+      subst (λ r. IsFault r (TakesMemory first machine (events.ToCpu index)) errors.Memory) (sym fine') (refl, takes)
+
+  -- a delivery that is refused is refused as the machine refuses it
+  pub fault_to_module : (index : ℕ) (fault : WorldError) → IsFault (delivery_refusal (length world.to_module) world.last_to_module index) ⊥ fault
+      → IsFault (refusal machine (events.ToModule index)) (TakesMemory first machine (events.ToModule index)) fault
+  fault_to_module index fault r = with_takes (refusal machine (events.ToModule index)) (TakesMemory first machine (events.ToModule index)) fault (subst (λ o. IsFault o ⊥ fault) (refusal-to_module index) r)
+
+  pub fault_to_cpu : (index : ℕ) (fault : WorldError) → IsFault (delivery_refusal (length world.to_cpu) world.last_to_cpu index) ⊥ fault
+      → IsFault (refusal machine (events.ToCpu index)) (TakesMemory first machine (events.ToCpu index)) fault
+  fault_to_cpu index fault r = with_takes (refusal machine (events.ToCpu index)) (TakesMemory first machine (events.ToCpu index)) fault (subst (λ o. IsFault o ⊥ fault) (refusal-to_cpu index) r)
+
+  -- there was no place for the module's answer
+  pub fault_received : (index : ℕ) → delivery_refusal (length world.to_module) world.last_to_module index ≡ None
+      → IsFault (refusal machine (events.ToModule index)) (TakesMemory first machine (events.ToModule index)) errors.Memory
+  fault_received index fine = subst (λ r. IsFault r (Unit {0}) errors.Memory) (sym (sym (refusal-to_module index) ∙ fine)) (refl, tt)
+
+-- a run and one event more
+leads-push : (settings : Settings) (first : ℕ) (from to : Machine) (done : List Event) (event : Event) → Leads settings first from done to → refusal to event ≡ None → Leads settings first from (done ++ event ∷ []) (after settings first to event)
+leads-push settings first from to [] event is fine = subst (λ m. Leads settings first m (event ∷ []) (after settings first to event)) is (fine, refl)
+leads-push settings first from to (e ∷ done) event is fine = (is.0, leads-push settings first (after settings first from e) to done event is.1 fine)
+
+-- a world that stands for some events stands, after one more, for these and that one, or for these if it was refused
+pub stands_on : (settings : Settings) (first : ℕ) (done : List Event) (event : Event) (result : Result Outcome WorldError) (old new : Ends)
+    → StandsFor settings first done old
+    → ((machine : Machine) → Shows settings first machine old → Steps settings first machine event result new)
+    → OnErr result (new ≡ old)
+    → StandsFor settings first (events_done done event result) new
+stands_on settings first done event (Ok outcome) old new s steps err =
+    let row = steps s.machine s.shown in
+    record { in_range = s.in_range; machine = after settings first s.machine event; is_run = leads-push settings first start s.machine done event s.is_run row.fine; shown = row.shown }
+stands_on settings first done event (Err fault) old new s steps err =
+    record { in_range = s.in_range; machine = s.machine; is_run = s.is_run; shown = subst (Shows settings first s.machine) (sym err) s.shown }

@@ -1,0 +1,51 @@
+-- Polls and block answers among the frames of one direction.
+use Rattle.std.specs.Prelude.{◌≡◌, ℕ, ◌==◌, Bool, false, List, [], ◌∷◌, ◌++◌, slice_get, Option, Some, None}
+use Rattle.fio_message.specs.Blocks.{Block}
+use Rattle.fio_message.specs.Decoding.{poll_in, block_in}
+use Rattle.fio_message.specs.Status.{says_again}
+use Rattle.fio_module.specs.Life.{Received, History}
+use Rattle.fio_world.specs.Link.{Sent}
+
+-- the frame at this place, from 0, spells a poll with this number, and has this round
+pub record HasPoll (frames : List Sent) (place number round : ℕ) : Type 0 where
+  pub frame : Sent
+  pub at_place : slice_get frames place ≡ Some frame
+  pub spells : poll_in frame.octets ≡ Some number
+  pub of_round : frame.round ≡ round
+
+-- the frame at this place, from 0, spells a block answer with this block, to a poll of this round
+pub record HasBlock (frames : List Sent) (place : ℕ) (block : Block) (round : ℕ) : Type 0 where
+  pub frame : Sent
+  pub at_place : slice_get frames place ≡ Some frame
+  pub spells : block_in frame.octets ≡ Some block
+  pub of_round : frame.round ≡ round
+
+-- the numbers of the polls that a module has received, in all its lives, newest first
+abbrev pub number_with : Option ℕ → List ℕ → List ℕ
+number_with None numbers = numbers
+number_with (Some number) numbers = number ∷ numbers
+
+abbrev pub received_numbers : History → List ℕ
+received_numbers [] = []
+received_numbers (Received octets ∷ history) = number_with (poll_in octets) (received_numbers history)
+received_numbers (other ∷ history) = received_numbers history
+
+-- whether a poll of this round is of the same round as the newest of these
+abbrev pub is_repeated : ℕ → List ℕ → Bool
+is_repeated round [] = false
+is_repeated round (newest ∷ older) = round == newest
+
+-- the rounds of polls received, given newest first, in the order received, each with whether the poll
+-- received before had the same round
+abbrev pub repeats : List ℕ → List (ℕ × Bool)
+repeats [] = []
+repeats (round ∷ older) = repeats older ++ (round, is_repeated round older) ∷ []
+
+-- the rounds of the block answers among frames, in order, each with whether it says that the number was asked for again
+abbrev pub answer_before : Option Block → ℕ → List (ℕ × Bool) → List (ℕ × Bool)
+answer_before None round answers = answers
+answer_before (Some block) round answers = (round, says_again block.status) ∷ answers
+
+abbrev pub block_answers : List Sent → List (ℕ × Bool)
+block_answers [] = []
+block_answers (frame ∷ frames) = answer_before (block_in frame.octets) frame.round (block_answers frames)

@@ -1,0 +1,143 @@
+-- How a world shows the link machine, and what its calls promise.
+use Rattle.std.specs.Prelude.{◌≡◌, ◌⊎◌, ℕ, ◌+◌, List, [], ◌∷◌, ◌++◌, length, map, take, slice_get, Option, Some, None, Result, Ok, Err, MatchResult}
+use Rattle.arrayvec.specs.ArrayVec.{ArrayVec}
+use Rattle.fio_message.specs.declared.commands.Command.TheVariants as commands
+use Rattle.fio_message.specs.declared.answers.Answer.{Answer}
+use Rattle.fio_message.specs.Commands.{command_octets}
+use Rattle.fio_message.specs.Answers.{answer_octets}
+use Rattle.fio_message.specs.Decoding.{decoded_answer, block_in}
+use Rattle.fio_module.specs.Settings.{Settings, AreInRange}
+use Rattle.fio_module.specs.Replies.{reply_to}
+use Rattle.fio_module.specs.Module as modules
+use Rattle.fio_cpu.specs.Poller.{Polling}
+use Rattle.fio_cpu.specs.Hearing.{heard_as, AddsItems}
+use Rattle.fio_world.specs.declared.event.Event.{Event}
+use Rattle.fio_world.specs.declared.event.Event.TheVariants as events
+use Rattle.fio_world.specs.declared.outcome.Outcome.{Outcome}
+use Rattle.fio_world.specs.declared.outcome.Outcome.TheVariants as outcomes
+use Rattle.fio_world.specs.declared.outcome.WorldError.{WorldError}
+use Rattle.fio_world.specs.declared.outcome.WorldError.TheVariants as errors
+use Rattle.fio_world.specs.Link.{Machine, Sent, Refusal, NotSent, OutOfOrder, PollIsOurs, refusal, after, number_of, frame_numbered, IsRun}
+use Rattle.fio_world.specs.Sound.{IsSoundRun}
+use Rattle.fio_world.specs.Ends.{Ends}
+
+abbrev pub octets_of : Sent → List ℕ
+octets_of frame = frame.octets
+
+-- what the machine has of the CPU
+abbrev pub polling_of : ℕ → Machine → Polling
+polling_of first machine = record { number = number_of first machine.round; items = machine.items }
+
+-- the world shows what the machine has, but for the rounds
+pub record Shows (settings : Settings) (first : ℕ) (machine : Machine) (world : Ends) : Type 0 where
+  pub history : modules.StandsFor settings world.module_end machine.history
+  pub polling : world.poller_end ≡ polling_of first machine
+  pub frames_to_module : world.to_module ≡ map octets_of machine.to_module
+  pub frames_to_cpu : world.to_cpu ≡ map octets_of machine.to_cpu
+  pub last_to_module : world.last_to_module ≡ machine.last_to_module
+  pub last_to_cpu : world.last_to_cpu ≡ machine.last_to_cpu
+
+-- ---- one event
+
+-- a frame was sent after so many others
+abbrev pub sent_after : ℕ → List ℕ → Outcome
+sent_after count octets = outcomes.Sent (count + 1) (record { items = octets })
+
+-- what the module's reply brings, after so many answers
+abbrev pub replied_after : ℕ → Option Answer → Outcome
+replied_after count None = outcomes.Quiet
+replied_after count (Some answer) = sent_after count (answer_octets answer)
+
+abbrev pub received_outcome : Settings → Machine → Option Sent → Outcome
+received_outcome settings machine None = outcomes.Quiet
+received_outcome settings machine (Some frame) =
+    replied_after (length machine.to_cpu) (reply_to settings machine.history frame.octets)
+
+abbrev pub heard_outcome : ℕ → Option Sent → Outcome
+heard_outcome number None = outcomes.Quiet
+heard_outcome number (Some frame) = outcomes.Heard (heard_as number (decoded_answer frame.octets))
+
+-- what an event brings that is not refused
+abbrev pub outcome_of : Settings → ℕ → Machine → Event → Outcome
+outcome_of settings first machine events.Poll =
+    sent_after (length machine.to_module) (command_octets (commands.Poll (number_of first machine.round)))
+outcome_of settings first machine (events.Send command) =
+    sent_after (length machine.to_module) (command_octets command)
+outcome_of settings first machine (events.ToModule index) =
+    received_outcome settings machine (frame_numbered machine.to_module index)
+outcome_of settings first machine (events.ToCpu index) =
+    heard_outcome (number_of first machine.round) (frame_numbered machine.to_cpu index)
+outcome_of settings first machine other = outcomes.Quiet
+
+-- how a refusal of the machine is told
+abbrev pub error_of : Refusal → WorldError
+error_of (NotSent index) = errors.NotSent index
+error_of (OutOfOrder index last) = errors.OutOfOrder index last
+error_of PollIsOurs = errors.PollIsOurs
+
+abbrev pub AddsFrom : Polling → Option Sent → Type 0
+AddsFrom polling None = ⊥
+AddsFrom polling (Some frame) = AddsItems polling (block_in frame.octets)
+
+-- the event may take memory: one that sends a frame or may be answered, and a delivery that adds to the record
+abbrev pub TakesMemory : ℕ → Machine → Event → Type 0
+TakesMemory first machine events.Poll = Unit {0}
+TakesMemory first machine (events.Send command) = Unit {0}
+TakesMemory first machine (events.ToModule index) = Unit {0}
+TakesMemory first machine (events.ToCpu index) =
+    AddsFrom (polling_of first machine) (frame_numbered machine.to_cpu index)
+TakesMemory first machine other = ⊥
+
+-- the fault is the machine's refusal; or the machine does not refuse, and memory that the event takes is wanting
+abbrev pub IsFault : Option Refusal → Type 0 → WorldError → Type 0
+IsFault None takes fault = (fault ≡ errors.Memory) × takes
+IsFault (Some refusal) takes fault = fault ≡ error_of refusal
+
+-- what an event that is done gives: the machine does not refuse it, the outcome is exact, and the world shows the
+-- machine after it
+pub record IsDone (settings : Settings) (first : ℕ) (machine : Machine) (event : Event) (outcome : Outcome) (world : Ends) : Type 0 where
+  pub fine : refusal machine event ≡ None
+  pub brought : outcome ≡ outcome_of settings first machine event
+  pub shown : Shows settings first (after settings first machine event) world
+
+-- one event on a world that shows a machine: it is done, or refused exactly as the machine refuses it
+abbrev pub Steps : Settings → ℕ → Machine → Event → Result Outcome WorldError → Ends → Type 0
+Steps settings first machine event result world =
+    MatchResult result
+      (λ outcome. IsDone settings first machine event outcome world)
+      (λ fault. IsFault (refusal machine event) (TakesMemory first machine event) fault)
+
+-- ---- runs
+
+-- the world shows the machine that these events lead to
+pub record StandsFor (settings : Settings) (first : ℕ) (events : List Event) (world : Ends) : Type 0 where
+  pub in_range : AreInRange settings
+  pub machine : Machine
+  pub is_run : IsRun settings first events machine
+  pub shown : Shows settings first machine world
+
+-- the world shows the machine that these events lead to, and all that is promised of runs holds of that machine
+pub record IsSoundWorld (settings : Settings) (first : ℕ) (events : List Event) (world : Ends) : Type 0 where
+  pub in_range : AreInRange settings
+  pub machine : Machine
+  pub sound : IsSoundRun settings first events machine
+  pub shown : Shows settings first machine world
+
+-- the events that have happened once one more was done or refused
+abbrev pub events_done : List Event → Event → Result Outcome WorldError → List Event
+events_done events event (Ok outcome) = events ++ event ∷ []
+events_done events event (Err fault) = events
+
+-- The events before this place were done and the world shows them; the event there has this fault.
+pub record HasStoppedAt (settings : Settings) (first : ℕ) (events : List Event) (place : ℕ) (fault : WorldError) (world : Ends) : Type 0 where
+  pub machine : Machine
+  pub done : IsRun settings first (take place events) machine
+  pub shown : Shows settings first machine world
+  pub event : Event
+  pub here : slice_get events place ≡ Some event
+  pub cause : IsFault (refusal machine event) (TakesMemory first machine event) fault
+
+-- A run has stopped after so many events: there was no memory for a start, or the event at this place has this fault.
+abbrev pub HasStopped : Settings → ℕ → List Event → ℕ → WorldError → Type 0
+HasStopped settings first events place fault =
+    (place ≡ 0) × (fault ≡ errors.Memory) ⊎ ((world : Ends) × HasStoppedAt settings first events place fault world)

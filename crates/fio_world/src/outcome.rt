@@ -1,0 +1,55 @@
+//! What an event brings, and why it may not happen.
+use fio_cpu::Heard;
+use fio_message::Frame;
+use thiserror::Error;
+
+/// What an event brought.
+#[derive(Clone, Debug, Drop, PartialEq, Eq)]
+pub enum Outcome {
+    /// A frame was sent: a command of the CPU, or the module's answer.
+    Sent {
+        /// Its number among all frames ever sent in its direction, from 1.
+        index: usize,
+        /// Its octets.
+        frame: Frame,
+    },
+    /// The CPU heard a frame.
+    Heard(Heard),
+    /// There is nothing to tell.
+    Quiet,
+}
+
+/// Why an event did not happen: the first of these that applies. The world is unchanged.
+#[derive(Clone, Copy, Debug, PartialEq, Eq, Error)]
+pub enum WorldError {
+    /// No frame with this number was sent in that direction: it is 0, or above the number sent.
+    #[error("not sent {index}")]
+    NotSent {
+        /// The number that was asked for.
+        index: usize,
+    },
+    /// A frame with a higher number was delivered in that direction already.
+    #[error("out of order {index} after {last}")]
+    OutOfOrder {
+        /// The number that was asked for.
+        index: usize,
+        /// The number that was delivered last.
+        last: usize,
+    },
+    /// A poll was handed in to be sent: polls are sent by `Event::Poll` alone.
+    #[error("poll is ours")]
+    PollIsOurs,
+    /// There was no memory for what the event adds.
+    #[error("out of memory")]
+    Memory,
+}
+
+/// What stopped a run.
+#[derive(Clone, Copy, Debug, PartialEq, Eq, Error)]
+#[error("after {place} events: {fault}")]
+pub struct RunError {
+    /// How many events were done; 0 also where there was no memory for a start.
+    pub place: usize,
+    /// Why the next one was not.
+    pub fault: WorldError,
+}

@@ -1,0 +1,202 @@
+//! Both ends and the bus between them.
+ghost use Rattle.std.specs.Prelude.{◌≡◌, ◌≤◌, ◌<◌, ◌+◌, ◌∷◌, ◌++◌, [], List, ℕ, IfOk, IfErr, OnOk, OnErr, length, vec_len, vec_capacity};
+ghost use Rattle.std.specs.Option.{option_map};
+ghost use Rattle.std.specs.Borrow.{Bor};
+ghost use Rattle.fio_module.specs.Settings.{Settings, standard_settings, settings_with};
+ghost use Rattle.fio_world.specs.declared.event.Event.{Event as Happening};
+ghost use Rattle.fio_world.specs.declared.event.Event.TheVariants as events;
+ghost use Rattle.fio_world.specs.Link.{Machine, refusal, delivery_refusal};
+ghost use Rattle.fio_world.specs.Headline.{Headline};
+ghost use Rattle.fio_world.specs.Ends.{octets_numbered};
+ghost use Rattle.fio_world.specs.Worlds.{Shows, Steps, StandsFor, IsSoundWorld, HasStopped, HasStoppedAt, events_done};
+
+mod frames;
+mod happening;
+
+use self::frames::octets_of_frame;
+use crate::event::Event;
+use crate::outcome::{Outcome, RunError, WorldError};
+use fio_cpu::Poller;
+use fio_message::{Command, Frame, Memory, encode_command};
+use fio_module::{Limits, Module};
+use std::alloc::Global;
+use std::marker::Model;
+
+/// A module, a CPU's poller, and all frames ever sent between them.
+#[derive(Drop)]
+pub struct World {
+    module: Module,
+    poller: Poller,
+    to_module: Vec<Frame>,
+    to_cpu: Vec<Frame>,
+    last_to_module: usize,
+    last_to_cpu: usize,
+}
+
+impl Model for World {
+    ghost use Rattle.std.specs.Prelude.{map};
+    ghost use Rattle.fio_world.specs.Ends.{Ends, frame_octets};
+
+    ghost Value = { Ends };
+
+    ghost view = { λ w. record {
+        module_end = w.module; poller_end = w.poller;
+        to_module = map frame_octets w.to_module.items; to_cpu = map frame_octets w.to_cpu.items;
+        last_to_module = w.last_to_module; last_to_cpu = w.last_to_cpu } };
+}
+
+impl World {
+    /// A world in which nothing has happened: a module with this identification octet and the standard
+    /// limits, and a CPU with this first block number.
+    ///
+    /// # Errors
+    /// `Memory` where there is none for the module's waiting entries.
+    pub fn new(alloc: Global, id: u8, first: u8) -> Result<World, Memory>
+        ensures ok { IfOk result (λ world. IsSoundWorld (standard_settings id) first [] world) }
+        ensures headline { IfOk result (λ world.
+            Headline (standard_settings id) first [] world.poller_end.items) }
+    {
+        World::with_limits(alloc, id, first, Limits::STANDARD)
+    }
+
+    /// The same, for a module with these limits.
+    ///
+    /// # Errors
+    /// `Memory` where there is none for the module's waiting entries.
+    pub fn with_limits(alloc: Global, id: u8, first: u8, limits: Limits) -> Result<World, Memory>
+        ensures ok { IfOk result (λ world. IsSoundWorld (settings_with id limits) first [] world) }
+        ensures headline { IfOk result (λ world.
+            Headline (settings_with id limits) first [] world.poller_end.items) }
+    {
+        Ok(World {
+            module: Module::with_limits(alloc, id, limits)?,
+            poller: Poller::new(alloc, first),
+            to_module: Vec::new(alloc),
+            to_cpu: Vec::new(alloc),
+            last_to_module: 0,
+            last_to_cpu: 0,
+        })
+    }
+
+    /// A new world, to which these events happen in order. It stops at the first that is refused.
+    ///
+    /// # Errors
+    /// How many events were done, and why the next was not; at place 0 also where there was no memory
+    /// for a start.
+    pub fn run(alloc: Global, id: u8, first: u8, events: &[Event]) -> Result<World, RunError>
+        ensures ok { IfOk result (λ world. IsSoundWorld (standard_settings id) first events.now world) }
+        ensures headline { IfOk result (λ world.
+            Headline (standard_settings id) first events.now world.poller_end.items) }
+        ensures err { IfErr result (λ e. HasStopped (standard_settings id) first events.now e.place e.fault) }
+    {
+        World::run_with_limits(alloc, id, first, Limits::STANDARD, events)
+    }
+
+    /// The same, for a module with these limits.
+    ///
+    /// # Errors
+    /// Those of `run`.
+    pub fn run_with_limits(
+        alloc: Global,
+        id: u8,
+        first: u8,
+        limits: Limits,
+        events: &[Event],
+    ) -> Result<World, RunError>
+        ensures ok { IfOk result (λ world. IsSoundWorld (settings_with id limits) first events.now world) }
+        ensures headline { IfOk result (λ world.
+            Headline (settings_with id limits) first events.now world.poller_end.items) }
+        ensures err { IfErr result (λ e. HasStopped (settings_with id limits) first events.now e.place e.fault) }
+    {
+        let Ok(mut world) = World::with_limits(alloc, id, first, limits) else {
+            return Err(RunError {
+                place: 0,
+                fault: WorldError::Memory,
+            });
+        };
+        match world.happen_all(events) {
+            Ok(()) => Ok(world),
+            Err(error) => Err(error),
+        }
+    }
+
+    /// Lets one event happen, or refuses it and changes nothing.
+    ///
+    /// # Errors
+    /// The first that applies: a delivery of a frame that was not sent, a delivery behind the last one,
+    /// a poll handed in to be sent, want of memory. `Scan`, `LineSync`, `Raise`, `Restart` and a delivery
+    /// to the CPU that adds nothing to the record take no memory.
+    pub fn step(&mut self, event: &Event) -> Result<Outcome, WorldError>
+        ensures row { (settings : Settings) (first : ℕ) (machine : Machine) → Shows settings first machine self.old
+            → Steps settings first machine event.now result self.new }
+        ensures err { OnErr result (self.new ≡ self.old) }
+        ensures stands { (settings : Settings) (first : ℕ) (events : List Happening)
+            → StandsFor settings first events self.old
+            → IsSoundWorld settings first (events_done events event.now result) self.new }
+        ensures headline { (settings : Settings) (first : ℕ) (events : List Happening)
+            → StandsFor settings first events self.old
+            → Headline settings first (events_done events event.now result) self.new.poller_end.items }
+    {
+        self.happen(event)
+    }
+
+    /// The module.
+    pub fn module(&self) -> &Module
+        ensures { result.now ≡ self.now.module_end }
+    {
+        &self.module
+    }
+
+    /// The CPU's end, with its record.
+    pub fn poller(&self) -> &Poller
+        ensures { result.now ≡ self.now.poller_end }
+    {
+        &self.poller
+    }
+
+    /// How many frames were sent to the module.
+    pub fn sent_to_module(&self) -> usize
+        ensures { result ≡ length self.now.to_module }
+    {
+        self.to_module.len()
+    }
+
+    /// How many frames were sent to the CPU.
+    pub fn sent_to_cpu(&self) -> usize
+        ensures { result ≡ length self.now.to_cpu }
+    {
+        self.to_cpu.len()
+    }
+
+    /// The number of the frame that was delivered to the module last, 0 if none was.
+    pub fn last_to_module(&self) -> usize
+        ensures { result ≡ self.now.last_to_module }
+    {
+        self.last_to_module
+    }
+
+    /// The number of the frame that was delivered to the CPU last, 0 if none was.
+    pub fn last_to_cpu(&self) -> usize
+        ensures { result ≡ self.now.last_to_cpu }
+    {
+        self.last_to_cpu
+    }
+
+    /// The octets of the frame with this number that was sent to the module, from 1; `None` where none
+    /// has it.
+    pub fn frame_to_module(&self, index: usize) -> Option<&[u8]>
+        ensures { option_map (λ (octets : Bor (List ℕ)). octets.now) result
+            ≡ octets_numbered self.now.to_module index }
+    {
+        octets_of_frame(&self.to_module, index)
+    }
+
+    /// The octets of the frame with this number that was sent to the CPU, from 1; `None` where none has
+    /// it.
+    pub fn frame_to_cpu(&self, index: usize) -> Option<&[u8]>
+        ensures { option_map (λ (octets : Bor (List ℕ)). octets.now) result
+            ≡ octets_numbered self.now.to_cpu index }
+    {
+        octets_of_frame(&self.to_cpu, index)
+    }
+}

@@ -1,0 +1,124 @@
+//! One event on a world.
+ghost use Rattle.std.specs.Prelude.{◌≡◌, ◌+◌, ◌∷◌, ◌++◌, [], ℕ, IfOk, IfErr, OnOk, OnErr, take, length};
+ghost use Rattle.fio_module.specs.Settings.{Settings};
+ghost use Rattle.fio_world.specs.declared.event.Event.{Event as Happening};
+ghost use Rattle.fio_world.specs.declared.event.Event.TheVariants as events;
+ghost use Rattle.fio_world.specs.Link.{Machine};
+ghost use Rattle.fio_world.specs.Worlds.{Shows, Steps, StandsFor, IsSoundWorld, HasStoppedAt};
+
+use super::World;
+use super::frames::{add_within, check_delivery, copy_of};
+use crate::event::Event;
+use crate::outcome::{Outcome, RunError, WorldError};
+use fio_message::{Command, Frame, Memory, encode_command};
+
+impl World {
+    /// Lets these events happen in order, up to the first that is refused.
+    pub(crate) fn happen_all(&mut self, events: &[Event]) -> Result<(), RunError>
+        ensures ok { OnOk result ((settings : Settings) (first : ℕ)
+            → IsSoundWorld settings first [] self.old → IsSoundWorld settings first events.now self.new) }
+        ensures err { IfErr result (λ e. (settings : Settings) (first : ℕ)
+            → IsSoundWorld settings first [] self.old
+            → HasStoppedAt settings first events.now e.place e.fault self.new) }
+    {
+        for (place, event) in events.iter().enumerate() {
+            if let Err(fault) = self.step(event) {
+                return Err(RunError { place, fault });
+            }
+        }
+        Ok(())
+    }
+
+    /// Lets one event happen, or refuses it and changes nothing.
+    pub(crate) fn happen(&mut self, event: &Event) -> Result<Outcome, WorldError>
+        ensures row { (settings : Settings) (first : ℕ) (machine : Machine) → Shows settings first machine self.old
+            → Steps settings first machine event.now result self.new }
+        ensures err { OnErr result (self.new ≡ self.old) }
+    {
+        match event {
+            Event::Scan(raw) => {
+                self.module.scan(*raw);
+                Ok(Outcome::Quiet)
+            }
+            Event::LineSync => {
+                self.module.line_sync();
+                Ok(Outcome::Quiet)
+            }
+            Event::Raise(mask) => {
+                self.module.raise(*mask);
+                Ok(Outcome::Quiet)
+            }
+            Event::Restart => {
+                self.module.restart();
+                Ok(Outcome::Quiet)
+            }
+            Event::Poll => {
+                let frame = self.poller.poll();
+                self.send(frame)
+            }
+            Event::Send(Command::Poll { .. }) => Err(WorldError::PollIsOurs),
+            Event::Send(command) => self.send(encode_command(command)),
+            Event::ToModule(index) => self.deliver_to_module(*index),
+            Event::ToCpu(index) => self.deliver_to_cpu(*index),
+        }
+    }
+
+    /// The CPU sends a frame.
+    fn send(&mut self, frame: Frame) -> Result<Outcome, WorldError>
+        ensures outcome { IfOk result (λ outcome.
+            outcome ≡ Outcome.Sent (length self.old.to_module + 1) frame) }
+        ensures ok { OnOk result (self.new
+            ≡ record self.old { to_module = self.old.to_module ++ frame.items ∷ [] }) }
+        ensures fault { IfErr result (λ fault. fault ≡ WorldError.Memory) }
+        ensures err { OnErr result (self.new ≡ self.old) }
+    {
+        let copy = copy_of(&frame);
+        match self.to_module.push(copy) {
+            Ok(()) => Ok(Outcome::Sent {
+                index: self.to_module.len(),
+                frame,
+            }),
+            Err(_) => Err(WorldError::Memory),
+        }
+    }
+
+    /// The module receives a frame. The place for its answer is asked for first.
+    fn deliver_to_module(&mut self, index: usize) -> Result<Outcome, WorldError>
+        ensures row { (settings : Settings) (first : ℕ) (machine : Machine) → Shows settings first machine self.old
+            → Steps settings first machine (events.ToModule index) result self.new }
+        ensures err { OnErr result (self.new ≡ self.old) }
+    {
+        check_delivery(self.to_module.len(), self.last_to_module, index)?;
+        if self.to_cpu.reserve(1).is_err() {
+            return Err(WorldError::Memory);
+        }
+        let answer = self.module.receive(self.to_module[index - 1].as_slice());
+        self.last_to_module = index;
+        match answer {
+            None => Ok(Outcome::Quiet),
+            Some(frame) => {
+                add_within(&mut self.to_cpu, copy_of(&frame));
+                Ok(Outcome::Sent {
+                    index: self.to_cpu.len(),
+                    frame,
+                })
+            }
+        }
+    }
+
+    /// The CPU hears a frame.
+    fn deliver_to_cpu(&mut self, index: usize) -> Result<Outcome, WorldError>
+        ensures row { (settings : Settings) (first : ℕ) (machine : Machine) → Shows settings first machine self.old
+            → Steps settings first machine (events.ToCpu index) result self.new }
+        ensures err { OnErr result (self.new ≡ self.old) }
+    {
+        check_delivery(self.to_cpu.len(), self.last_to_cpu, index)?;
+        match self.poller.hear(self.to_cpu[index - 1].as_slice()) {
+            Ok(heard) => {
+                self.last_to_cpu = index;
+                Ok(Outcome::Heard(heard))
+            }
+            Err(Memory) => Err(WorldError::Memory),
+        }
+    }
+}
