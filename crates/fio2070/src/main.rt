@@ -1,0 +1,45 @@
+//! The program `fio2070`: the words of its command line and its standard streams, handed to the crate
+//! `fio_tool`.
+#![tactic(auto)]
+
+use fio_tool::run_program;
+use std::io::ErrorKind;
+use std::process::ExitCode;
+use std::rt::Env;
+use std::{env, io};
+
+/// The exit status for words that are no text.
+const MISUSED: u8 = 2;
+
+/// The exit status for want of memory.
+const FAILED: u8 = 3;
+
+fn main(rt: HostRuntime) -> ExitCode {
+    match run(&rt) {
+        Ok(status) => ExitCode::from(status),
+        Err(error) if error.kind() == ErrorKind::OutOfMemory => {
+            let _ = rt.println("fio2070: out of memory");
+            ExitCode::from(FAILED)
+        }
+        Err(_) => ExitCode::from(MISUSED),
+    }
+}
+
+/// The exit status, or why the words of the command line could not be had.
+fn run(rt: &HostRuntime) -> io::Result<u8> {
+    let alloc = rt.alloc();
+    let words: Vec<String> = words(rt)?;
+    let words: Vec<&str> = words.iter().map(|word| word.as_str()).collect(alloc)?;
+    Ok(run_program(
+        alloc,
+        words.as_slice(),
+        &mut rt.stdin(),
+        &mut rt.stdout(),
+    ))
+}
+
+/// The words of the command line, the program's name first.
+fn words(rt: &(impl Env + AllocGlobal)) -> io::Result<Vec<String>> {
+    let words = env::args(rt)?.collect(rt.alloc())?;
+    Ok(words)
+}

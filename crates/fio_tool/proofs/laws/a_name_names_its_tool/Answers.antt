@@ -1,0 +1,5 @@
+use Rattle.fio_tool.proofs.ChoosingLemmas.{names_tool}
+use Rattle.fio_tool.proofs.laws.a_name_names_its_tool.Goals as goal
+
+pub returns : goal.returns
+returns c = names_tool

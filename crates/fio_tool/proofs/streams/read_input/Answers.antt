@@ -1,0 +1,11 @@
+use Rattle.std.proofs.Common.{◌++◌, take, arith, rules, append_assoc, length-append, length-take}
+use Rattle.std.proofs.lemmas.Grind.{common_steps}
+use Rattle.std.proofs.KnownBytes.{Consumes-trans}
+use Rattle.fio_tool.proofs.streams.read_input.Goals as goal
+
+pub returns-in_err-extend_from_slice-clause-taken : goal.returns-in_err-extend_from_slice-clause-taken
+returns-in_err-extend_from_slice-clause-taken g c = (
+  c.reads.input.items ++ take c.in-Ok.count c.read.new.buf,
+  Consumes-trans _ _ _ _ _ c.reads.invariant.0 c.in-Ok.ensures.bytes.0,
+  grind (arith, common_steps),
+)

@@ -1,0 +1,26 @@
+-- The words of a command line, by clap's own function of them.
+use Rattle.std.specs.Prelude.{◌≡◌, ℕ, List, [], Option, Some, codes, fold, option_map, true}
+use Rattle.clap.specs.Faults.{fault_of}
+use Rattle.clap.specs.Simple.{App, new_app, new_shape, on_top, with_subcommand, subcommand_of}
+use Rattle.fio_tool.specs.Tools.{name_of, tools}
+use Rattle.fio_tool.specs.declared.tools.Tool.{Tool}
+
+-- the program's name, with a version and without a subcommand for help
+abbrev pub program : App
+program = on_top (λ top. record top { disable_help_subcommand = true; has_version = true }) (new_app (codes "fio2070"))
+
+abbrev pub with_tool : App → Tool → App
+with_tool app tool = with_subcommand app (new_shape (name_of tool))
+
+-- the command line: a subcommand for each tool
+abbrev pub command_line : App
+command_line = fold with_tool program tools
+
+-- the name of the subcommand that the words give, the program's name first
+abbrev pub chosen_name : List (List ℕ) → Option (List ℕ)
+chosen_name words = option_map (λ found. found.0) (subcommand_of command_line words)
+
+-- the words have no fault, and name this tool
+pub record NamesTool (words : List (List ℕ)) (tool : Tool) : Type 0 where
+  pub faultless : fault_of command_line words ≡ []
+  pub named : chosen_name words ≡ Some (name_of tool)

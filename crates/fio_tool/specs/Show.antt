@@ -1,0 +1,54 @@
+-- What `show` tells of a text: each line that says something is octets in hexadecimal digits.
+use Rattle.std.specs.Prelude.{ℕ, Bool, List, ◌++◌, ◌&&◌, length, codes, decimal, nat_le, nat_lt, not, if◌then◌else◌, slice_index_or, Option, Some, None, Result, Ok, Err, is_ok}
+use Rattle.std.specs.List.{flat_map, list_all}
+use Rattle.fio_message.specs.Decoding.{decoded_command, decoded_answer}
+use Rattle.fio_message.specs.Texts.{fault_text}
+use Rattle.fio_message.specs.declared.faults.DecodeError.{DecodeError}
+use Rattle.fio_world.specs.Hexadecimal.{octets_of}
+use Rattle.fio_world.specs.Lines.{lines_of, numbered}
+use Rattle.fio_tool.specs.ShowAnswers.{answer_text}
+use Rattle.fio_tool.specs.ShowCommands.{command_text}
+
+-- the lines for a message, or the words of its refusal
+abbrev pub shown : {M : Type 0} → (M → List ℕ) → Result M DecodeError → Result (List ℕ) (List ℕ)
+shown text (Ok message) = Ok (text message)
+shown text (Err fault) = Err (fault_text fault)
+
+-- the lines for a frame: an answer where its first octet is 128 or more, else a command
+abbrev pub shown_frame : List ℕ → Result (List ℕ) (List ℕ)
+shown_frame octets =
+    if nat_le 128 (slice_index_or octets 0 0) then shown answer_text (decoded_answer octets)
+    else shown command_text (decoded_command octets)
+
+abbrev pub shown_octets : Option (List ℕ) → Result (List ℕ) (List ℕ)
+shown_octets None = Err (codes "bad line")
+shown_octets (Some octets) = shown_frame octets
+
+-- the lines for a line that is read, or the words of its fault
+abbrev pub shown_line : List ℕ → Result (List ℕ) (List ℕ)
+shown_line line = shown_octets (octets_of line)
+
+-- these lines, or the one line that tells of the fault at this number
+abbrev pub told_at : ℕ → Result (List ℕ) (List ℕ) → List ℕ
+told_at number (Ok lines) = lines
+told_at number (Err fault) = codes "line " ++ (decimal number ++ (codes ": " ++ (fault ++ codes "\n")))
+
+-- the text for a numbered line
+abbrev pub line_text : ℕ × List ℕ → List ℕ
+line_text line = told_at line.0 (shown_line line.1)
+
+abbrev pub is_line_good : ℕ × List ℕ → Bool
+is_line_good line = is_ok (shown_line line.1)
+
+-- more octets than an input may have
+abbrev pub is_too_long : List ℕ → Bool
+is_too_long input = nat_lt 1048576 (length input)
+
+-- the text that `show` writes for an input
+abbrev pub show_text : List ℕ → List ℕ
+show_text input =
+    if is_too_long input then codes "input too long\n" else flat_map line_text (numbered 1 (lines_of input))
+
+-- whether it tells of no fault
+abbrev pub is_show_good : List ℕ → Bool
+is_show_good input = not (is_too_long input) && list_all is_line_good (numbered 1 (lines_of input))

@@ -1,0 +1,64 @@
+//! The command line.
+ghost use Rattle.std.specs.Prelude.{◌≡◌, IfOk, IfSome, IfNone, option_map, map};
+ghost use Rattle.clap.specs.Faults.{fault_of};
+ghost use Rattle.clap.specs.Kinds.{FailsBy};
+ghost use Rattle.clap.specs.Simple.{app_of};
+ghost use Rattle.fio_tool.specs.CommandLine.{chosen_name, command_line};
+ghost use Rattle.fio_tool.specs.Tools.{name_of};
+ghost use Rattle.fio_tool.specs.declared.tools.Tool.{Tool};
+
+use crate::tools::Tool;
+use clap::{Command, Error};
+use std::alloc::{AllocError, Global};
+
+/// What `--version` prints after the program's name.
+const VERSION: &str = "1.0.0";
+
+const ABOUT: &str =
+    "Reads the messages between the CPU and the field I/O module of a Model 2070 controller";
+
+const ABOUT_SHOW: &str = "Tells what the frames on standard input say, a line of hexadecimal digits each";
+
+/// The tool that the words of a command line name, the program's name first: `None` where they name no
+/// subcommand.
+///
+/// # Errors
+/// `clap`'s, exactly where the words have a fault or ask for help or the version, or where there is no
+/// memory.
+pub fn choose<'a>(alloc: Global, words: &'a [&'a str]) -> Result<Option<Tool>, Error>
+    ensures tool { IfOk result (λ tool.
+        option_map name_of tool ≡ chosen_name (map (λ word. word.now) words.entry.now)) }
+    // An `Ok` comes only where the words have no fault, and an `Err` tells of one, or of want of memory.
+    ensures fault { FailsBy
+        (fault_of command_line (map (λ word. word.now) words.entry.now)) result }
+{
+    let command = command_line(alloc)?;
+    let matches = command.try_get_matches_from(words)?;
+    let Some(name) = matches.subcommand_name() else {
+        return Ok(None);
+    };
+    Ok(tool_named(name))
+}
+
+/// The command line, with a subcommand for each tool.
+fn command_line<'a>(alloc: Global) -> Result<Command<'a>, AllocError>
+    ensures { IfOk result (λ command. app_of command ≡ command_line) }
+{
+    let show = Command::new(alloc, "show").about(ABOUT_SHOW);
+    Command::new(alloc, "fio2070")
+        .about(ABOUT)
+        .version(VERSION)
+        .disable_help_subcommand(true)
+        .subcommand(show)
+}
+
+/// The tool of a subcommand.
+fn tool_named(name: &str) -> Option<Tool>
+    ensures known { IfSome result (λ tool. name_of tool ≡ name.now) }
+    ensures unknown { IfNone result ((tool : Tool) → name_of tool ≡ name.now → ⊥) }
+{
+    match name {
+        "show" => Some(Tool::Show),
+        _ => None,
+    }
+}
