@@ -23,3 +23,4 @@ pub mod LineLemmas
 pub mod CollectedLemmas
 pub mod DigitLemmas
 pub mod ReadingLemmas
+pub mod ReportLemmas

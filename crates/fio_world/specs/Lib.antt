@@ -16,3 +16,5 @@ pub mod Forms
 pub mod Headers
 pub mod EventLines
 pub mod Scripts
+pub mod ReportLines
+pub mod Reports

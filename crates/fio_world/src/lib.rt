@@ -13,8 +13,8 @@
 //!
 //! Those of texts follow: the lines of a text (`Lines`), the words of a line (`Words`), octets as
 //! hexadecimal digits (`Hexadecimal`), readings of which the first fault decides (`Collected`), forms of
-//! lines (`Forms`), a script's first line (`Headers`), its further lines (`EventLines`), and scripts
-//! (`Scripts`). The laws are the contracts of the module `laws`.
+//! lines (`Forms`), a script's first line (`Headers`), its further lines (`EventLines`), scripts
+//! (`Scripts`), the lines of a report (`ReportLines`), and reports (`Reports`). The laws are the contracts of the module `laws`.
 #![tactic(auto)]
 
 mod event;
@@ -22,6 +22,8 @@ mod event_lines;
 mod headers;
 pub mod laws;
 mod outcome;
+mod report_lines;
+mod reporting;
 mod reports;
 mod script;
 mod scripts;
@@ -30,6 +32,7 @@ mod world;
 
 pub use event::Event;
 pub use outcome::{Outcome, RunError, WorldError};
+pub use reporting::report;
 pub use reports::{Report, push_fault};
 pub use script::{Script, ScriptError};
 pub use scripts::read_script;
