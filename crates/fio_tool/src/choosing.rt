@@ -17,18 +17,20 @@ const VERSION: &str = "1.0.0";
 const ABOUT: &str =
     "Reads the messages between the CPU and the field I/O module of a Model 2070 controller";
 
-const ABOUT_SHOW: &str = "Tells what the frames on standard input say, a line of hexadecimal digits each";
+const ABOUT_SHOW: &str =
+    "Tells what the frames on standard input say, a line of hexadecimal digits each";
 
-/// The tool that the words of a command line name, the program's name first: `None` where they name no
-/// subcommand.
+/// The tool that the words of a command line name, the program's name first: `None` where they name
+/// no subcommand.
 ///
 /// # Errors
-/// `clap`'s, exactly where the words have a fault or ask for help or the version, or where there is no
-/// memory.
+/// `clap`'s, exactly where the words have a fault or ask for help or the version, or where there is
+/// no memory.
 pub fn choose<'a>(alloc: Global, words: &'a [&'a str]) -> Result<Option<Tool>, Error>
     ensures tool { IfOk result (λ tool.
         option_map name_of tool ≡ chosen_name (map (λ word. word.now) words.entry.now)) }
-    // An `Ok` comes only where the words have no fault, and an `Err` tells of one, or of want of memory.
+    // An `Ok` comes only where the words have no fault, and an `Err` tells of one, or of want of
+    // memory.
     ensures fault { FailsBy
         (fault_of command_line (map (λ word. word.now) words.entry.now)) result }
 {

@@ -15,8 +15,8 @@ use clap::error::ErrorKind;
 use std::alloc::Global;
 use std::io::{Read, Write};
 
-/// Runs the tool that the words of a command line name, the program's name first, and gives the exit
-/// status of the program.
+/// Runs the tool that the words of a command line name, the program's name first, and gives the
+/// exit status of the program.
 ///
 /// | Status | When |
 /// |---|---|
@@ -25,8 +25,8 @@ use std::io::{Read, Write};
 /// | 2 | the words name no subcommand, or have another fault |
 /// | 3 | a read or a write failed, or there was no memory |
 ///
-/// For 3 and for no subcommand the program prints one line, `fio2070: read fault` or the like; for every
-/// other fault of the words it prints `clap`'s text. A failure to print these is passed over.
+/// For 3 and for no subcommand the program prints one line, `fio2070: read fault` or the like; for
+/// every other fault of the words it prints `clap`'s text. A failure to print these is passed over.
 pub fn run_program<'a, R: Read, W: Write>(
     alloc: Global,
     words: &'a [&'a str],
@@ -42,7 +42,7 @@ pub fn run_program<'a, R: Read, W: Write>(
     ensures told { (tool : Tool) → NamesTool (map (λ word. word.now) words.entry.now) tool
         → result ≤ 1
         → HasTold tool (R.remaining reader.old) (R.remaining reader.new)
-            (W.contents writer.old) (W.contents writer.new) (ending_of (result == 0)) }
+        (W.contents writer.old) (W.contents writer.new) (ending_of (result == 0)) }
 {
     match choose(alloc, words) {
         Ok(Some(tool)) => run_tool(alloc, tool, reader, writer),
@@ -55,17 +55,12 @@ pub fn run_program<'a, R: Read, W: Write>(
 }
 
 /// Runs a tool, whose fault is told, and gives the exit status.
-fn run_tool<R: Read, W: Write>(
-    alloc: Global,
-    tool: Tool,
-    reader: &mut R,
-    writer: &mut W,
-) -> u8
+fn run_tool<R: Read, W: Write>(alloc: Global, tool: Tool, reader: &mut R, writer: &mut W) -> u8
     ensures known { result ≤ 3 }
     ensures taken { TakesAtMost 1048577 (R.remaining reader.old) (R.remaining reader.new) }
     ensures told { result ≤ 1
         → HasTold tool (R.remaining reader.old) (R.remaining reader.new)
-            (W.contents writer.old) (W.contents writer.new) (ending_of (result == 0)) }
+        (W.contents writer.old) (W.contents writer.new) (ending_of (result == 0)) }
 {
     let ending = match tool {
         Tool::Show => show(alloc, reader, writer),
@@ -77,7 +72,7 @@ fn run_tool<R: Read, W: Write>(
 }
 
 /// The exit status after a tool.
-fn status_of(ending: Result<Ending, ToolFault>) -> u8
+pub(crate) fn status_of(ending: Result<Ending, ToolFault>) -> u8
     ensures { result ≡ status_of ending }
 {
     match ending {

@@ -1,5 +1,5 @@
-//! Input and output, whole. The calls of std that read to the end or write all try an interrupted call
-//! again; here each error is final.
+//! Input and output, whole. The calls of std that read to the end or write all try an interrupted
+//! call again; here each error is final.
 ghost use Rattle.std.specs.Prelude.{◌≡◌, IfOk, IfErr, OnOk};
 ghost use Rattle.std.specs.Io.KnownBytes.{Appends};
 ghost use Rattle.fio_tool.specs.Streams.{TakesAtMost, TakesInput};
@@ -35,10 +35,7 @@ pub(crate) fn read_input<R: Read>(alloc: Global, reader: &mut R) -> Result<Vec<u
 }
 
 /// Writes the text of a report and nothing else, and says how the tool ends.
-pub(crate) fn write_report<W: Write>(
-    writer: &mut W,
-    report: &Report,
-) -> Result<Ending, ToolFault>
+pub(crate) fn write_report<W: Write>(writer: &mut W, report: &Report) -> Result<Ending, ToolFault>
     ensures ok { OnOk result
         (Appends (W.contents writer.old) (W.contents writer.new) report.now.text.items) }
     ensures ending { IfOk result (λ ending. ending ≡ ending_of report.now.good) }

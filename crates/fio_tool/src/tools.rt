@@ -17,11 +17,12 @@ pub enum Tool {
     Show,
 }
 
-/// Writes what each frame of the input says: the text of `show_text`. The input is read whole, up to
-/// one octet more than it may have; its text is made whole, and then written and flushed.
+/// Writes what each frame of the input says: the text of `show_text`. The input is read whole, up
+/// to one octet more than it may have; its text is made whole, and then written and flushed.
 ///
 /// # Errors
-/// `Read`, `Write` and `Memory` as `ToolFault` says. On `Read` and `Memory` nothing has been written.
+/// `Read`, `Write` and `Memory` as `ToolFault` says. On `Read` and `Memory` nothing has been
+/// written.
 pub fn show<R: Read, W: Write>(
     alloc: Global,
     reader: &mut R,

@@ -8,4 +8,4 @@ abbrev pub invariant-loop-entry : goal.invariant-loop-entry
 invariant-loop-entry l =
     string_bytes l.text
     ≡ (string_bytes l.fn.text ++ block_head_text l.fn.block (length l.entries) l.fn.status l.stamp)
-        ++ flat_map (entry_text l.stamp) (take l.entry-index l.entries)
+    ++ flat_map (entry_text l.stamp) (take l.entry-index l.entries)

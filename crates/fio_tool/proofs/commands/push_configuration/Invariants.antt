@@ -8,4 +8,4 @@ abbrev pub invariant-loop-item : goal.invariant-loop-item
 invariant-loop-item l =
     string_bytes l.text
     ≡ (string_bytes l.fn.text ++ (codes "configure inputs " ++ (decimal (length l.items) ++ codes "\n")))
-        ++ flat_map item_text (take l.item-index l.items)
+    ++ flat_map item_text (take l.item-index l.items)
