@@ -1,4 +1,5 @@
--- The octets of each answer.
+-- What each answer spells: its type, 177 to 188, and its fields in order (TEES 2009; the lengths,
+-- and the layout of inputs, are of this project's own profile of 64 inputs and outputs).
 use Rattle.std.specs.Prelude.{◌≡◌, ℕ, ◌+◌, ◌*◌, ◌<◌, ◌≤◌, ◌^◌, List, [], ◌∷◌, ◌++◌, length, Option, Some, None, if◌then◌else◌, ◌==◌, slice_index_or}
 use Rattle.std.specs.List.{AllByRecursion, flat_map}
 use Rattle.std.specs.Int.{w32, to_be_bytes}
@@ -8,7 +9,7 @@ use Rattle.fio_message.specs.declared.answers.Answer.TheVariants.{Status, LoadCo
 use Rattle.fio_message.specs.declared.answers.OtherAnswer.{OtherAnswer}
 use Rattle.fio_message.specs.declared.answers.OtherAnswer.TheVariants.{SetOutputs, TrackInputs, ComplexOutputs, ControllerId, Identify}
 
--- the code of the command that is answered
+-- the type of the command that is answered, where the answer has a body only
 abbrev pub answered_by_other : OtherAnswer → ℕ
 answered_by_other SetOutputs = 55
 answered_by_other TrackInputs = 56
@@ -16,6 +17,7 @@ answered_by_other ComplexOutputs = 57
 answered_by_other ControllerId = 59
 answered_by_other Identify = 60
 
+-- the type of the command that is answered
 abbrev pub answered_code : Answer → ℕ
 answered_code (Status _ _ _ _) = 49
 answered_code (LoadCounter _) = 50
@@ -26,48 +28,64 @@ answered_code (Block _ _ _ _) = 54
 answered_code (Watchdog _) = 58
 answered_code (Other kind _) = answered_by_other kind
 
--- an answer's code is its command's plus 128
+-- An answer's type is that of its command plus 128 (TEES 2009).
 abbrev pub other_answer_code : OtherAnswer → ℕ
 other_answer_code kind = answered_by_other kind + 128
 
 abbrev pub answer_code : Answer → ℕ
 answer_code answer = answered_code answer + 128
 
--- the octets after the code
+-- The octets after the type: numbers most significant octet first, a stamp in four octets, a count
+-- before its entries, a body as it stands. The bits of a flag or status octet stand as they are, also
+-- those that have no name (own profile). Named are: of the flags, from bit 7 down, P (the module was
+-- reset), E, K, R, T, M, L and W; of the status of a load or a configuration, bit 0, S (0 done, 1
+-- error); of the status of a watchdog, bit 0, Y (1 where it had been set before); of the status of a
+-- block, those of the file `Status`. Letters and order of the flags and all places are own profile.
 abbrev pub answer_fields : Answer → List ℕ
-answer_fields (Status flags receive_errors transmit_errors stamp) = flags ∷ receive_errors ∷ transmit_errors ∷ to_be_bytes w32 stamp
+answer_fields (Status flags receive_errors transmit_errors stamp) =
+    flags ∷ receive_errors ∷ transmit_errors ∷ to_be_bytes w32 stamp
 answer_fields (LoadCounter status) = status ∷ []
 answer_fields (ConfigureInputs status) = status ∷ []
 answer_fields (RawInputs inputs stamp) = inputs_octets inputs ++ to_be_bytes w32 stamp
 answer_fields (FilteredInputs inputs stamp) = inputs_octets inputs ++ to_be_bytes w32 stamp
-answer_fields (Block block entries status stamp) = block ∷ length entries.items ∷ (flat_map entry_octets entries.items ++ (status ∷ to_be_bytes w32 stamp))
+answer_fields (Block block entries status stamp) =
+    block ∷ length entries.items
+    ∷ (flat_map entry_octets entries.items ++ (status ∷ to_be_bytes w32 stamp))
 answer_fields (Watchdog status) = status ∷ []
 answer_fields (Other _ body) = body.items
 
+-- all octets of an answer
 abbrev pub answer_octets : Answer → List ℕ
 answer_octets answer = answer_code answer ∷ answer_fields answer
 
--- the numbers and lists of an answer are within the ranges of their types
+-- The numbers and lists of an answer are within the ranges of their types: an octet is below 256, a
+-- stamp below 2^32, inputs below 2^64, at most 255 entries, a body of at most 772 octets.
 abbrev pub IsAnswer : Answer → Type 0
-IsAnswer (Status flags receive_errors transmit_errors stamp) = IsOctet flags × IsOctet receive_errors × IsOctet transmit_errors × (stamp < 2 ^ 32)
+IsAnswer (Status flags receive_errors transmit_errors stamp) =
+    IsOctet flags × IsOctet receive_errors × IsOctet transmit_errors × (stamp < 2 ^ 32)
 IsAnswer (LoadCounter status) = IsOctet status
 IsAnswer (ConfigureInputs status) = IsOctet status
 IsAnswer (RawInputs inputs stamp) = (inputs < 2 ^ 64) × (stamp < 2 ^ 32)
 IsAnswer (FilteredInputs inputs stamp) = (inputs < 2 ^ 64) × (stamp < 2 ^ 32)
-IsAnswer (Block block entries status stamp) = IsOctet block × (length entries.items ≤ 255) × AllByRecursion IsEntry entries.items × IsOctet status × (stamp < 2 ^ 32)
+IsAnswer (Block block entries status stamp) =
+    IsOctet block × (length entries.items ≤ 255) × AllByRecursion IsEntry entries.items
+    × IsOctet status × (stamp < 2 ^ 32)
 IsAnswer (Watchdog status) = IsOctet status
 IsAnswer (Other _ body) = (length body.items ≤ 772) × IsOctets body.items
 
--- The answer spells the octets: they are its code and its fields in order.
+-- The answer spells the octets: it is within its ranges, and they are its type and its fields.
 pub record SpellsAnswer (answer : Answer) (octets : List ℕ) : Type 0 where
   pub within : IsAnswer answer
   pub spelled : octets ≡ answer_octets answer
 
--- How many octets a block answer has with this count after the number. A count whose octet is missing is taken as 0.
+-- How many octets a block answer has whose fields begin with a number and this count: type, number,
+-- count, status and stamp are 8, and each entry 3 more. A count whose octet is missing is taken as
+-- 0.
 abbrev pub block_fields_length : List ℕ → ℕ
 block_fields_length fields = 8 + 3 * slice_index_or fields 1 0
 
--- How many octets an answer of this code and count has. None: there is no such answer.
+-- How many octets an answer with this first octet and this count has; None where no answer has this
+-- type. An answer that has a body only is as long as it is.
 abbrev pub answer_length : List ℕ → Option ℕ
 answer_length [] = None
 answer_length (code ∷ fields) =
@@ -84,7 +102,7 @@ answer_length (code ∷ fields) =
     else (if code == 187 then Some (1 + length fields)
     else (if code == 188 then Some (1 + length fields) else None)))))))))))
 
--- The same for a block answer alone.
+-- The same where block answers alone are read: every other type is unknown.
 abbrev pub block_length : List ℕ → Option ℕ
 block_length [] = None
 block_length (code ∷ fields) = if code == 182 then Some (block_fields_length fields) else None

@@ -1,12 +1,13 @@
--- The bits of a word, for each place on its own: bit i of a word with a bit for each input is input i.
+-- The bits of a word, each by its place: place 0 is the lowest bit. In a word of inputs bit i is
+-- input i.
 use Rattle.std.specs.Prelude.{ℕ, ◌==◌, Bool, true, false}
 use Rattle.std.specs.Int.{bit_at}
 
--- whether the bit at this place is set
+-- whether the bit of the word at this place is set
 unfoldable pub is_set : ℕ → ℕ → Bool
 is_set word place = bit_at word place == 1
 
--- a flag as a bit
+-- a flag as a bit: 1 where it is set
 abbrev pub bit_of : Bool → ℕ
 bit_of true = 1
 bit_of false = 0

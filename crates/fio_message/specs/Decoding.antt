@@ -1,4 +1,5 @@
--- Decoding as functions: what octets spell, and what a decoder answers.
+-- Decoding as functions on octets: the message that they spell, if any, and what a decoder answers.
+-- The laws tie both to spelling and to refusals.
 use Rattle.std.specs.Prelude.{ℕ, ◌+◌, ◌==◌, ◌&&◌, nat_le, nat_lt, Bool, false, List, [], ◌∷◌, length, Option, Some, None, Result, if◌then◌else◌}
 use Rattle.std.specs.Option.{ok_or}
 use Rattle.fio_message.specs.declared.commands.Command.{Command}
@@ -12,13 +13,15 @@ use Rattle.fio_message.specs.Answers.{answer_length}
 use Rattle.fio_message.specs.Blocks.{Block}
 use Rattle.fio_message.specs.Reading.{command_at, answer_at}
 
--- whether so many octets are as many as are needed, where there is a message of that type
+-- whether so many octets are as many as needed; None says that no message has their type
 abbrev pub is_length : Option ℕ → ℕ → Bool
 is_length None count = false
 is_length (Some needed) count = needed == count
 
--- the message that octets spell, where they are whole: what is read of them, if they are as many as needed and fit in a frame
-unfoldable pub message_in : {V : Type 0} → (List ℕ → Option ℕ) → (ℕ → List ℕ → V) → List ℕ → Option V
+-- The message that octets spell: what is read of them, where they are as many as needed and fit in
+-- a frame (the type and at most 772 more).
+unfoldable pub message_in :
+    {V : Type 0} → (List ℕ → Option ℕ) → (ℕ → List ℕ → V) → List ℕ → Option V
 message_in length_of read [] = None
 message_in length_of read (code ∷ fields) =
     if nat_le (length fields) 772 && is_length (length_of (code ∷ fields)) (1 + length fields)
@@ -33,7 +36,7 @@ command_in octets = message_in command_length command_at octets
 abbrev pub answer_in : List ℕ → Option Answer
 answer_in octets = message_in answer_length answer_at octets
 
--- why octets with this first one are no message that fits in a frame
+-- the fault of octets that fit in a frame: their type is unknown, or they are not as many as needed
 abbrev pub mismatch : Option ℕ → ℕ → ℕ → DecodeError
 mismatch None code got = UnknownType code
 mismatch (Some needed) code got = WrongLength needed got
@@ -57,15 +60,18 @@ answered_block other = None
 abbrev pub block_in : List ℕ → Option Block
 block_in octets = answered_block (answer_in octets)
 
--- the fault of octets that spell no message, where a message of their type and count needs so many
+-- the first fault of octets that spell no message
 abbrev pub fault_in : Option ℕ → List ℕ → DecodeError
 fault_in needed [] = Empty
 fault_in needed (code ∷ fields) =
-    if nat_lt 773 (1 + length fields) then TooLong (1 + length fields) else mismatch needed code (1 + length fields)
+    if nat_lt 773 (1 + length fields)
+    then TooLong (1 + length fields)
+    else mismatch needed code (1 + length fields)
 
--- what a decoder answers: the message, or the first fault
+-- what a decoder of commands answers: the command that the octets spell, or the first fault
 abbrev pub decoded_command : List ℕ → Result Command DecodeError
 decoded_command octets = ok_or (command_in octets) (fault_in (command_length octets) octets)
 
+-- the same for answers
 abbrev pub decoded_answer : List ℕ → Result Answer DecodeError
 decoded_answer octets = ok_or (answer_in octets) (fault_in (answer_length octets) octets)

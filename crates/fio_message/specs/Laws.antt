@@ -1,4 +1,5 @@
--- Laws of messages and their octets.
+-- Laws of messages and their octets, as words: each function of the module `laws` promises one of
+-- them.
 use Rattle.std.specs.Prelude.{◌≡◌, ◌↔◌, ℕ, ◌+◌, ◌*◌, ◌<◌, ◌≤◌, Bool, List, ◌∷◌, length, slice_index_or, Option, Some, None, Result, Ok, Err}
 use Rattle.std.specs.Int.{IsBitSet}
 use Rattle.fio_message.specs.Octets.{IsOctets, IsFrameLength, inputs_octets}
@@ -11,12 +12,14 @@ use Rattle.fio_message.specs.declared.faults.DecodeError.{DecodeError}
 use Rattle.fio_message.specs.declared.commands.Command.{Command}
 use Rattle.fio_message.specs.declared.answers.Answer.{Answer}
 
+-- of commands, or of answers, by which octets they spell
 module _ {V : Type 0} (Spells : V → List ℕ → Type 0) where
-  -- each message spells exactly one list, of 1 to 773 octets
+  -- each message within the ranges of its type spells exactly one list, of 1 to 773 octets
   abbrev pub EachSpellsOneList : (V → Type 0) → Type 0
   EachSpellsOneList Fits =
       (message : V) → Fits message →
-      (octets : List ℕ) × Spells message octets × IsFrameLength (length octets) × IsOctets octets × ((others : List ℕ) → Spells message others → others ≡ octets)
+      (octets : List ℕ) × Spells message octets × IsFrameLength (length octets) × IsOctets octets
+      × ((others : List ℕ) → Spells message others → others ≡ octets)
 
   -- no two messages spell one list
   abbrev pub NoTwoSpellOneList : Type 0
@@ -25,53 +28,70 @@ module _ {V : Type 0} (Spells : V → List ℕ → Type 0) where
   -- 1 to 773 octets of a known type are spelled exactly if they are as many as needed
   abbrev pub IsSpelledAtNeededLength : (List ℕ → Option ℕ) → Type 0
   IsSpelledAtNeededLength length_of =
-      (octets : List ℕ) (needed : ℕ) → IsOctets octets → IsFrameLength (length octets) → length_of octets ≡ Some needed →
+      (octets : List ℕ) (needed : ℕ) → IsOctets octets → IsFrameLength (length octets) →
+      length_of octets ≡ Some needed →
       ((message : V) × Spells message octets) ↔ (length octets ≡ needed)
 
   -- octets are spelled by a message exactly if they are refused for no fault
   abbrev pub IsSpelledOrRefused : (List ℕ → Option ℕ) → Type 0
   IsSpelledOrRefused length_of =
       (octets : List ℕ) → IsOctets octets →
-      ((message : V) × Spells message octets) ↔ ((fault : DecodeError) → Refuses (length_of octets) octets fault → ⊥)
+      ((message : V) × Spells message octets)
+      ↔ ((fault : DecodeError) → Refuses (length_of octets) octets fault → ⊥)
 
   -- what is spelled is what is read of the octets
   abbrev pub IsReadBack : (List ℕ → Option V) → Type 0
-  IsReadBack found = (message : V) (octets : List ℕ) → Spells message octets → found octets ≡ Some message
+  IsReadBack found =
+      (message : V) (octets : List ℕ) → Spells message octets → found octets ≡ Some message
 
   -- what is read of octets spells them
   abbrev pub SpellsWhatIsRead : (List ℕ → Option V) → Type 0
   SpellsWhatIsRead found =
-      (octets : List ℕ) (message : V) → IsOctets octets → found octets ≡ Some message → Spells message octets
+      (octets : List ℕ) (message : V) → IsOctets octets → found octets ≡ Some message
+      → Spells message octets
 
   -- a decoder answers a message exactly if it spells the octets
   abbrev pub AnswersWhatIsSpelled : (List ℕ → Result V DecodeError) → Type 0
   AnswersWhatIsSpelled decoded =
-      (octets : List ℕ) (message : V) → IsOctets octets → (decoded octets ≡ Ok message) ↔ Spells message octets
+      (octets : List ℕ) (message : V) → IsOctets octets
+      → (decoded octets ≡ Ok message) ↔ Spells message octets
 
 -- a decoder answers a fault exactly if octets are refused for it
-abbrev pub AnswersRefusals : {V : Type 0} → (List ℕ → Option ℕ) → (List ℕ → Result V DecodeError) → Type 0
+abbrev pub AnswersRefusals :
+    {V : Type 0} → (List ℕ → Option ℕ) → (List ℕ → Result V DecodeError) → Type 0
 AnswersRefusals length_of decoded =
-    (octets : List ℕ) (fault : DecodeError) → (decoded octets ≡ Err fault) ↔ Refuses (length_of octets) octets fault
+    (octets : List ℕ) (fault : DecodeError)
+    → (decoded octets ≡ Err fault) ↔ Refuses (length_of octets) octets fault
 
--- octets of a block answer's type need as many octets among all answers
+-- Octets of a block answer's type need as many octets where all answers are read: so where they are
+-- refused as a block answer, they are refused as an answer for the same fault.
 abbrev pub NeedsTheSame : Type 0
-NeedsTheSame = (octets : List ℕ) (needed : ℕ) → block_length octets ≡ Some needed → answer_length octets ≡ Some needed
+NeedsTheSame =
+    (octets : List ℕ) (needed : ℕ)
+    → block_length octets ≡ Some needed → answer_length octets ≡ Some needed
 
 -- each named bit of a block answer's status says what was put there
 pub record StatusReadsBack (more lost again out_of_sequence : Bool) : Type 0 where
   pub says_more : status.says_more (block_status more lost again out_of_sequence) ≡ more
   pub says_lost : status.says_lost (block_status more lost again out_of_sequence) ≡ lost
   pub says_again : status.says_again (block_status more lost again out_of_sequence) ≡ again
-  pub says_out_of_sequence : status.says_out_of_sequence (block_status more lost again out_of_sequence) ≡ out_of_sequence
+  pub says_out_of_sequence :
+      status.says_out_of_sequence (block_status more lost again out_of_sequence) ≡ out_of_sequence
 
 -- no list is both a command and an answer
 abbrev pub IsNeverBoth : Type 0
-IsNeverBoth = (command : Command) (answer : Answer) (octets : List ℕ) → SpellsCommand command octets → SpellsAnswer answer octets → ⊥
+IsNeverBoth =
+    (command : Command) (answer : Answer) (octets : List ℕ)
+    → SpellsCommand command octets → SpellsAnswer answer octets → ⊥
 
 -- bit b of octet j is input 8 * j + b
 abbrev pub IsInputsLayout : Type 0
-IsInputsLayout = (inputs j b : ℕ) → j < 8 → b < 8 → IsBitSet (slice_index_or (inputs_octets inputs) j 0) b ↔ IsBitSet inputs (8 * j + b)
+IsInputsLayout =
+    (inputs j b : ℕ) → j < 8 → b < 8
+    → IsBitSet (slice_index_or (inputs_octets inputs) j 0) b ↔ IsBitSet inputs (8 * j + b)
 
--- the types of commands are 49 to 60, and those of answers 177 to 188: for the others no length is needed
+-- the known types are those from low to high: for the others there is no needed length
 abbrev pub IsKnownWithin : (List ℕ → Option ℕ) → ℕ → ℕ → Type 0
-IsKnownWithin length_of low high = (code : ℕ) (fields : List ℕ) → (length_of (code ∷ fields) ≡ None) ↔ ((low ≤ code) × (code ≤ high) → ⊥)
+IsKnownWithin length_of low high =
+    (code : ℕ) (fields : List ℕ)
+    → (length_of (code ∷ fields) ≡ None) ↔ ((low ≤ code) × (code ≤ high) → ⊥)

@@ -3,9 +3,9 @@ pub mod Octets
 pub mod Commands
 pub mod Answers
 pub mod Status
-pub mod Blocks
-pub mod Reading
 pub mod Refusals
+pub mod Reading
 pub mod Decoding
+pub mod Blocks
 pub mod Texts
 pub mod Laws

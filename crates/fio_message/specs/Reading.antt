@@ -1,4 +1,7 @@
--- Octets as the message that they spell, where they spell one.
+-- What is read of octets, field by field, where they are as many as their message needs. Only the
+-- definitions of decoding and of the block view rest on these: crates above speak of `command_in`
+-- and `answer_in`, or of spelling. Where an octet is missing it is read as 0, which no claim rests
+-- on.
 use Rattle.std.specs.Prelude.{ℕ, zero, suc, ◌*◌, ◌%◌, List, [], ◌∷◌, take, drop, slice_index_or, if◌then◌else◌, ◌==◌, nat_le}
 use Rattle.std.specs.Int.{w16, w32, w64, from_be_bytes, from_le_bytes}
 use Rattle.fio_message.specs.declared.fields.InputItem.{InputItem}
@@ -10,54 +13,77 @@ use Rattle.fio_message.specs.declared.answers.Answer.{Answer}
 use Rattle.fio_message.specs.declared.answers.Answer.TheVariants as answers
 use Rattle.fio_message.specs.declared.answers.OtherAnswer.TheVariants as other_answers
 
--- the item that begins the octets
+-- the item in the first three octets: bit 7 is the ignore flag, bits 6 to 0 the input number
 abbrev pub item_at : List ℕ → InputItem
-item_at octets = record { input = slice_index_or octets 0 0 % 128; ignore = nat_le 128 (slice_index_or octets 0 0); leading = slice_index_or octets 1 0; trailing = slice_index_or octets 2 0 }
+item_at octets = record {
+  input = slice_index_or octets 0 0 % 128;
+  ignore = nat_le 128 (slice_index_or octets 0 0);
+  leading = slice_index_or octets 1 0;
+  trailing = slice_index_or octets 2 0;
+}
 
--- the entry that begins the octets
+-- the entry in the first three octets: bit 7 is the state, bits 6 to 0 the input number
 abbrev pub entry_at : List ℕ → Entry
-entry_at octets = record { input = slice_index_or octets 0 0 % 128; level = nat_le 128 (slice_index_or octets 0 0); stamp = from_be_bytes w16 (drop 1 octets) }
+entry_at octets = record {
+  input = slice_index_or octets 0 0 % 128;
+  level = nat_le 128 (slice_index_or octets 0 0);
+  stamp = from_be_bytes w16 (drop 1 octets);
+}
 
--- so many parts of three octets each
+-- so many items, or entries, of three octets each, one after the other
 abbrev pub parts_at : {X : Type 0} → (List ℕ → X) → ℕ → List ℕ → List X
 parts_at part_at zero octets = []
 parts_at part_at (suc n) octets = part_at octets ∷ parts_at part_at n (drop 3 octets)
 
--- the command of this code and these fields
+-- the command with this type and these fields, for the types 49 to 60
 abbrev pub command_at : ℕ → List ℕ → Command
 command_at code fields =
     if code == 49 then commands.Status (slice_index_or fields 0 0)
     else (if code == 50 then commands.LoadCounter (from_be_bytes w32 fields)
-    else (if code == 51 then commands.ConfigureInputs (record { items = parts_at item_at (slice_index_or fields 0 0) (drop 1 fields) })
+    else (if code == 51
+    then commands.ConfigureInputs (record {
+      items = parts_at item_at (slice_index_or fields 0 0) (drop 1 fields);
+    })
     else (if code == 52 then commands.RawInputs
     else (if code == 53 then commands.FilteredInputs
     else (if code == 54 then commands.Poll (slice_index_or fields 0 0)
     else (if code == 55 then commands.SetOutputs (take 8 fields) (drop 8 fields)
     else (if code == 56 then commands.Other other_commands.TrackInputs (record { items = fields })
-    else (if code == 57 then commands.Other other_commands.ComplexOutputs (record { items = fields })
+    else (if code == 57
+    then commands.Other other_commands.ComplexOutputs (record { items = fields })
     else (if code == 58 then commands.Watchdog (slice_index_or fields 0 0)
     else (if code == 59 then commands.Other other_commands.ControllerId (record { items = fields })
     else commands.Identify))))))))))
 
--- the parts of a block answer, in its octets after the code
+-- the entries of a block answer with these fields: after the number and the count
 abbrev pub block_entries : List ℕ → List Entry
 block_entries fields = parts_at entry_at (slice_index_or fields 1 0) (drop 2 fields)
 
--- what follows the entries: the status and the stamp
+-- what follows its entries: the status and the stamp
 abbrev pub block_ending : List ℕ → List ℕ
 block_ending fields = drop (3 * slice_index_or fields 1 0) (drop 2 fields)
 
+-- the block answer with these fields
 abbrev pub block_at : List ℕ → Answer
-block_at fields = answers.Block (slice_index_or fields 0 0) (record { items = block_entries fields }) (slice_index_or (block_ending fields) 0 0) (from_be_bytes w32 (drop 1 (block_ending fields)))
+block_at fields =
+    answers.Block (slice_index_or fields 0 0) (record { items = block_entries fields })
+    (slice_index_or (block_ending fields) 0 0)
+    (from_be_bytes w32 (drop 1 (block_ending fields)))
 
--- the answer of this code and these fields
+-- the answer with this type and these fields, for the types 177 to 188
 abbrev pub answer_at : ℕ → List ℕ → Answer
 answer_at code fields =
-    if code == 177 then answers.Status (slice_index_or fields 0 0) (slice_index_or fields 1 0) (slice_index_or fields 2 0) (from_be_bytes w32 (drop 3 fields))
+    if code == 177
+    then answers.Status (slice_index_or fields 0 0) (slice_index_or fields 1 0)
+    (slice_index_or fields 2 0) (from_be_bytes w32 (drop 3 fields))
     else (if code == 178 then answers.LoadCounter (slice_index_or fields 0 0)
     else (if code == 179 then answers.ConfigureInputs (slice_index_or fields 0 0)
-    else (if code == 180 then answers.RawInputs (from_le_bytes w64 (take 8 fields)) (from_be_bytes w32 (drop 8 fields))
-    else (if code == 181 then answers.FilteredInputs (from_le_bytes w64 (take 8 fields)) (from_be_bytes w32 (drop 8 fields))
+    else (if code == 180
+    then answers.RawInputs (from_le_bytes w64 (take 8 fields))
+    (from_be_bytes w32 (drop 8 fields))
+    else (if code == 181
+    then answers.FilteredInputs (from_le_bytes w64 (take 8 fields))
+    (from_be_bytes w32 (drop 8 fields))
     else (if code == 182 then block_at fields
     else (if code == 183 then answers.Other other_answers.SetOutputs (record { items = fields })
     else (if code == 184 then answers.Other other_answers.TrackInputs (record { items = fields })

@@ -1,17 +1,22 @@
--- Why octets are refused.
+-- Why octets are refused: the first that applies of empty, too long, of unknown type, of another
+-- length (own profile).
 use Rattle.std.specs.Prelude.{◌≡◌, ◌≢◌, ℕ, ◌<◌, ◌≤◌, List, [], ◌∷◌, length, Option, Some, None, slice_index_or}
 use Rattle.fio_message.specs.Octets.{IsFrameLength}
 use Rattle.fio_message.specs.declared.faults.DecodeError.{DecodeError}
 use Rattle.fio_message.specs.declared.faults.DecodeError.TheVariants.{Empty, TooLong, UnknownType, WrongLength}
 
--- Octets are refused so, where a message of their type and count has `needed` octets and None says that their type is unknown.
+-- The octets are refused for the fault, where `needed` is how many octets a message with their type
+-- and count has, and None says that no message has their type.
 abbrev pub Refuses : Option ℕ → List ℕ → DecodeError → Type 0
 Refuses needed octets Empty = octets ≡ []
 Refuses needed octets (TooLong got) = (got ≡ length octets) × (773 < got)
-Refuses needed octets (UnknownType code) = IsFrameLength (length octets) × (code ≡ slice_index_or octets 0 0) × (needed ≡ None)
-Refuses needed octets (WrongLength right got) = IsFrameLength got × (got ≡ length octets) × (needed ≡ Some right) × (right ≢ got)
+Refuses needed octets (UnknownType code) =
+    IsFrameLength (length octets) × (code ≡ slice_index_or octets 0 0) × (needed ≡ None)
+Refuses needed octets (WrongLength right got) =
+    IsFrameLength got × (got ≡ length octets) × (needed ≡ Some right) × (right ≢ got)
 
--- The octets are a code and fields, and as many as their message needs.
+-- The octets are a type and fields, fit in a frame, and are as many as their message needs: what is
+-- left where no fault applies. The private first step of all decoders cites it.
 pub record IsWhole (needed : Option ℕ) (octets : List ℕ) (code : ℕ) (fields : List ℕ) : Type 0 where
   pub parts : octets ≡ code ∷ fields
   pub frame : length octets ≤ 773

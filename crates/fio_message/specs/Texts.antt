@@ -1,8 +1,9 @@
--- The words in which the program tells of a refusal.
+-- The words in which the program tells of a refusal, with decimal numbers (own profile).
 use Rattle.std.specs.Prelude.{ℕ, List, ◌++◌, codes, decimal}
 use Rattle.fio_message.specs.declared.faults.DecodeError.{DecodeError}
 use Rattle.fio_message.specs.declared.faults.DecodeError.TheVariants.{Empty, TooLong, UnknownType, WrongLength}
 
+-- the words for this fault, with no line end
 abbrev pub fault_text : DecodeError → List ℕ
 fault_text Empty = codes "empty"
 fault_text (TooLong got) = codes "too long got " ++ decimal got

@@ -1,4 +1,4 @@
-//! Messages as the octets that they spell.
+//! Encoding: messages as the octets that they spell.
 ghost use Rattle.std.specs.Prelude.{◌≡◌, ◌<◌, ◌≤◌, ◌+◌, ◌*◌, ◌++◌, length};
 ghost use Rattle.std.specs.Int.{w32, to_be_bytes};
 ghost use Rattle.std.specs.List.{AllByRecursion, flat_map};
@@ -26,6 +26,7 @@ fn append(frame: &mut Frame, octets: &[u8])
     }
 }
 
+/// Appends a number in four octets, the most significant first.
 fn append_u32(frame: &mut Frame, number: u32)
     requires { length frame.old.items + 4 ≤ 773 }
     ensures { frame.new.items ≡ frame.old.items ++ to_be_bytes w32 number }
@@ -43,6 +44,7 @@ fn flagged(flag: bool, input: InputNumber) -> u8
     if flag { 128 + input.get() } else { input.get() }
 }
 
+/// Appends an item of a configuration, in three octets.
 fn append_item(frame: &mut Frame, item: &InputItem)
     requires { length frame.old.items + 3 ≤ 773 }
     ensures appended { frame.new.items ≡ frame.old.items ++ item_octets item.now }
@@ -53,6 +55,7 @@ fn append_item(frame: &mut Frame, item: &InputItem)
     frame.push(item.trailing);
 }
 
+/// Appends an entry of a block, in three octets at once.
 fn append_entry(frame: &mut Frame, entry: &Entry)
     requires { length frame.old.items + 3 ≤ 773 }
     ensures appended { frame.new.items ≡ frame.old.items ++ entry_octets entry.now }
@@ -67,6 +70,7 @@ fn append_entry(frame: &mut Frame, entry: &Entry)
     );
 }
 
+/// Appends all items, three octets each.
 fn append_items(frame: &mut Frame, items: &[InputItem])
     requires { length frame.old.items + 3 * length items.now ≤ 773 }
     ensures appended { frame.new.items ≡ frame.old.items ++ flat_map item_octets items.now }
@@ -78,6 +82,7 @@ fn append_items(frame: &mut Frame, items: &[InputItem])
     }
 }
 
+/// Appends all entries, three octets each.
 fn append_entries(frame: &mut Frame, entries: &[Entry])
     requires { length frame.old.items + 3 * length entries.now ≤ 773 }
     ensures appended { frame.new.items ≡ frame.old.items ++ flat_map entry_octets entries.now }
@@ -89,7 +94,7 @@ fn append_entries(frame: &mut Frame, entries: &[Entry])
     }
 }
 
-/// Appends the octets after the code.
+/// Appends the octets after the type.
 #[inline(always)]
 fn append_command_fields(frame: &mut Frame, command: &Command)
     requires { length frame.old.items ≡ 1 }
@@ -114,8 +119,8 @@ fn append_command_fields(frame: &mut Frame, command: &Command)
     }
 }
 
-/// The octets of a command: its type, then its fields in the order of TEES 2009 and of this project's
-/// own profile. Always succeeds, with 1 to 773 octets.
+/// The octets that a command spells: its type, then its fields in the order of TEES 2009, with the
+/// lengths of this project's own profile. It always succeeds, with 1 to 773 octets.
 #[inline(always)]
 pub fn encode_command(command: &Command) -> Frame
     ensures { SpellsCommand command.now result.items }
@@ -126,7 +131,7 @@ pub fn encode_command(command: &Command) -> Frame
     frame
 }
 
-/// Appends the levels of the inputs, and the stamp.
+/// Appends the levels of the inputs in eight octets, then the stamp.
 #[inline(always)]
 fn append_inputs(frame: &mut Frame, inputs: u64, stamp: u32)
     requires { length frame.old.items + 12 ≤ 773 }
@@ -136,7 +141,7 @@ fn append_inputs(frame: &mut Frame, inputs: u64, stamp: u32)
     append_u32(frame, stamp);
 }
 
-/// Appends the octets after the code.
+/// Appends the octets after the type.
 #[inline(always)]
 fn append_answer_fields(frame: &mut Frame, answer: &Answer)
     requires { length frame.old.items ≡ 1 }
@@ -175,8 +180,8 @@ fn append_answer_fields(frame: &mut Frame, answer: &Answer)
     }
 }
 
-/// The octets of an answer: its type, then its fields in the order of TEES 2009 and of this project's
-/// own profile. Always succeeds, with 1 to 773 octets.
+/// The octets that an answer spells: its type, then its fields in the order of TEES 2009, with the
+/// lengths of this project's own profile. It always succeeds, with 1 to 773 octets.
 #[inline(always)]
 pub fn encode_answer(answer: &Answer) -> Frame
     ensures { SpellsAnswer answer.now result.items }

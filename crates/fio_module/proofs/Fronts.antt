@@ -1,23 +1,23 @@
--- Items taken one after another from the front of a list.
-use Rattle.std.proofs.Common.{◌≡◌, ℕ, zero, suc, List, [], ◌∷◌, ◌++◌, take, drop, Some, None, refl, ap}
-use Rattle.std.specs.Prelude.{slice_get}
+-- The front of a list in two parts.
+use Rattle.std.proofs.Common.{◌≡◌, ℕ, ◌-◌, ◌+◌, List, ◌++◌, length, take, min, ap, sym, ◌∙◌, arith, append-nil, inl, inr}
+use Rattle.std.proofs.lemmas.List.{take-append-le, take_min}
+use Rattle.std.proofs.Math.Seq.{take-append-add, take-length}
+use Rattle.std.proofs.lemmas.Bool.Decides.{leb_tells}
 
--- one more, where there is one
-pub take-suc_some : {X : Type 0} (n : ℕ) (xs : List X) (x : X) → slice_get (drop n xs) 0 ≡ Some x → take (suc n) xs ≡ take n xs ++ x ∷ []
-take-suc_some zero [] x is = cc
-take-suc_some zero (y ∷ ys) x is = cc
-take-suc_some (suc n) [] x is = cc
-take-suc_some (suc n) (y ∷ ys) x is = ap (λ zs. y ∷ zs) (take-suc_some n ys x is)
-
--- no more, where there is none
-pub take-suc_none : {X : Type 0} (n : ℕ) (xs : List X) → slice_get (drop n xs) 0 ≡ None → take (suc n) xs ≡ take n xs
-take-suc_none zero [] is = refl
-take-suc_none zero (y ∷ ys) is = cc
-take-suc_none (suc n) [] is = refl
-take-suc_none (suc n) (y ∷ ys) is = ap (λ zs. y ∷ zs) (take-suc_none n ys is)
-
--- one after so many
-pub drop_one-drop : {X : Type 0} (n : ℕ) (xs : List X) → drop 1 (drop n xs) ≡ drop (suc n) xs
-drop_one-drop zero xs = refl
-drop_one-drop (suc n) [] = refl
-drop_one-drop (suc n) (y ∷ ys) = drop_one-drop n ys
+-- as many of the first part as there may be, and then of the second
+pub take-two_parts : {X : Type 0} (count : ℕ) (first second : List X)
+    → take (min (length first) count) first ++ take (min (length second) (count - min (length first) count)) second
+    ≡ take count (first ++ second)
+take-two_parts count first second =
+    elim (leb_tells count (length first)) [
+      | inl few ↦
+          let all : min (length first) count ≡ count = omega (arith, few.1) in
+          let none : min (length second) (count - count) ≡ 0 = omega arith in
+          rw (all, none, append-nil) (sym (take-append-le count first second few.1))
+      | inr more ↦
+          let rest = count - length first in
+          let all : min (length first) count ≡ length first = omega (arith, more.1) in
+          let others : min (length second) (count - length first) ≡ min rest (length second) = omega arith in
+          let whole : count ≡ length first + rest = omega (arith, more.1) in
+          rw (all, others, take-length, take_min) (sym (ap (λ n. take n (first ++ second)) whole ∙ take-append-add first second rest))
+    ]

@@ -4,8 +4,10 @@ pub mod WaitingLaws
 pub mod SendingLaws
 pub mod LifeLaws
 pub mod Words
-pub mod Scans
-pub mod Fronts
 pub mod Marks
+pub mod Fronts
+pub mod Walks
+pub mod Scans
+pub mod EntryRanges
 pub mod NewBlocks
 pub mod Polls

@@ -10,7 +10,8 @@ use Rattle.fio_message.specs.Status.{block_status}
 use Rattle.fio_message.specs.Octets.{IsOctet, IsEntry, entry_octets}
 use Rattle.fio_message.specs.Reading.{entry_at}
 use Rattle.fio_message.specs.Answers.{SpellsAnswer, answer_octets}
-use Rattle.fio_message.proofs.Parts.{length-parts, entry_is_part}
+use Rattle.fio_message.proofs.Parts.{length-parts}
+use Rattle.fio_message.proofs.PartKinds.{entry_is_part}
 use Rattle.fio_module.specs.Sendings.{Sending, answer_of, sent_again}
 use Rattle.fio_module.specs.Sent.{marked_again}
 
@@ -71,7 +72,7 @@ marked_again-octets sending =
     let tail = to_be_bytes w32 sending.stamp in
     let status = block_status sending.more sending.lost sending.again sending.out_of_sequence in
     let place : 3 + 3 * length sending.entries ≡ suc (suc (suc (length body))) =
-    omega (arith, length-parts IsEntry entry_octets entry_at entry_is_part sending.entries) in
+    omega (arith, length-parts entry_is_part sending.entries) in
     marked-behind 182 sending.number (length sending.entries) body tail status _ place
     ∙ ap (λ status. 182 ∷ sending.number ∷ length sending.entries ∷ (body ++ status ∷ tail))
     (marked-status sending.more sending.lost sending.again sending.out_of_sequence)

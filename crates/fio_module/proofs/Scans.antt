@@ -4,11 +4,12 @@ use Rattle.std.proofs.lemmas.List.{map-append}
 use Rattle.fio_message.specs.Bits.{is_set}
 use Rattle.fio_input.specs.FilterHistory.{is_reported, state}
 use Rattle.fio_module.specs.Life.{Life, Scanned, filter_events, counter_of}
-use Rattle.fio_module.specs.Log.{Transition, entry_of, transition_at, transitions_below}
+use Rattle.fio_module.specs.Log.{Transition, transition_at, transitions_below}
 use Rattle.fio_module.specs.Waiting.{entries_below}
+use Rattle.fio_module.specs.Module.{octets_of}
 
 map-if : (reported : Bool) (transition : Transition)
-    → map entry_of (if reported then transition ∷ [] else []) ≡ (if reported then entry_of transition ∷ [] else [])
+    → map octets_of (if reported then transition ∷ [] else []) ≡ (if reported then octets_of transition ∷ [] else [])
 map-if true transition = refl
 map-if false transition = refl
 
@@ -18,15 +19,14 @@ pub map-transitions_below : (life : Life) (raw changed levels stamp : ℕ)
     → ((input : ℕ) → input < 64 → is_set levels input ≡ state input (filter_events (Scanned raw ∷ life)))
     → stamp ≡ counter_of (Scanned raw ∷ life) % 2 ^ 16
     → (inputs : ℕ) → inputs ≤ 64
-    → map entry_of (transitions_below inputs raw life) ≡ entries_below inputs changed levels stamp
+    → map octets_of (transitions_below inputs raw life) ≡ entries_below inputs changed levels stamp
 unfolding transitions_below entries_below
 map-transitions_below life raw changed levels stamp reported states at zero within = refl
 map-transitions_below life raw changed levels stamp reported states at (suc input) within =
-    let life' = Scanned raw ∷ life in
-    let transition = transition_at life' input in
+    let transition = transition_at (Scanned raw ∷ life) input in
     let here = if is_reported input raw (filter_events life) then transition ∷ [] else [] in
-    map-append entry_of (transitions_below input raw life) here
-    ∙ ap (λ entries. entries ++ map entry_of here)
+    map-append octets_of (transitions_below input raw life) here
+    ∙ ap (λ entries. entries ++ map octets_of here)
     (map-transitions_below life raw changed levels stamp reported states at input (omega arith))
     ∙ ap (λ entries. entries_below input changed levels stamp ++ entries)
     (rw (reported input (omega arith), states input (omega arith), at)

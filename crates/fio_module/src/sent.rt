@@ -1,8 +1,18 @@
 //! The block that was sent last.
-ghost use Rattle.std.specs.Prelude.{◌≡◌};
+ghost use Rattle.std.specs.Prelude.{◌≡◌, false};
+ghost use Rattle.fio_message.specs.Status.{block_status};
 ghost use Rattle.fio_module.specs.Sent.{marked_again};
 
 use fio_message::Frame;
+
+/// The type of a block answer.
+const BLOCK: u8 = 182;
+
+/// C in the status of a block: more entries waited than the block takes.
+const MORE: u8 = 8;
+
+/// F in the status of a block: entries that waited directly before the block were pushed out.
+const LOST: u8 = 4;
 
 /// E in the status of a block: the same number was asked for again.
 const AGAIN: u8 = 2;
@@ -11,16 +21,15 @@ const AGAIN: u8 = 2;
 const OUT_OF_SEQUENCE: u8 = 1;
 
 /// The octets of the block that was sent last, none before the first.
-#[derive(Drop)]
+#[derive(Debug, Drop)]
 pub struct SentBlock {
     octets: Frame,
 }
 
 impl SentBlock {
-    ghost use Rattle.std.specs.Prelude.{◌≡◌, Option, Some, None, option_map};
-    ghost use Rattle.fio_message.specs.Answers.{SpellsAnswer};
-    ghost use Rattle.fio_module.specs.Sendings.{Sending, answer_of, sent_again};
-    ghost use Rattle.fio_module.specs.Sent.{Keeps};
+    ghost use Rattle.std.specs.Prelude.{◌≡◌, ◌≤◌, ◌+◌, ◌++◌, length, Option, Some, None, option_map};
+    ghost use Rattle.fio_module.specs.Sendings.{Sending, sent_again};
+    ghost use Rattle.fio_module.specs.Sent.{Keeps, block_octets};
 
     /// No block.
     pub fn new() -> SentBlock
@@ -31,12 +40,36 @@ impl SentBlock {
         }
     }
 
-    /// Keeps the octets of a block that is sent.
-    pub fn keep(&mut self, octets: Frame)
-        ensures { (sending : Sending) → SpellsAnswer (answer_of sending) octets.items
-            → Keeps self.new (Some sending) }
+    /// Keeps a new block, of entries in two parts.
+    pub fn keep(
+        &mut self,
+        number: u8,
+        first: &[[u8; 3]],
+        second: &[[u8; 3]],
+        status: u8,
+        stamp: u32,
+    )
+        requires { length first.now + length second.now ≤ 255 }
+        ensures { self.new.octets.items ≡ block_octets number (first.now ++ second.now) status stamp }
     {
-        self.octets = octets;
+        let count = (first.len() + second.len()) as u8;
+        let [a, b, c, d] = stamp.to_be_bytes();
+        self.octets.clear();
+        self.append(&[BLOCK, number, count]);
+        self.append(first.as_flattened());
+        self.append(second.as_flattened());
+        self.append(&[status, a, b, c, d]);
+    }
+
+    /// Appends octets, for which there is room.
+    fn append(&mut self, octets: &[u8])
+        requires { length self.old.octets.items + length octets.now ≤ 773 }
+        ensures { self.new.octets.items ≡ self.old.octets.items ++ octets.now }
+    {
+        match self.octets.try_extend_from_slice(octets) {
+            Ok(()) => {}
+            Err(_) => unreachable!(),
+        }
     }
 
     /// The number of the block.
@@ -55,13 +88,12 @@ impl SentBlock {
         mark_again(self.octets.as_mut_slice());
     }
 
-    /// The octets once more.
-    pub fn copy(&self) -> Frame
-        ensures { result.items ≡ self.now.octets.items }
+    /// Writes the octets once more.
+    pub fn copy_to(&self, frame: &mut Frame)
+        ensures { frame.new.items ≡ self.now.octets.items }
     {
-        let mut copy = Frame::new();
-        let _ = copy.try_extend_from_slice(&self.octets);
-        copy
+        frame.clear();
+        let _ = frame.try_extend_from_slice(&self.octets);
     }
 }
 
@@ -74,4 +106,11 @@ fn mark_again(octets: &mut [u8])
     if place < octets.len() {
         octets[place] = (octets[place] | AGAIN) & !OUT_OF_SEQUENCE;
     }
+}
+
+/// The status of a block that is sent first.
+pub fn first_status(more: bool, lost: bool, out_of_sequence: bool) -> u8
+    ensures { result ≡ block_status more lost false out_of_sequence }
+{
+    MORE * u8::from(more) + LOST * u8::from(lost) + OUT_OF_SEQUENCE * u8::from(out_of_sequence)
 }

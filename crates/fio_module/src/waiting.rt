@@ -1,33 +1,23 @@
 //! The entries that wait for a poll.
-ghost use Rattle.std.specs.Prelude.{◌≡◌, ◌<◌, take, drop};
-ghost use Rattle.circular_buffer.specs.Buffer.{buffer};
+ghost use Rattle.std.specs.Prelude.{◌≡◌, ◌<◌};
 ghost use Rattle.fio_message.specs.Bits.{is_set};
+ghost use Rattle.fio_message.specs.Octets.{entry_octets};
 
-use arrayvec::ArrayVec;
 use circular_buffer::HeapCircularBuffer;
-use fio_message::{Entry, InputNumber};
 use std::alloc::{AllocError, Global};
 
-/// The latest entries that no block has, oldest first, and whether one was pushed out since the
-/// newest block was made.
-#[derive(Drop)]
+/// The latest entries that no block has, and whether one was pushed out since the newest block was
+/// made.
+#[derive(Debug, Drop)]
 pub struct Waiting {
-    entries: HeapCircularBuffer<Entry>,
+    /// The three octets of each, as a block carries them, the oldest entry first.
+    entries: HeapCircularBuffer<[u8; 3]>,
     pushed_out: bool,
 }
 
-/// The entries of a block, whether more waited, and whether some before them were pushed out.
-#[derive(Drop)]
-pub struct Taken {
-    pub entries: ArrayVec<Entry, 255>,
-    pub more: bool,
-    pub lost: bool,
-}
-
 impl Waiting {
-    ghost use Rattle.std.specs.Prelude.{◌≡◌, ◌<◌, ℕ, List, [], ◌∷◌, ◌++◌, length, take, drop, false, nat_lt, IfOk};
+    ghost use Rattle.std.specs.Prelude.{◌≡◌, ◌≤◌, ◌+◌, ℕ, List, [], ◌∷◌, ◌++◌, length, take, drop, false, nat_lt, IfOk};
     ghost use Rattle.circular_buffer.specs.Buffer.{buffer};
-    ghost use Rattle.fio_message.specs.declared.fields.Entry.{Entry as EntryValue};
     ghost use Rattle.fio_module.specs.Waiting.{Holds, entries_below};
 
     /// No entries, and room for as many as may wait. No other call takes memory.
@@ -49,7 +39,7 @@ impl Waiting {
 
     /// Forgets all entries.
     pub fn clear(&mut self)
-        ensures { (limit : ℕ) (all : List EntryValue) (before : ℕ)
+        ensures { (limit : ℕ) (all : List (List ℕ)) (before : ℕ)
             → Holds self.old limit all before → Holds self.new limit [] 0 }
     {
         self.entries.clear();
@@ -57,8 +47,8 @@ impl Waiting {
     }
 
     /// Appends an entry, which may push out the oldest one.
-    fn push(&mut self, entry: Entry)
-        ensures { (limit : ℕ) (all : List EntryValue) (before : ℕ)
+    fn push(&mut self, entry: [u8; 3])
+        ensures { (limit : ℕ) (all : List (List ℕ)) (before : ℕ)
             → Holds self.old limit all before → Holds self.new limit (all ++ entry ∷ []) before }
     {
         if self.entries.push_back(entry).is_some() {
@@ -68,49 +58,52 @@ impl Waiting {
 
     /// Appends an entry for each input that changed, in ascending order, with its level.
     pub fn push_changed(&mut self, changed: u64, levels: u64, stamp: u16)
-        ensures { (limit : ℕ) (all : List EntryValue) (before : ℕ)
+        ensures { (limit : ℕ) (all : List (List ℕ)) (before : ℕ)
             → Holds self.old limit all before
             → Holds self.new limit (all ++ entries_below 64 changed levels stamp) before }
     {
-        for input in 0..64 {
-            if is_set(changed, input) {
-                self.push_input(input, is_set(levels, input), stamp);
-            }
+        let mut left = changed;
+        'inputs: while left != 0 {
+            let input = left.trailing_zeros() as u8;
+            self.push(entry_octets(input, is_set(levels, input), stamp));
+            left &= !(1 << input);
         }
     }
 
-    fn push_input(&mut self, input: u8, level: bool, stamp: u16)
-        requires { input < 64 }
-        ensures { (limit : ℕ) (all : List EntryValue) (before : ℕ)
-            → Holds self.old limit all before
-            → Holds self.new limit (all ++ record { input = input; level = level; stamp = stamp } ∷ []) before }
+    /// The oldest entries, no more than this many, in two parts.
+    pub fn front(&self, count: u8) -> (&[[u8; 3]], &[[u8; 3]])
+        ensures value { result.0.now ++ result.1.now ≡ take count self.now.entries.items }
+        ensures few { length result.0.now + length result.1.now ≤ count }
     {
-        match InputNumber::new(input) {
-            Some(input) => self.push(Entry {
-                input,
-                level,
-                stamp,
-            }),
-            None => unreachable!(),
-        }
+        let count = usize::from(count);
+        let (first, second) = self.entries.as_slices();
+        let from_first = first.len().min(count);
+        let from_second = second.len().min(count - from_first);
+        (&first[..from_first], &second[..from_second])
     }
 
-    /// Takes the oldest entries, no more than this many.
-    pub fn take_block(&mut self, per_block: u8) -> Taken
-        ensures entries { result.entries.items ≡ take per_block self.old.entries.items }
-        ensures rest { self.new.entries ≡ buffer (drop per_block self.old.entries.items) self.old.entries.capacity }
-        ensures more { result.more ≡ nat_lt per_block (length self.old.entries.items) }
-        ensures lost { result.lost ≡ self.old.pushed_out }
+    /// Whether more entries wait than this many.
+    pub fn has_more(&self, count: u8) -> bool
+        ensures { result ≡ nat_lt count (length self.now.entries.items) }
+    {
+        self.entries.len() > usize::from(count)
+    }
+
+    /// Whether an entry was pushed out since the newest block was made.
+    pub fn has_lost(&self) -> bool
+        ensures { result ≡ self.now.pushed_out }
+    {
+        self.pushed_out
+    }
+
+    /// Forgets the oldest entries, no more than this many: a block has them now.
+    pub fn remove_front(&mut self, count: u8)
+        ensures rest { self.new.entries ≡ buffer (drop count self.old.entries.items) self.old.entries.capacity }
         ensures unmarked { self.new.pushed_out ≡ false }
     {
-        let more = self.entries.len() > usize::from(per_block);
-        let lost = self.pushed_out;
+        let left = self.entries.len().saturating_sub(usize::from(count));
+        self.entries.truncate_front(left);
         self.pushed_out = false;
-        Taken {
-            entries: take_first(&mut self.entries, per_block),
-            more,
-            lost,
-        }
     }
 }
 
@@ -122,16 +115,12 @@ fn is_set(word: u64, place: u8) -> bool
     (word >> place) & 1 == 1
 }
 
-/// Takes the first items, no more than this many.
-fn take_first(from: &mut HeapCircularBuffer<Entry>, count: u8) -> ArrayVec<Entry, 255>
-    ensures taken { result.items ≡ take count from.old.items }
-    ensures rest { from.new ≡ buffer (drop count from.old.items) from.old.capacity }
+/// An entry as a block carries it.
+fn entry_octets(input: u8, level: bool, stamp: u16) -> [u8; 3]
+    requires { input < 64 }
+    ensures { result ≡ entry_octets (record { input = input; level = level; stamp = stamp }) }
 {
-    let mut taken = ArrayVec::new();
-    for index in 0..count {
-        if let Some(entry) = from.pop_front() {
-            taken.push(entry);
-        }
-    }
-    taken
+    let first = if level { 128 + input } else { input };
+    let [high, low] = stamp.to_be_bytes();
+    [first, high, low]
 }

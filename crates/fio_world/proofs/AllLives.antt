@@ -1,22 +1,17 @@
 -- The blocks of all lives, by places in the joined transition logs.
-use Rattle.std.proofs.Common.{◌≡◌, ℕ, zero, suc, ◌+◌, ◌-◌, ◌<◌, ◌≤◌, Bool, true, false, List, [], ◌∷◌, ◌++◌, length, map, Option, Some, None, slice_get, refl, ap, sym, subst, ◌∙◌, arith, length-append, append_assoc, append-nil}
+use Rattle.std.proofs.Common.{◌≡◌, ℕ, zero, suc, ◌+◌, ◌<◌, ◌≤◌, List, [], ◌∷◌, ◌++◌, length, map, Some, slice_get, refl, ap, sym, subst, ◌∙◌, arith, length-append, append_assoc, append-nil}
 use Rattle.std.specs.List.{AllByRecursion}
-use Rattle.std.proofs.lemmas.List.{map-append}
-use Rattle.fio_message.specs.declared.commands.Command.{Command}
-use Rattle.fio_message.specs.declared.commands.Command.TheVariants.{Poll}
-use Rattle.fio_message.specs.Decoding.{command_in, polled_number, poll_in}
+use Rattle.fio_message.specs.Decoding.{command_in}
 use Rattle.fio_module.specs.Settings.{Settings}
-use Rattle.fio_module.specs.Life.{Scan, Received, Restart, History, Life, Commanded, with_command, life_of}
+use Rattle.fio_module.specs.Life.{Scan, Received, Restart, History, Life, life_of}
 use Rattle.fio_module.specs.Log.{Transition, log_of, whole_log, transitions_below}
-use Rattle.fio_module.specs.Blocks.{MadeBlock, latest_poll, is_new, blocks_of, last_end, end_of, newest_end, next_block}
+use Rattle.fio_module.specs.Blocks.{MadeBlock, blocks_of, last_end, newest_end}
 use Rattle.fio_module.specs.Laws.{IsPartOf, FollowOneAnother}
-use Rattle.fio_module.proofs.Ends.{last_end-append}
 use Rattle.fio_module.proofs.BlockLaws.{blocks_follow, blocks_end_within}
 use Rattle.fio_module.proofs.LifeLaws.{log_of-with_command}
 use Rattle.fio_world.proofs.Places.{get_before_push, get_behind}
 use Rattle.fio_world.proofs.MadeBlocks.{each-append, each-map}
 use Rattle.fio_world.proofs.PieceLaws.{part_stands, part_count}
-use Rattle.fio_world.proofs.Spelled.{poll_only}
 
 -- the transition logs of the lives before the present one, joined
 abbrev pub past_log : History → List Transition
@@ -114,14 +109,14 @@ apart_within from to [] k block apart is = absurd (cc is)
 apart_within from to (first ∷ blocks) zero block apart is =
     let same : first ≡ block = cc in
     subst (λ (b : MadeBlock). (from ≤ b.start) × (b.start ≤ b.end) × (b.end ≤ to)) same (apart.0, apart.1, apart_to first.end to blocks apart.2)
-    where
-      apart_to : (from to : ℕ) (blocks : List MadeBlock) → AreApart from blocks to → from ≤ to
-      apart_to from to [] apart = apart
-      apart_to from to (block ∷ blocks) apart =
-          let rest : block.end ≤ to = apart_to block.end to blocks apart.2 in
-          let low : from ≤ block.start = apart.0 in
-          let long : block.start ≤ block.end = apart.1 in
-          omega arith
+  where
+    apart_to : (from to : ℕ) (blocks : List MadeBlock) → AreApart from blocks to → from ≤ to
+    apart_to from to [] apart = apart
+    apart_to from to (block ∷ blocks) apart =
+        let rest : block.end ≤ to = apart_to block.end to blocks apart.2 in
+        let low : from ≤ block.start = apart.0 in
+        let long : block.start ≤ block.end = apart.1 in
+        omega arith
 apart_within from to (first ∷ blocks) (suc k) block apart is =
     let rest = apart_within first.end to blocks k block apart.2 is in
     let after : first.end ≤ block.start = rest.0 in

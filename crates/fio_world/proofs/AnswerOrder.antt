@@ -1,5 +1,5 @@
 -- The block answers sent stay in order.
-use Rattle.std.proofs.Common.{◌≡◌, ℕ, ◌+◌, ◌<◌, ◌≤◌, ◌⊎◌, List, [], ◌∷◌, ◌++◌, length, Option, Some, None, slice_get, refl, ap, sym, subst, ◌∙◌, arith, inl, inr}
+use Rattle.std.proofs.Common.{◌≡◌, ℕ, ◌+◌, ◌<◌, ◌≤◌, ◌⊎◌, List, [], ◌∷◌, ◌++◌, length, Some, None, subst, arith, inl, inr}
 use Rattle.std.proofs.lemmas.Option.{slice_get_within}
 use Rattle.fio_message.specs.Blocks.{Block}
 use Rattle.fio_message.specs.Decoding.{block_in}
@@ -56,7 +56,8 @@ module _ (frames : List Sent) (last round next : ℕ) (o : BlockAnswersAreInOrde
         behind = o.behind;
       }
 
-  -- one more block answer is sent, to a poll that has been received now, whose round is not below the newest
+  -- one more block answer is sent, to a poll that has been received now, whose round is not below
+  -- the newest
   pub answers-more : (f : Sent) (r : ℕ) → f.round ≡ r → next ≤ r + 1 → BlockAnswersAreInOrder (frames ++ f ∷ []) last round (r + 1)
   answers-more f r is high =
       let behind : round ≤ next = o.behind in

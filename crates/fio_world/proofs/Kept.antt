@@ -1,58 +1,49 @@
 -- What every run keeps, whatever restarts.
-use Rattle.std.proofs.Common.{◌≡◌, ◌≢◌, ℕ, ◌+◌, ◌-◌, ◌%◌, ◌<◌, ◌≤◌, ◌==◌, max, min, Bool, true, false, List, [], ◌∷◌, ◌++◌, length, map, Option, Some, None, slice_get, refl, ap, sym, subst, ◌∙◌, arith, inl, inr, length-append, append_assoc, append-nil, if◌then◌else◌}
+use Rattle.std.proofs.Common.{◌≡◌, ◌≢◌, ℕ, ◌+◌, ◌%◌, ◌≤◌, Bool, true, false, List, [], ◌∷◌, ◌++◌, map, Option, Some, None, refl, ap, sym, subst, ◌∙◌, arith, append-nil, if◌then◌else◌}
 use Rattle.std.specs.Prelude.{option_map}
 use Rattle.std.proofs.lemmas.Option.{same_Some}
 use Rattle.std.proofs.lemmas.Bool.Decides.{nat_tests}
-use Rattle.std.proofs.lemmas.List.{map-append}
-use Rattle.fio_message.specs.declared.commands.Command.{Command}
-use Rattle.fio_message.specs.declared.commands.Command.TheVariants as commands
 use Rattle.fio_message.specs.declared.answers.Answer.{Answer}
 use Rattle.fio_message.specs.Answers.{answer_octets}
 use Rattle.fio_message.specs.Blocks.{Block}
-use Rattle.fio_message.specs.Decoding.{command_in, polled_number, poll_in, block_in}
-use Rattle.fio_module.specs.Settings.{Settings, AreInRange}
-use Rattle.fio_module.specs.Life.{Received, History, Life, Commanded, life_of, with_command}
-use Rattle.fio_module.specs.Life as module_events
-use Rattle.fio_module.specs.Log.{Transition, log_of, whole_log, transitions_below}
-use Rattle.fio_module.specs.Blocks.{MadeBlock, latest_poll, is_new, blocks_of, end_of, newest_end, next_block}
-use Rattle.fio_module.specs.Sendings.{Sending, answer_of, is_out_of_sequence, first_sending, sent_again, latest_sending}
-use Rattle.fio_module.specs.Replies.{answer_to, answer_if, reply_to}
-use Rattle.fio_module.proofs.Ends.{last_end-append}
-use Rattle.fio_module.proofs.BlockLaws.{blocks_end_within}
-use Rattle.fio_world.specs.Link.{Sent, Machine, number_of, answered, polls_with, makers_with, received}
-use Rattle.fio_world.specs.Frames.{HasPoll, number_with, received_numbers}
-use Rattle.fio_world.specs.Rounds.{next_round, PollsAreInOrder, PollsOf, BlockAnswersOf}
-use Rattle.fio_world.proofs.Places.{get_push}
-use Rattle.fio_world.proofs.RoundNumbers.{number_of-fits, number_of-next, rounds_from_numbers}
-use Rattle.fio_world.proofs.Spelled.{said}
-use Rattle.fio_world.proofs.MadeBlocks.{next_fits}
-use Rattle.fio_world.proofs.AllLives.{past_log, behind, joined, past_blocks, all_blocks, reached}
-use Rattle.fio_world.proofs.Received.{no_block_reply, same_number, first_carries, again_carries, carried_back, carried_brings, said_out_of_sequence, latest_sent, newest_fits}
+use Rattle.fio_message.specs.Decoding.{block_in}
+use Rattle.fio_module.specs.Settings.{Settings}
+use Rattle.fio_module.specs.Life.{Received, Life, life_of}
+use Rattle.fio_module.specs.Log.{Transition, whole_log}
+use Rattle.fio_module.specs.Blocks.{MadeBlock, latest_poll, is_new, blocks_of, next_block}
+use Rattle.fio_module.specs.Sendings.{Sending, is_out_of_sequence, first_sending, sent_again, latest_sending}
+use Rattle.fio_world.specs.Link.{Sent, Machine, number_of, answered}
+use Rattle.fio_world.specs.Frames.{HasPoll, received_numbers}
+use Rattle.fio_world.specs.Rounds.{next_round, PollsOf, BlockAnswersOf}
+use Rattle.fio_world.proofs.RoundNumbers.{number_of-next, rounds_from_numbers}
+use Rattle.fio_world.proofs.AllLives.{all_blocks, reached}
 use Rattle.fio_world.proofs.PollOrder.{polls-passed, polls-received}
 use Rattle.fio_world.proofs.AnswerOrder.{answers-other, answers-more}
-use Rattle.fio_world.proofs.Makers.{MakersAreInOrder, NewestIsMaker, BringsMadeOf, AnswersBringMade, makers-repeated, makers-new, bring-other, bring-more, bring-new}
-use Rattle.fio_world.proofs.RisingPieces.{RecordRises, rises-new}
+use Rattle.fio_world.proofs.Makers.{makers_of, MakersAreInOrder, NewestIsMaker, CarriesMadeOf, AnswersCarryMade, carry-other, carry-more}
+use Rattle.fio_world.proofs.RisingPieces.{RecordRises}
 
--- What every run keeps of a machine, for the joined log of its module, its blocks, the place from which the next may
--- take, the latest poll of its present life, and the numbers of all polls received.
-pub record Invariant (first : ℕ) (log : List Transition) (blocks : List MadeBlock) (limit : ℕ) (latest : Option ℕ) (numbers : List ℕ) (machine : Machine) : Type 0 where
+-- What every run keeps of a machine, for the joined log of its module, its blocks, the place from
+-- which the next may take, the latest poll of its present life, the numbers of all polls received,
+-- and the rounds of those that made the blocks.
+pub record Invariant (first : ℕ) (log : List Transition) (blocks : List MadeBlock) (limit : ℕ) (latest : Option ℕ) (numbers makers : List ℕ) (machine : Machine) : Type 0 where
   pub polls : PollsOf first machine
   pub answers : BlockAnswersOf machine
   pub at_most : next_round machine.polls ≤ machine.round + 1
   pub numbered : map (number_of first) machine.polls ≡ numbers
   pub newest : (n : ℕ) → latest ≡ Some n → (older : List ℕ) × (numbers ≡ n ∷ older)
-  pub makers : MakersAreInOrder machine.makers (next_round machine.polls) blocks
-  pub maker : (n : ℕ) → latest ≡ Some n → NewestIsMaker machine.makers (next_round machine.polls)
-  pub bring : AnswersBringMade first blocks machine.makers machine.to_cpu
-  pub rising : RecordRises log blocks machine.makers limit machine.round machine.items
+  pub makers_in_order : MakersAreInOrder makers (next_round machine.polls) blocks
+  pub maker : (n : ℕ) → latest ≡ Some n → NewestIsMaker makers (next_round machine.polls)
+  pub carry : AnswersCarryMade first blocks makers machine.to_cpu
+  pub rising : RecordRises log blocks makers limit machine.round machine.items
 
 abbrev pub HasInvariant : Settings → ℕ → Machine → Type 0
 HasInvariant settings first machine =
     Invariant first (whole_log machine.history) (all_blocks settings machine.history) (reached settings machine.history)
-    (latest_poll (life_of machine.history)) (received_numbers machine.history) machine
+    (latest_poll (life_of machine.history)) (received_numbers machine.history)
+    (makers_of machine.history machine.polls) machine
 
--- what a poll of a round is to a module whose polls have these rounds, and this latest number in the present life:
--- a new one is in sequence, and another is of the newest round
+-- what a poll of a round is to a module whose polls have these rounds, and this latest number in
+-- the present life: a new one is in sequence, and another is of the newest round
 abbrev pub Meets : Bool → ℕ → Option ℕ → ℕ → ℕ → Type 0
 Meets true round latest number next = is_out_of_sequence latest number ≡ false
 Meets false round latest number next = round + 1 ≡ next
@@ -86,53 +77,72 @@ meets first round number (Some before) polls numbers new known newest numbered l
     let n = newest before refl in
     meets_some first round number before polls n.0 new (known ∙ n.1) numbered low high is
 
--- the machine after a frame with this place, that is read as this command or none
-abbrev pub received_as : Settings → Machine → ℕ → Sent → Option Command → Machine
-received_as settings machine place frame command =
+-- the machine after its module has received a frame at this place that is no poll, and these
+-- answers were sent
+abbrev pub after_other : Machine → ℕ → Sent → List Sent → Machine
+after_other machine place frame answers =
     record machine {
       last_to_module = place + 1;
       history = Received frame.octets ∷ machine.history;
-      to_cpu = machine.to_cpu ++ answered (answer_if settings (life_of machine.history) command) frame.round;
-      polls = polls_with (polled_number command) frame.round machine.polls;
-      makers = makers_with (polled_number command) (latest_poll (life_of machine.history)) frame.round machine.makers;
+      to_cpu = machine.to_cpu ++ answers;
     }
 
-module _ (first : ℕ) (log : List Transition) (blocks : List MadeBlock) (limit : ℕ) (latest : Option ℕ) (numbers : List ℕ) (machine : Machine)
-    (i : Invariant first log blocks limit latest numbers machine) (place : ℕ) (frame : Sent) (in_order : machine.last_to_module ≤ place + 1) where
+-- the same for a frame that is a poll
+abbrev pub after_poll : Machine → ℕ → Sent → List Sent → Machine
+after_poll machine place frame answers =
+    record machine {
+      last_to_module = place + 1;
+      history = Received frame.octets ∷ machine.history;
+      to_cpu = machine.to_cpu ++ answers;
+      polls = frame.round ∷ machine.polls;
+    }
+
+-- the blocks of a life, the sending and the makers after a poll that is new or not
+abbrev pub blocks_if : Settings → Life → Bool → List MadeBlock
+blocks_if settings life new =
+    if new then blocks_of settings life ++ next_block settings life ∷ [] else blocks_of settings life
+
+abbrev pub sending_if : Settings → Life → ℕ → Bool → Option Sending
+sending_if settings life number new =
+    if new then Some (first_sending settings life number) else option_map sent_again (latest_sending settings life)
+
+abbrev pub makers_if : List ℕ → ℕ → Bool → List ℕ
+makers_if makers round new = if new then makers ++ round ∷ [] else makers
+
+module _ (first : ℕ) (log : List Transition) (blocks : List MadeBlock) (limit : ℕ) (latest : Option ℕ) (numbers makers : List ℕ) (machine : Machine)
+    (i : Invariant first log blocks limit latest numbers makers machine) (place : ℕ) (frame : Sent) (in_order : machine.last_to_module ≤ place + 1) where
   -- a frame that is no poll is received, and what it gets is no block answer
   pub keeps_other : (reply : Option Answer) → ((answer : Answer) → reply ≡ Some answer → block_in (answer_octets answer) ≡ None)
-      → Invariant first log blocks limit latest numbers (record machine {
-        last_to_module = place + 1;
-        history = Received frame.octets ∷ machine.history;
-        to_cpu = machine.to_cpu ++ answered reply frame.round;
-      })
+      → Invariant first log blocks limit latest numbers makers (after_other machine place frame (answered reply frame.round))
   keeps_other None other =
-      subst (λ frames. Invariant first log blocks limit latest numbers (record machine {
+      let passed = polls-passed first machine.to_module machine.last_to_module machine.round (next_round machine.polls) i.polls (place + 1) in_order in
+      subst (λ frames. Invariant first log blocks limit latest numbers makers (record machine {
         last_to_module = place + 1;
         history = Received frame.octets ∷ machine.history;
         to_cpu = frames;
       })) (sym (append-nil machine.to_cpu)) (record {
-        polls = polls-passed first machine.to_module machine.last_to_module machine.round (next_round machine.polls) i.polls (place + 1) in_order;
+        polls = passed;
         answers = i.answers;
         at_most = i.at_most;
         numbered = i.numbered;
         newest = i.newest;
-        makers = i.makers;
+        makers_in_order = i.makers_in_order;
         maker = i.maker;
-        bring = i.bring;
+        carry = i.carry;
         rising = i.rising;
       })
   keeps_other (Some answer) other =
       let f : Sent = record { octets = answer_octets answer; round = frame.round } in
+      let none : block_in (answer_octets answer) ≡ None = other answer refl in
       record {
         polls = polls-passed first machine.to_module machine.last_to_module machine.round (next_round machine.polls) i.polls (place + 1) in_order;
-        answers = answers-other machine.to_cpu machine.last_to_cpu machine.round (next_round machine.polls) i.answers f (other answer refl);
+        answers = answers-other machine.to_cpu machine.last_to_cpu machine.round (next_round machine.polls) i.answers f none;
         at_most = i.at_most;
         numbered = i.numbered;
         newest = i.newest;
-        makers = i.makers;
+        makers_in_order = i.makers_in_order;
         maker = i.maker;
-        bring = bring-other first blocks machine.makers machine.to_cpu f (other answer refl) i.bring;
+        carry = carry-other first blocks makers machine.to_cpu f none i.carry;
         rising = i.rising;
       }
 
@@ -140,16 +150,11 @@ module _ (first : ℕ) (log : List Transition) (blocks : List MadeBlock) (limit 
   pub keeps_poll : (number limit' : ℕ) (blocks' : List MadeBlock) (makers' : List ℕ) (answer : Block) (octets : List ℕ)
       → HasPoll machine.to_module place number frame.round → block_in octets ≡ Some answer
       → MakersAreInOrder makers' (frame.round + 1) blocks' → NewestIsMaker makers' (frame.round + 1)
-      → AnswersBringMade first blocks' makers' machine.to_cpu → BringsMadeOf first blocks' makers' answer frame.round
+      → AnswersCarryMade first blocks' makers' machine.to_cpu → CarriesMadeOf first blocks' makers' answer frame.round
       → RecordRises log blocks' makers' limit' machine.round machine.items
-      → Invariant first log blocks' limit' (Some number) (number ∷ numbers) (record machine {
-        last_to_module = place + 1;
-        history = Received frame.octets ∷ machine.history;
-        to_cpu = machine.to_cpu ++ record { octets = octets; round = frame.round } ∷ [];
-        polls = frame.round ∷ machine.polls;
-        makers = makers';
-      })
-  keeps_poll number limit' blocks' makers' answer octets poll reads in_order' maker bring brings rises =
+      → Invariant first log blocks' limit' (Some number) (number ∷ numbers) makers'
+      (after_poll machine place frame (record { octets = octets; round = frame.round } ∷ []))
+  keeps_poll number limit' blocks' makers' answer octets poll reads in_order' maker carry carries rises =
       let f : Sent = record { octets = octets; round = frame.round } in
       let next = next_round machine.polls in
       let high : next ≤ frame.round + 1 = i.polls.ahead place number frame.round in_order poll in
@@ -160,8 +165,8 @@ module _ (first : ℕ) (log : List Transition) (blocks : List MadeBlock) (limit 
         at_most = omega (arith, i.polls.sent place number frame.round poll);
         numbered = ap (λ n. n ∷ map (number_of first) machine.polls) (sym named) ∙ ap (λ ns. number ∷ ns) i.numbered;
         newest = λ n is. (numbers, ap (λ (k : ℕ). k ∷ numbers) (same_Some _ _ is));
-        makers = in_order';
+        makers_in_order = in_order';
         maker = λ n is. maker;
-        bring = bring-more first blocks' makers' machine.to_cpu f answer reads brings bring;
+        carry = carry-more first blocks' makers' machine.to_cpu f answer reads carries carry;
         rising = rises;
       }

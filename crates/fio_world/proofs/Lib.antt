@@ -1,3 +1,6 @@
+pub mod LineLemmas
+pub mod CollectedLemmas
+pub mod DigitLemmas
 pub mod Places
 pub mod RoundNumbers
 pub mod Spelled
@@ -10,6 +13,8 @@ pub mod AnswerOrder
 pub mod Makers
 pub mod RisingPieces
 pub mod Kept
+pub mod ReceivedRows
+pub mod HeardRows
 pub mod Rows
 pub mod Runs
 pub mod OneLife
@@ -17,10 +22,8 @@ pub mod OneLifeRows
 pub mod Times
 pub mod Promises
 pub mod SettingsInRange
+pub mod Examples
 pub mod Shown
 pub mod SoundWorlds
-pub mod LineLemmas
-pub mod CollectedLemmas
-pub mod DigitLemmas
 pub mod ReadingLemmas
 pub mod ReportLemmas

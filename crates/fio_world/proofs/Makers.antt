@@ -1,15 +1,31 @@
--- The polls that made the blocks, and the blocks that answers bring.
-use Rattle.std.proofs.Common.{◌≡◌, ℕ, ◌+◌, ◌<◌, ◌≤◌, false, List, [], ◌∷◌, ◌++◌, length, Option, Some, None, slice_get, refl, ap, sym, subst, ◌∙◌, arith, inl, inr, length-append}
+-- The polls that made the blocks, and the blocks that answers carry.
+use Rattle.std.proofs.Common.{◌≡◌, ℕ, ◌+◌, ◌<◌, ◌≤◌, false, List, [], ◌∷◌, ◌++◌, length, Option, Some, None, slice_get, subst, arith, inl, inr, length-append, if◌then◌else◌}
 use Rattle.std.proofs.lemmas.Option.{slice_get_within}
 use Rattle.fio_message.specs.Blocks.{Block}
 use Rattle.fio_message.specs.Status.{says_out_of_sequence}
-use Rattle.fio_message.specs.Decoding.{block_in}
-use Rattle.fio_module.specs.Blocks.{MadeBlock}
+use Rattle.fio_message.specs.Decoding.{poll_in, block_in}
+use Rattle.fio_module.specs.Life.{Received, History, life_of}
+use Rattle.fio_module.specs.Blocks.{MadeBlock, latest_poll, is_new}
 use Rattle.fio_world.specs.Link.{Sent, number_of}
 use Rattle.fio_world.specs.Frames.{HasBlock}
-use Rattle.fio_world.specs.Rounds.{Brings}
-use Rattle.fio_world.proofs.Places.{get_before_push, get_push, get_after_push}
+use Rattle.fio_world.specs.Rounds.{CarriesBlock}
+use Rattle.fio_world.proofs.Places.{get_before_push, get_after_push}
 use Rattle.fio_world.proofs.AnswerOrder.{block_after_push, block_before_other}
+
+-- the rounds of the polls that made blocks, after one more poll or none
+abbrev pub makers_after : Option ℕ → Option ℕ → (List ℕ → List ℕ) → List ℕ → List ℕ
+makers_after None latest makers polls = makers polls
+makers_after (Some number) latest makers [] = makers []
+makers_after (Some number) latest makers (round ∷ older) =
+    if is_new latest number then makers older ++ round ∷ [] else makers older
+
+-- the rounds of the polls that made the blocks of all lives, oldest first, where the polls received
+-- have these rounds, newest first
+abbrev pub makers_of : History → List ℕ → List ℕ
+makers_of [] polls = []
+makers_of (Received octets ∷ history) polls =
+    makers_after (poll_in octets) (latest_poll (life_of history)) (makers_of history) polls
+makers_of (other ∷ history) polls = makers_of history polls
 
 -- the rounds of the polls that made the blocks never fall, and are of polls received
 pub record MakersAreInOrder (makers : List ℕ) (next : ℕ) (blocks : List MadeBlock) : Type 0 where
@@ -25,19 +41,20 @@ pub record NewestIsMaker (makers : List ℕ) (next : ℕ) : Type 0 where
   pub made_by : slice_get makers place ≡ Some round
   pub newest : next ≡ round + 1
 
--- a block answer has the number of its round, in sequence, and brings a block that a poll of that round made
-pub record BringsMadeOf (first : ℕ) (blocks : List MadeBlock) (makers : List ℕ) (answer : Block) (round : ℕ) : Type 0 where
+-- a block answer has the number of its round, in sequence, and carries a block that a poll of that
+-- round made
+pub record CarriesMadeOf (first : ℕ) (blocks : List MadeBlock) (makers : List ℕ) (answer : Block) (round : ℕ) : Type 0 where
   pub number : answer.number ≡ number_of first round
   pub in_sequence : says_out_of_sequence answer.status ≡ false
   pub place : ℕ
   pub block : MadeBlock
   pub is_made : slice_get blocks place ≡ Some block
   pub made_by : slice_get makers place ≡ Some round
-  pub brought : Brings answer block
+  pub carried : CarriesBlock answer block
 
-abbrev pub AnswersBringMade : ℕ → List MadeBlock → List ℕ → List Sent → Type 0
-AnswersBringMade first blocks makers frames = (place : ℕ) (answer : Block) (round : ℕ) →
-    HasBlock frames place answer round → BringsMadeOf first blocks makers answer round
+abbrev pub AnswersCarryMade : ℕ → List MadeBlock → List ℕ → List Sent → Type 0
+AnswersCarryMade first blocks makers frames = (place : ℕ) (answer : Block) (round : ℕ) →
+    HasBlock frames place answer round → CarriesMadeOf first blocks makers answer round
 
 -- a poll of the newest round received makes nothing
 pub makers-repeated : (makers : List ℕ) (next later : ℕ) (blocks : List MadeBlock) → next ≤ later
@@ -68,28 +85,28 @@ makers-new makers next round blocks block high o =
     }
 
 -- a frame is sent that is no block answer
-pub bring-other : (first : ℕ) (blocks : List MadeBlock) (makers : List ℕ) (frames : List Sent) (f : Sent) → block_in f.octets ≡ None
-    → AnswersBringMade first blocks makers frames → AnswersBringMade first blocks makers (frames ++ f ∷ [])
-bring-other first blocks makers frames f none bring p a r h = bring p a r (block_before_other frames f p a r none h)
+pub carry-other : (first : ℕ) (blocks : List MadeBlock) (makers : List ℕ) (frames : List Sent) (f : Sent) → block_in f.octets ≡ None
+    → AnswersCarryMade first blocks makers frames → AnswersCarryMade first blocks makers (frames ++ f ∷ [])
+carry-other first blocks makers frames f none carry p a r h = carry p a r (block_before_other frames f p a r none h)
 
--- a block answer is sent that brings a block
-pub bring-more : (first : ℕ) (blocks : List MadeBlock) (makers : List ℕ) (frames : List Sent) (f : Sent) (answer : Block)
-    → block_in f.octets ≡ Some answer → BringsMadeOf first blocks makers answer f.round
-    → AnswersBringMade first blocks makers frames → AnswersBringMade first blocks makers (frames ++ f ∷ [])
-bring-more first blocks makers frames f answer spells brought bring p a r h =
-    elim (block_after_push frames f p a r h) as (λ _. BringsMadeOf first blocks makers a r) [
-      | inl old ↦ bring p a r old
+-- a block answer is sent that carries a block
+pub carry-more : (first : ℕ) (blocks : List MadeBlock) (makers : List ℕ) (frames : List Sent) (f : Sent) (answer : Block)
+    → block_in f.octets ≡ Some answer → CarriesMadeOf first blocks makers answer f.round
+    → AnswersCarryMade first blocks makers frames → AnswersCarryMade first blocks makers (frames ++ f ∷ [])
+carry-more first blocks makers frames f answer spells carries carry p a r h =
+    elim (block_after_push frames f p a r h) as (λ _. CarriesMadeOf first blocks makers a r) [
+      | inl old ↦ carry p a r old
       | inr new ↦
           let same : answer ≡ a = cc (spells, new.1) in
-          subst (BringsMadeOf first blocks makers a) new.2 (subst (λ x. BringsMadeOf first blocks makers x f.round) same brought)
+          subst (CarriesMadeOf first blocks makers a) new.2 (subst (λ x. CarriesMadeOf first blocks makers x f.round) same carries)
     ]
 
 -- one more block is made
-pub bring-new : (first : ℕ) (blocks : List MadeBlock) (makers : List ℕ) (frames : List Sent) (block : MadeBlock) (round : ℕ)
-    → AnswersBringMade first blocks makers frames
-    → AnswersBringMade first (blocks ++ block ∷ []) (makers ++ round ∷ []) frames
-bring-new first blocks makers frames block round bring p a r h =
-    let b = bring p a r h in
+pub carry-new : (first : ℕ) (blocks : List MadeBlock) (makers : List ℕ) (frames : List Sent) (block : MadeBlock) (round : ℕ)
+    → AnswersCarryMade first blocks makers frames
+    → AnswersCarryMade first (blocks ++ block ∷ []) (makers ++ round ∷ []) frames
+carry-new first blocks makers frames block round carry p a r h =
+    let b = carry p a r h in
     record {
       number = b.number;
       in_sequence = b.in_sequence;
@@ -97,5 +114,5 @@ bring-new first blocks makers frames block round bring p a r h =
       block = b.block;
       is_made = get_before_push blocks (block ∷ []) b.place b.block b.is_made;
       made_by = get_before_push makers (round ∷ []) b.place r b.made_by;
-      brought = b.brought;
+      carried = b.carried;
     }

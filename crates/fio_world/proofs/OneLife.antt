@@ -1,6 +1,5 @@
 -- What runs without restarts keep besides.
-use Rattle.std.proofs.Common.{◌≡◌, ◌≢◌, ℕ, zero, suc, ◌+◌, ◌<◌, ◌≤◌, ◌==◌, Bool, true, false, List, [], ◌∷◌, ◌++◌, length, take, map, Option, Some, None, slice_get, refl, ap, sym, subst, ◌∙◌, arith, inl, inr, length-append, append-nil, if◌then◌else◌}
-use Rattle.std.specs.Prelude.{option_map}
+use Rattle.std.proofs.Common.{◌≡◌, ◌≢◌, ℕ, ◌+◌, ◌≤◌, Bool, true, false, List, [], ◌∷◌, ◌++◌, length, take, map, Option, Some, None, slice_get, refl, ap, sym, ◌∙◌, arith, inl, inr, length-append, append-nil, if◌then◌else◌}
 use Rattle.std.specs.List.{flat_map}
 use Rattle.std.proofs.lemmas.Grind.{flat_map-append}
 use Rattle.std.proofs.lemmas.List.{take-append-le}
@@ -8,22 +7,23 @@ use Rattle.std.proofs.lemmas.Bool.Decides.{nat_tests}
 use Rattle.fio_message.specs.declared.answers.Answer.{Answer}
 use Rattle.fio_message.specs.Answers.{answer_octets}
 use Rattle.fio_message.specs.Blocks.{Block}
-use Rattle.fio_message.specs.Status.{says_lost, says_again}
+use Rattle.fio_message.specs.Status.{says_again}
 use Rattle.fio_message.specs.Decoding.{block_in}
 use Rattle.fio_module.specs.Settings.{Settings}
-use Rattle.fio_module.specs.Life.{Received, History, life_of}
+use Rattle.fio_module.specs.Life.{History, life_of}
 use Rattle.fio_module.specs.Log.{Transition, entry_of}
-use Rattle.fio_module.specs.Blocks.{MadeBlock, is_new, blocks_of, latest_poll}
+use Rattle.fio_module.specs.Blocks.{MadeBlock, is_new, blocks_of}
 use Rattle.fio_cpu.specs.declared.items.Item.{Item}
 use Rattle.fio_cpu.specs.declared.items.Item.TheVariants as items
 use Rattle.fio_cpu.specs.Record.{item_of, recorded}
 use Rattle.fio_world.specs.Link.{Sent, Machine, number_of, answered}
 use Rattle.fio_world.specs.Frames.{is_repeated, repeats, answer_before, block_answers}
 use Rattle.fio_world.specs.Claims.{SaysAgainWhereRepeated}
-use Rattle.fio_world.specs.Rounds.{next_round, Brings}
+use Rattle.fio_world.specs.Rounds.{next_round, CarriesBlock}
 use Rattle.fio_world.proofs.Places.{get_after_push, take_one_more}
 use Rattle.fio_world.proofs.RoundNumbers.{rounds_from_numbers}
 use Rattle.fio_world.proofs.AllLives.{past_log, behind, past_blocks, all_blocks}
+use Rattle.fio_world.proofs.Kept.{after_other, after_poll}
 
 -- a block in the record, with its wide times
 abbrev pub recorded_of : MadeBlock → List Item
@@ -39,12 +39,12 @@ abbrev pub newest_number : ℕ → List ℕ → Option ℕ
 newest_number first [] = None
 newest_number first (round ∷ older) = Some (number_of first round)
 
--- What runs without restarts keep besides, for the blocks of the one life and its latest poll: the newest poll received
--- made the newest block, each block was made by a poll of its round, the record is what the taken blocks are, and block
--- answers say which polls were repeated.
-pub record InOneLife (first : ℕ) (blocks : List MadeBlock) (latest : Option ℕ) (machine : Machine) : Type 0 where
+-- What runs without restarts keep besides, for the blocks of the one life and its latest poll: the
+-- newest poll received made the newest block, each block was made by a poll of its round, the
+-- record is what the taken blocks are, and block answers say which polls were repeated.
+pub record InOneLife (first : ℕ) (blocks : List MadeBlock) (latest : Option ℕ) (makers : List ℕ) (machine : Machine) : Type 0 where
   pub made : next_round machine.polls ≡ length blocks
-  pub own : (k r : ℕ) → slice_get machine.makers k ≡ Some r → r ≡ k
+  pub own : (k r : ℕ) → slice_get makers k ≡ Some r → r ≡ k
   pub polled : latest ≡ newest_number first machine.polls
   pub kept : machine.items ≡ record_of machine.round blocks
   pub again : SaysAgainWhereRepeated machine
@@ -74,8 +74,8 @@ all_in_life settings history none =
     ∙ ap (λ (log : List Transition). map (behind (length log)) own) none.log
     ∙ behind_nothing own
 
--- what a poll of a round is to a module whose polls, all of one life, have these rounds: a new one is of the next
--- round, and another repeats the newest
+-- what a poll of a round is to a module whose polls, all of one life, have these rounds: a new one
+-- is of the next round, and another repeats the newest
 abbrev pub Continues : Bool → ℕ → List ℕ → Type 0
 Continues true round polls = (round ≡ next_round polls) × (is_repeated round polls ≡ false)
 Continues false round polls = (round + 1 ≡ next_round polls) × (is_repeated round polls ≡ true)
@@ -102,37 +102,33 @@ block_answers-push [] f = refl
 block_answers-push (g ∷ frames) f =
     ap (answer_before (block_in g.octets) g.round) (block_answers-push frames f)
     ∙ before_more (block_in g.octets) g.round (block_answers frames) (answer_before (block_in f.octets) f.round [])
-    where
-      before_more : (found : Option Block) (round : ℕ) (xs ys : List (ℕ × Bool))
-          → answer_before found round (xs ++ ys) ≡ answer_before found round xs ++ ys
-      before_more None round xs ys = refl
-      before_more (Some block) round xs ys = refl
+  where
+    before_more : (found : Option Block) (round : ℕ) (xs ys : List (ℕ × Bool))
+        → answer_before found round (xs ++ ys) ≡ answer_before found round xs ++ ys
+    before_more None round xs ys = refl
+    before_more (Some block) round xs ys = refl
 
--- an answer that brings a block is recorded as the block is
-pub recorded-brought : (answer : Block) (block : MadeBlock) → Brings answer block → recorded answer ≡ recorded_of block
-recorded-brought answer block b =
+-- an answer that carries a block is recorded as the block is
+pub recorded-carried : (answer : Block) (block : MadeBlock) → CarriesBlock answer block → recorded answer ≡ recorded_of block
+recorded-carried answer block b =
     ap (λ lost. (if lost then items.Gap ∷ [] else []) ++ map (item_of answer.stamp) answer.entries) b.lost
     ∙ ap (λ entries. (if block.lost then items.Gap ∷ [] else []) ++ map (item_of answer.stamp) entries) b.entries
     ∙ ap (λ stamp. (if block.lost then items.Gap ∷ [] else []) ++ map (item_of stamp) (map entry_of block.transitions)) b.stamp
 
 -- the record with one more block
 pub record_of-next : (blocks : List MadeBlock) (m : ℕ) (taken : List Item) (answer : Block) (block : MadeBlock)
-    → slice_get blocks m ≡ Some block → Brings answer block → taken ≡ record_of m blocks
+    → slice_get blocks m ≡ Some block → CarriesBlock answer block → taken ≡ record_of m blocks
     → taken ++ recorded answer ≡ record_of (m + 1) blocks
-record_of-next blocks m taken answer block found brought kept =
+record_of-next blocks m taken answer block found carries kept =
     ap (λ xs. xs ++ recorded answer) kept
-    ∙ ap (λ xs. record_of m blocks ++ xs) (recorded-brought answer block brought ∙ sym (append-nil (recorded_of block)))
+    ∙ ap (λ xs. record_of m blocks ++ xs) (recorded-carried answer block carries ∙ sym (append-nil (recorded_of block)))
     ∙ sym (flat_map-append recorded_of (take m blocks) (block ∷ []))
     ∙ ap (flat_map recorded_of) (sym (take_one_more blocks m block found))
 
-module _ (first : ℕ) (blocks : List MadeBlock) (latest : Option ℕ) (machine : Machine) (o : InOneLife first blocks latest machine) (index : ℕ) (frame : Sent) where
+module _ (first : ℕ) (blocks : List MadeBlock) (latest : Option ℕ) (makers : List ℕ) (machine : Machine) (o : InOneLife first blocks latest makers machine) (place : ℕ) (frame : Sent) where
   -- a frame that is no poll is received, and what it gets is no block answer
   pub life-other : (reply : Option Answer) → ((answer : Answer) → reply ≡ Some answer → block_in (answer_octets answer) ≡ None)
-      → InOneLife first blocks latest (record machine {
-        last_to_module = index;
-        history = Received frame.octets ∷ machine.history;
-        to_cpu = machine.to_cpu ++ answered reply frame.round;
-      })
+      → InOneLife first blocks latest makers (after_other machine place frame (answered reply frame.round))
   life-other None other =
       record { made = o.made; own = o.own; polled = o.polled; kept = o.kept; again = ap block_answers (append-nil machine.to_cpu) ∙ o.again }
   life-other (Some answer) other =
@@ -160,23 +156,18 @@ module _ (first : ℕ) (blocks : List MadeBlock) (latest : Option ℕ) (machine 
 
   -- a new poll is received
   pub life-new : (number : ℕ) (block : MadeBlock) (octets : List ℕ) (answer : Block) → number ≡ number_of first frame.round
-      → Continues true frame.round machine.polls → length machine.makers ≡ length blocks → machine.round ≤ length blocks
+      → Continues true frame.round machine.polls → length makers ≡ length blocks → machine.round ≤ length blocks
       → block_in octets ≡ Some answer → says_again answer.status ≡ false
-      → InOneLife first (blocks ++ block ∷ []) (Some number) (record machine {
-        last_to_module = index;
-        history = Received frame.octets ∷ machine.history;
-        to_cpu = machine.to_cpu ++ record { octets = octets; round = frame.round } ∷ [];
-        polls = frame.round ∷ machine.polls;
-        makers = machine.makers ++ frame.round ∷ [];
-      })
+      → InOneLife first (blocks ++ block ∷ []) (Some number) (makers ++ frame.round ∷ [])
+      (after_poll machine place frame (record { octets = octets; round = frame.round } ∷ []))
   life-new number block octets answer numbered met count upto reads says =
       let made : next_round machine.polls ≡ length blocks = o.made in
       let next : frame.round ≡ next_round machine.polls = met.0 in
       record {
         made = omega (arith, length-append blocks (block ∷ []));
-        own = λ k r is. elim (get_after_push machine.makers frame.round k r is) as (λ _. r ≡ k) [
+        own = λ k r is. elim (get_after_push makers frame.round k r is) as (λ _. r ≡ k) [
           | inl old ↦ o.own k r old
-          | inr new ↦ let at : k ≡ length machine.makers = new.0 in let this : r ≡ frame.round = new.1 in omega arith
+          | inr new ↦ let at : k ≡ length makers = new.0 in let this : r ≡ frame.round = new.1 in omega arith
         ];
         polled = ap Some numbered;
         kept = o.kept ∙ ap (flat_map recorded_of) (sym (take-append-le machine.round blocks (block ∷ []) upto));
@@ -186,13 +177,8 @@ module _ (first : ℕ) (blocks : List MadeBlock) (latest : Option ℕ) (machine 
   -- the newest poll is received again
   pub life-repeated : (number : ℕ) (octets : List ℕ) (answer : Block) → number ≡ number_of first frame.round
       → Continues false frame.round machine.polls → block_in octets ≡ Some answer → says_again answer.status ≡ true
-      → InOneLife first blocks (Some number) (record machine {
-        last_to_module = index;
-        history = Received frame.octets ∷ machine.history;
-        to_cpu = machine.to_cpu ++ record { octets = octets; round = frame.round } ∷ [];
-        polls = frame.round ∷ machine.polls;
-        makers = machine.makers;
-      })
+      → InOneLife first blocks (Some number) makers
+      (after_poll machine place frame (record { octets = octets; round = frame.round } ∷ []))
   life-repeated number octets answer numbered met reads says =
       record {
         made = met.0 ∙ o.made;

@@ -1,5 +1,5 @@
 -- What the blocks of a life are in the record is its log through their end.
-use Rattle.std.proofs.Common.{◌≡◌, ℕ, zero, suc, ◌+◌, ◌-◌, ◌<◌, ◌≤◌, Bool, true, false, List, [], ◌∷◌, ◌++◌, length, take, drop, map, Option, Some, None, slice_get, refl, ap, sym, subst, ◌∙◌, arith, length-take, length-drop, if◌then◌else◌}
+use Rattle.std.proofs.Common.{◌≡◌, ℕ, zero, suc, ◌+◌, ◌-◌, ◌<◌, ◌≤◌, Bool, true, false, List, [], ◌∷◌, ◌++◌, length, take, drop, map, Some, slice_get, refl, ap, sym, subst, ◌∙◌, arith, length-take, length-drop, if◌then◌else◌}
 use Rattle.std.specs.Prelude.{Contains, nat_lt}
 use Rattle.std.specs.List.{flat_map}
 use Rattle.std.proofs.lemmas.Option.{slice_get-map, slice_get_within, get_or_from_slice_get}
@@ -9,10 +9,10 @@ use Rattle.fio_message.specs.declared.fields.Entry.{Entry}
 use Rattle.fio_module.specs.Settings.{Settings}
 use Rattle.fio_module.specs.Life.{Life}
 use Rattle.fio_module.specs.Log.{Transition, entry_of, log_of}
-use Rattle.fio_module.specs.Blocks.{MadeBlock, blocks_of, end_of, last_end}
+use Rattle.fio_module.specs.Blocks.{MadeBlock, blocks_of, last_end}
 use Rattle.fio_module.specs.Laws.{IsPartOf, FollowOneAnother}
 use Rattle.fio_module.proofs.BlockLaws.{blocks_follow}
-use Rattle.fio_world.specs.Pieces.{Piece, Gap, Got, pieces_of, HasLoss, ArePieces, TakenArePieces, until_gap, PiecesBeginLog}
+use Rattle.fio_world.specs.Pieces.{Piece, Gap, Got, pieces_of, ArePieces, TakenArePieces, until_gap, PiecesBeginLog}
 use Rattle.fio_world.proofs.Places.{get_part}
 
 -- pieces from one place to another, and pieces from there on

@@ -1,5 +1,5 @@
 -- The promises, from what every run keeps.
-use Rattle.std.proofs.Common.{◌≡◌, ℕ, ◌+◌, ◌-◌, ◌<◌, ◌≤◌, ◌⊎◌, max, Bool, true, false, List, [], ◌∷◌, ◌++◌, length, take, drop, map, refl, ap, sym, subst, ◌∙◌, arith, inl, inr, length-drop, if◌then◌else◌}
+use Rattle.std.proofs.Common.{◌≡◌, ℕ, ◌+◌, ◌≤◌, ◌⊎◌, Bool, true, false, List, [], ◌∷◌, ◌++◌, length, take, map, refl, ap, sym, subst, ◌∙◌, arith, inl, inr, length-drop, if◌then◌else◌}
 use Rattle.std.specs.List.{flat_map, AllZip}
 use Rattle.std.proofs.lemmas.Bool.{cases_lt}
 use Rattle.std.proofs.lemmas.List.{map-append, take_all}
@@ -10,20 +10,18 @@ use Rattle.fio_module.specs.Blocks.{MadeBlock, blocks_of, end_of, newest_end, wa
 use Rattle.fio_module.proofs.BlockLaws.{blocks_end_within}
 use Rattle.fio_cpu.specs.declared.items.Item.TheVariants as items
 use Rattle.fio_cpu.specs.Record.{item_of}
-use Rattle.fio_world.specs.declared.event.Event.{Event}
-use Rattle.fio_world.specs.Link.{Machine, IsRun}
+use Rattle.fio_world.specs.Link.{Machine}
 use Rattle.fio_world.specs.Pieces.{Gap, Got, piece_of, pieces_of, taken, ArePieces}
-use Rattle.fio_world.specs.Headline.{HaveNoRestart, RecordIsLog, Headline}
+use Rattle.fio_world.specs.Headline.{RecordIsLog, Headline}
 use Rattle.fio_world.specs.Claims.{blocks_in, StandsAtTaken, RestIsTold, HasTimes, IsTimed, sources_of}
-use Rattle.fio_world.specs.Rounds.{next_round, PollsOf, NewestPollIsOf, NewestPollMadeNewestBlock, BlockAnswersOf, AnswersBringBlocks}
+use Rattle.fio_world.specs.Rounds.{next_round, PollsOf, NewestPollIsOf, NewestPollMadeNewestBlock, BlockAnswersOf, AnswersCarryBlocks}
 use Rattle.fio_world.specs.Rising.{IsRising}
 use Rattle.fio_world.specs.Sound.{IsSound, IsSoundRun, HoldsOfRuns, HoldsWithoutRestart}
 use Rattle.fio_world.proofs.MadeBlocks.{each-take}
 use Rattle.fio_world.proofs.PieceLaws.{taken_are_pieces, pieces_begin_log}
-use Rattle.fio_world.proofs.Kept.{HasInvariant}
 use Rattle.fio_world.proofs.Runs.{invariant, rising, in_sequence, takes}
 use Rattle.fio_world.proofs.OneLife.{recorded_of}
-use Rattle.fio_world.proofs.OneLifeRows.{IsKept, kept, brings_own}
+use Rattle.fio_world.proofs.OneLifeRows.{IsKept, kept, carries_own}
 use Rattle.fio_world.proofs.Times.{BlockTimely, blocks_timely, blocks_timed}
 
 -- what a block is in the record, without times
@@ -61,11 +59,11 @@ rest_is_told settings life =
     let waiting = length-drop (waiting_from settings life) (log_of life) in
     record {
       in_blocks = subst (λ bs. ArePieces settings life 0 (taken (length blocks) blocks) (end_of bs)) all
-      (taken_are_pieces settings life (length blocks) (omega arith));
+          (taken_are_pieces settings life (length blocks) (omega arith));
       pushed_out = omega arith;
       only_when_full = λ pushed. omega (arith, waiting);
-      waiting = omega (arith, waiting);
-      few = omega (arith, waiting);
+      rest_waits = omega (arith, waiting);
+      few_wait = omega (arith, waiting);
     }
 
 module _ (settings : Settings) (range : AreInRange settings) (first : ℕ) (machine : Machine) (k : IsKept settings first machine) where
@@ -148,7 +146,7 @@ newest_poll_made_newest_block settings first events machine range run none =
 pub block_answers_are_in_order : HoldsOfRuns (λ settings first events machine. BlockAnswersOf machine)
 block_answers_are_in_order settings first events machine range run = (invariant settings range first events machine run).answers
 
-pub answers_bring_blocks : HoldsWithoutRestart AnswersBringBlocks
-answers_bring_blocks settings first events machine range run none place answer round has =
+pub answers_carry_blocks : HoldsWithoutRestart AnswersCarryBlocks
+answers_carry_blocks settings first events machine range run none place answer round has =
     let k = kept settings range first events machine run none in
-    brings_own settings range first machine k.always k.one_life place answer round has
+    carries_own settings range first machine k.always k.one_life place answer round has

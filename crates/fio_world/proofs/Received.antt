@@ -1,5 +1,5 @@
 -- What a frame that the module receives does to its life and gets as its answer.
-use Rattle.std.proofs.Common.{◌≡◌, ◌≢◌, ℕ, ◌+◌, ◌%◌, ◌^◌, ◌<◌, ◌≤◌, ◌==◌, Bool, true, false, List, [], ◌∷◌, ◌++◌, length, map, Option, Some, None, refl, ap, sym, subst, ◌∙◌, arith, if◌then◌else◌}
+use Rattle.std.proofs.Common.{◌≡◌, ℕ, ◌^◌, ◌<◌, ◌≤◌, false, List, [], ◌∷◌, ◌++◌, length, map, Option, Some, None, refl, ap, sym, subst, ◌∙◌, arith}
 use Rattle.std.specs.Prelude.{option_map}
 use Rattle.std.specs.List.{AllByRecursion}
 use Rattle.std.proofs.lemmas.Bool.Decides.{nat_tests}
@@ -10,20 +10,19 @@ use Rattle.fio_message.specs.declared.commands.Command.TheVariants as commands
 use Rattle.fio_message.specs.declared.answers.Answer.{Answer}
 use Rattle.fio_message.specs.Octets.{IsEntry}
 use Rattle.fio_message.specs.Answers.{answer_octets}
-use Rattle.fio_message.specs.Blocks.{Block}
-use Rattle.fio_message.specs.Status.{says_more, says_lost, says_again, says_out_of_sequence}
-use Rattle.fio_message.specs.Decoding.{command_in, polled_number, poll_in, answered_block, block_in}
-use Rattle.fio_message.proofs.MessageLaws.{status_back}
-use Rattle.fio_module.specs.Settings.{Settings, AreInRange}
+use Rattle.fio_message.specs.Status.{says_again, says_out_of_sequence}
+use Rattle.fio_message.specs.Decoding.{command_in, polled_number, answered_block, block_in}
+use Rattle.fio_message.proofs.StatusBits.{status_back}
+use Rattle.fio_module.specs.Settings.{Settings}
 use Rattle.fio_module.specs.Life.{Received, Restart, History, Life, life_of, with_command}
 use Rattle.fio_module.specs.Log.{entry_of}
 use Rattle.fio_module.specs.Blocks.{MadeBlock, latest_poll, is_new, blocks_of, next_block}
-use Rattle.fio_module.specs.Sendings.{Sending, answer_of, is_out_of_sequence, first_sending, sent_again, latest_sending}
+use Rattle.fio_module.specs.Sendings.{Sending, answer_of, first_sending, sent_again, latest_sending}
 use Rattle.fio_module.specs.Replies.{answer_to, answer_if}
 use Rattle.fio_module.specs.Laws.{Carries}
 use Rattle.fio_module.proofs.SendingLaws.{sendings_carry, sendings_answer_polls}
 use Rattle.fio_world.specs.Frames.{number_with, received_numbers}
-use Rattle.fio_world.specs.Rounds.{Brings}
+use Rattle.fio_world.specs.Rounds.{CarriesBlock}
 use Rattle.fio_world.proofs.Spelled.{no_block_in, said, sending_back}
 use Rattle.fio_world.proofs.MadeBlocks.{FitsAnswer, blocks_fit, entries_fit}
 
@@ -94,9 +93,9 @@ carried_back per_block sending block few number fits carried =
     (subst (AllByRecursion IsEntry) (sym carried.entries) (entries_fit block.transitions fits.inputs))
     (omega arith)
 
--- and what is read brings the block
-pub carried_brings : (sending : Sending) (block : MadeBlock) → Carries sending block → Brings (said sending) block
-carried_brings sending block carried =
+-- and what is read carries the block
+pub carried_says : (sending : Sending) (block : MadeBlock) → Carries sending block → CarriesBlock (said sending) block
+carried_says sending block carried =
     let status = status_back sending.more sending.lost sending.again sending.out_of_sequence in
     record {
       entries = carried.entries;
@@ -116,7 +115,8 @@ sent_with : (latest : Option ℕ) (found : Option Sending) (number : ℕ) → la
 sent_with latest None number same is = absurd (cc (same, is))
 sent_with latest (Some sending) number same is = (sending, refl, same_Some _ _ (sym same ∙ is))
 
--- the latest sending, where a poll was received: it has the number of the latest poll, and carries the newest block
+-- the latest sending, where a poll was received: it has the number of the latest poll, and carries
+-- the newest block
 pub record IsLatestSending (settings : Settings) (life : Life) (polled : ℕ) (sending : Sending) : Type 0 where
   pub is : latest_sending settings life ≡ Some sending
   pub number : sending.number ≡ polled

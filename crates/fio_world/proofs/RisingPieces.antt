@@ -1,5 +1,5 @@
 -- The record rises through a log that grows.
-use Rattle.std.proofs.Common.{◌≡◌, ℕ, zero, suc, ◌+◌, ◌<◌, ◌≤◌, Bool, true, false, List, [], ◌∷◌, ◌++◌, length, map, Option, Some, None, slice_get, refl, ap, sym, subst, ◌∙◌, arith, inl, inr, length-append, if◌then◌else◌}
+use Rattle.std.proofs.Common.{◌≡◌, ℕ, zero, suc, ◌+◌, ◌<◌, ◌≤◌, Bool, true, false, List, [], ◌∷◌, ◌++◌, length, map, Some, slice_get, refl, ap, sym, subst, ◌∙◌, arith, inl, inr, if◌then◌else◌}
 use Rattle.std.specs.Prelude.{slice_index}
 use Rattle.std.specs.List.Sorted.{IsStrictlyIncreasing}
 use Rattle.std.proofs.lemmas.Option.{slice_get_within, slice_get-map}
@@ -15,7 +15,7 @@ use Rattle.fio_cpu.specs.declared.items.Item.TheVariants as items
 use Rattle.fio_cpu.specs.Record.{item_of, recorded}
 use Rattle.fio_world.specs.Pieces.{Piece, Gap, Got, piece_of}
 use Rattle.fio_world.specs.Rising.{entries_got, Rises}
-use Rattle.fio_world.specs.Rounds.{Brings}
+use Rattle.fio_world.specs.Rounds.{CarriesBlock}
 use Rattle.fio_world.proofs.Places.{get_before_push, get_after_push}
 use Rattle.fio_world.proofs.AllLives.{StandsIn}
 
@@ -75,31 +75,32 @@ rise_marked false entries from to stamp es p = subst (λ ps. RiseFrom entries fr
 
 -- a block that stands in the log behind the record rises behind it
 pub rise_taken : (log : List Transition) (to : ℕ) (record_items : List Item) (answer : Block) (block : MadeBlock)
-    → RiseFrom (map entry_of log) 0 (map piece_of record_items) to → to ≤ block.start → StandsIn log block → Brings answer block
+    → RiseFrom (map entry_of log) 0 (map piece_of record_items) to → to ≤ block.start → StandsIn log block → CarriesBlock answer block
     → RiseFrom (map entry_of log) 0 (map piece_of (record_items ++ recorded answer)) block.end
-rise_taken log to record_items answer block rises low stands brought =
+rise_taken log to record_items answer block rises low stands carries =
     let entries = map entry_of log in
-    let count : length answer.entries ≡ length (map entry_of block.transitions) = ap length brought.entries in
+    let count : length answer.entries ≡ length (map entry_of block.transitions) = ap length carries.entries in
     let ends : block.start + length block.transitions ≡ block.end = stands.count in
     let end : block.start + length answer.entries ≡ block.end = omega (arith, length-map block.transitions entry_of) in
     let run = rise_run entries to block.start answer.entries low (λ i e is.
-    entry_stands log block stands i e (ap (λ es. slice_get es i) (sym brought.entries) ∙ is)) in
+    entry_stands log block stands i e (ap (λ es. slice_get es i) (sym carries.entries) ∙ is)) in
     let marked = rise_marked (says_lost answer.status) entries to block.end answer.stamp answer.entries
     (subst (RiseFrom entries to (got answer.entries)) end run) in
     subst (λ ps. RiseFrom entries 0 ps block.end) (sym (map-append piece_of record_items (recorded answer)))
     (rise-append entries 0 to block.end (map piece_of record_items) (map piece_of (recorded answer)) rises marked)
-    where
-      entry_from : (ts : List Transition) (i : ℕ) (e : Entry) → slice_get (map entry_of ts) i ≡ Some e
-          → (t : Transition) × (slice_get ts i ≡ Some t) × (entry_of t ≡ e)
-      entry_from [] i e is = absurd (cc is)
-      entry_from (t ∷ ts) zero e is = (t, refl, cc)
-      entry_from (t ∷ ts) (suc i) e is = entry_from ts i e is
-      entry_stands : (log : List Transition) (block : MadeBlock) → StandsIn log block → (i : ℕ) (e : Entry)
-          → slice_get (map entry_of block.transitions) i ≡ Some e → slice_get (map entry_of log) (block.start + i) ≡ Some e
-      entry_stands log block stands i e is =
-          let found = entry_from block.transitions i e is in
-          slice_get-map entry_of log (block.start + i)
-          ∙ ap (option_map entry_of) (stands.places i found.0 found.1) ∙ ap Some found.2
+  where
+    entry_from : (ts : List Transition) (i : ℕ) (e : Entry) → slice_get (map entry_of ts) i ≡ Some e
+        → (t : Transition) × (slice_get ts i ≡ Some t) × (entry_of t ≡ e)
+    entry_from [] i e is = absurd (cc is)
+    entry_from (t ∷ ts) zero e is = (t, refl, cc)
+    entry_from (t ∷ ts) (suc i) e is = entry_from ts i e is
+
+    entry_stands : (log : List Transition) (block : MadeBlock) → StandsIn log block → (i : ℕ) (e : Entry)
+        → slice_get (map entry_of block.transitions) i ≡ Some e → slice_get (map entry_of log) (block.start + i) ≡ Some e
+    entry_stands log block stands i e is =
+        let found = entry_from block.transitions i e is in
+        slice_get-map entry_of log (block.start + i)
+        ∙ ap (option_map entry_of) (stands.places i found.0 found.1) ∙ ap Some found.2
 
 -- the record rises to a place that no block of the CPU's round or a later one starts before
 pub record RecordRises (log : List Transition) (blocks : List MadeBlock) (makers : List ℕ) (limit round : ℕ) (taken : List Item) : Type 0 where
@@ -116,7 +117,7 @@ rises-longer log more blocks makers limit round taken s =
     record {
       to = s.to;
       rises = subst (λ es. RiseFrom es 0 (map piece_of taken) s.to) (sym (map-append entry_of log more))
-      (rise-more (map entry_of log) (map entry_of more) 0 s.to (map piece_of taken) s.rises);
+          (rise-more (map entry_of log) (map entry_of more) 0 s.to (map piece_of taken) s.rises);
       limited = s.limited;
       ahead = s.ahead;
     }
@@ -164,11 +165,11 @@ pub rises_as_promised : (log : List Transition) (pieces : List Piece) (to : ℕ)
 rises_as_promised log pieces to h =
     let found = places_from (map entry_of log) 0 pieces to h in
     record { places = found.0; rise = increasing 0 found.0 found.1; stand = found.2 }
-    where
-      places_from : (entries : List Entry) (from : ℕ) (pieces : List Piece) (to : ℕ) → RiseFrom entries from pieces to
-          → (places : List ℕ) × Increase from places × (map (slice_get entries) places ≡ map Some (entries_got pieces))
-      places_from entries from [] to h = ([], tt, refl)
-      places_from entries from (Gap ∷ pieces) to h = places_from entries from pieces to h
-      places_from entries from (Got e ∷ pieces) to h =
-          let rest = places_from entries (h.0 + 1) pieces to h.3 in
-          (h.0 ∷ rest.0, (h.1, rest.1), ap (λ x. x ∷ map (slice_get entries) rest.0) h.2 ∙ ap (λ xs. Some e ∷ xs) rest.2)
+  where
+    places_from : (entries : List Entry) (from : ℕ) (pieces : List Piece) (to : ℕ) → RiseFrom entries from pieces to
+        → (places : List ℕ) × Increase from places × (map (slice_get entries) places ≡ map Some (entries_got pieces))
+    places_from entries from [] to h = ([], tt, refl)
+    places_from entries from (Gap ∷ pieces) to h = places_from entries from pieces to h
+    places_from entries from (Got e ∷ pieces) to h =
+        let rest = places_from entries (h.0 + 1) pieces to h.3 in
+        (h.0 ∷ rest.0, (h.1, rest.1), ap (λ x. x ∷ map (slice_get entries) rest.0) h.2 ∙ ap (λ xs. Some e ∷ xs) rest.2)

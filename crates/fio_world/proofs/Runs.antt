@@ -1,6 +1,5 @@
 -- Every run keeps what each row keeps, and what follows whatever restarts.
-use Rattle.std.proofs.Common.{◌≡◌, ◌↔◌, ℕ, ◌+◌, ◌-◌, ◌<◌, ◌≤◌, ◌==◌, Bool, true, false, List, [], ◌∷◌, ◌++◌, length, Option, Some, None, slice_get, refl, ap, sym, subst, ◌∙◌, arith, if◌then◌else◌}
-use Rattle.std.specs.List.{AllByRecursion}
+use Rattle.std.proofs.Common.{◌≡◌, ◌↔◌, ℕ, ◌+◌, ◌==◌, Bool, true, false, List, [], ◌∷◌, ◌++◌, None, refl, ap, sym, subst, ◌∙◌, arith, if◌then◌else◌}
 use Rattle.std.proofs.lemmas.Bool.Decides.{nat_tests}
 use Rattle.fio_message.specs.Blocks.{Block}
 use Rattle.fio_module.specs.Settings.{Settings, AreInRange}
@@ -16,7 +15,8 @@ use Rattle.fio_world.specs.Sound.{LeadToOneMachine}
 use Rattle.fio_world.proofs.MadeBlocks.{each-append}
 use Rattle.fio_world.proofs.RisingPieces.{rises_as_promised}
 use Rattle.fio_world.proofs.Kept.{HasInvariant}
-use Rattle.fio_world.proofs.Rows.{deliverable, frame_at_place, same_round, keeps-start, keeps}
+use Rattle.fio_world.proofs.HeardRows.{same_round}
+use Rattle.fio_world.proofs.Rows.{deliverable, frame_at_place, keeps-start, keeps}
 
 keeps_all : (settings : Settings) → AreInRange settings → (first : ℕ) (events : List Event) (machine last : Machine)
     → Leads settings first machine events last → HasInvariant settings first machine → HasInvariant settings first last
@@ -67,7 +67,7 @@ rising settings first machine i = rises_as_promised _ _ i.rising.to i.rising.ris
 
 -- no block answer is out of sequence
 pub in_sequence : (settings : Settings) (first : ℕ) (machine : Machine) → HasInvariant settings first machine → IsInSequence machine
-in_sequence settings first machine i place block round has = (i.bring place block round has).in_sequence
+in_sequence settings first machine i place block round has = (i.carry place block round has).in_sequence
 
 round_taken : (first index : ℕ) (machine : Machine) (block : Block) (same : Bool)
     → (if same then record machine { last_to_cpu = index; round = machine.round + 1; items = machine.items ++ recorded block } else record machine { last_to_cpu = index }).round
@@ -93,7 +93,7 @@ pub takes : (settings : Settings) → AreInRange settings → (first : ℕ) (mac
     → TakesPresentRound settings first machine
 takes settings range first machine i place block round has fine =
     let le = (deliverable machine.to_cpu machine.last_to_cpu (place + 1) fine).in_order in
-    let named : block.number ≡ number_of first round = (i.bring place block round has).number in
+    let named : block.number ≡ number_of first round = (i.carry place block round has).number in
     let heard = round_heard settings first machine place block round has in
     let over = over_if_same block.number (number_of first machine.round) machine.round in (
       λ taken. same_round settings range first machine i place block round le has (over.0 (sym heard ∙ taken)),

@@ -1,5 +1,5 @@
 -- What the octets of commands and answers are read as.
-use Rattle.std.proofs.Common.{◌≡◌, ℕ, ◌+◌, ◌^◌, ◌<◌, ◌≤◌, ◌==◌, ◌&&◌, Bool, true, false, List, [], ◌∷◌, length, Option, Some, None, refl, ap, arith, if◌then◌else◌}
+use Rattle.std.proofs.Common.{◌≡◌, ℕ, ◌+◌, ◌^◌, ◌<◌, ◌≤◌, ◌&&◌, Bool, true, false, List, [], ◌∷◌, length, Option, Some, None, refl, ap, arith, if◌then◌else◌}
 use Rattle.std.specs.Prelude.{nat_le}
 use Rattle.std.specs.List.{AllByRecursion}
 use Rattle.std.proofs.lemmas.Option.{same_Some}
@@ -15,7 +15,7 @@ use Rattle.fio_message.specs.Answers.{answer_octets, answer_fields, answer_lengt
 use Rattle.fio_message.specs.Blocks.{Block}
 use Rattle.fio_message.specs.Status.{block_status}
 use Rattle.fio_message.specs.Reading.{command_at, answer_at}
-use Rattle.fio_message.specs.Decoding.{is_length, message_in, command_in, polled_number, poll_in, answered_block, block_in}
+use Rattle.fio_message.specs.Decoding.{is_length, message_in, polled_number, poll_in, answered_block, block_in}
 use Rattle.fio_message.proofs.MessageLaws.{block_back}
 use Rattle.fio_module.specs.Sendings.{Sending, answer_of}
 use Rattle.fio_world.specs.Link.{sending_refusal}

@@ -1,25 +1,25 @@
 -- The times of recorded items.
-use Rattle.std.proofs.Common.{◌≡◌, ℕ, zero, suc, ◌+◌, ◌-◌, ◌%◌, ◌^◌, ◌<◌, ◌≤◌, Bool, true, false, List, [], ◌∷◌, ◌++◌, length, take, drop, map, Option, Some, None, refl, ap, sym, subst, ◌∙◌, arith, if◌then◌else◌}
+use Rattle.std.proofs.Common.{◌≡◌, ℕ, zero, suc, ◌+◌, ◌-◌, ◌%◌, ◌^◌, ◌<◌, ◌≤◌, Bool, true, false, List, [], ◌∷◌, ◌++◌, drop, map, Option, Some, None, refl, ap, sym, ◌∙◌, arith, if◌then◌else◌}
 use Rattle.std.specs.Prelude.{unwrap_or}
 use Rattle.std.specs.List.{flat_map, AllByRecursion, AllZip}
 use Rattle.fio_message.specs.declared.commands.Command.{Command}
 use Rattle.fio_message.specs.declared.commands.Command.TheVariants.{LoadCounter}
 use Rattle.fio_input.specs.Counter.{asked_number, loaded_number, ticks_unless_loaded, ticks_after_load, one_more_if_loaded}
 use Rattle.fio_input.specs.FilterHistory.{is_reported}
-use Rattle.fio_input.specs.Widening.{Widened, widened}
+use Rattle.fio_input.specs.Widening.{widened}
 use Rattle.fio_input.proofs.Times.{widened_only}
 use Rattle.fio_module.specs.Settings.{Settings}
 use Rattle.fio_module.specs.Life.{Life, Scanned, LineSynced, Commanded, counter_events, counter_of, scans_of, loads_of, filter_events}
 use Rattle.fio_module.specs.Log.{Transition, entry_of, log_of, transition_at, transitions_below}
 use Rattle.fio_module.specs.Blocks.{MadeBlock, blocks_of, newest_end, next_block, start_after, count_from}
-use Rattle.fio_cpu.specs.declared.items.Item.{Item}
 use Rattle.fio_cpu.specs.declared.items.Item.TheVariants as items
 use Rattle.fio_cpu.specs.Record.{item_of}
-use Rattle.fio_world.specs.Claims.{Source, Loss, From, sources_of, IsInTime, IsTimed}
+use Rattle.fio_world.specs.Claims.{Loss, From, sources_of, IsInTime, IsTimed}
 use Rattle.fio_world.proofs.MadeBlocks.{each-append, each-take, each-drop, each-map, each_block}
 use Rattle.fio_world.proofs.OneLife.{recorded_of}
 
--- the counter, after so many scans and loads, is as many scans on as there were since the transition, if none loaded since
+-- the counter, after so many scans and loads, is as many scans on as there were since the
+-- transition, if none loaded since
 pub record IsTimely (counter scans loads : ℕ) (transition : Transition) : Type 0 where
   pub fits : transition.counter < 2 ^ 32
   pub scanned_before : transition.scans ≤ scans

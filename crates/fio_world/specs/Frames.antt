@@ -20,14 +20,16 @@ pub record HasBlock (frames : List Sent) (place : ℕ) (block : Block) (round : 
   pub spells : block_in frame.octets ≡ Some block
   pub of_round : frame.round ≡ round
 
--- the numbers of the polls that a module has received, in all its lives, newest first
+-- the numbers of polls, with that of a frame which is a poll, newest first
 abbrev pub number_with : Option ℕ → List ℕ → List ℕ
 number_with None numbers = numbers
 number_with (Some number) numbers = number ∷ numbers
 
+-- the numbers of the polls that a module has received, in all its lives, newest first
 abbrev pub received_numbers : History → List ℕ
 received_numbers [] = []
-received_numbers (Received octets ∷ history) = number_with (poll_in octets) (received_numbers history)
+received_numbers (Received octets ∷ history) =
+    number_with (poll_in octets) (received_numbers history)
 received_numbers (other ∷ history) = received_numbers history
 
 -- whether a poll of this round is of the same round as the newest of these
@@ -35,17 +37,20 @@ abbrev pub is_repeated : ℕ → List ℕ → Bool
 is_repeated round [] = false
 is_repeated round (newest ∷ older) = round == newest
 
--- the rounds of polls received, given newest first, in the order received, each with whether the poll
--- received before had the same round
+-- the rounds of polls received, given newest first, in the order received, each with whether the
+-- poll received before had the same round
 abbrev pub repeats : List ℕ → List (ℕ × Bool)
 repeats [] = []
 repeats (round ∷ older) = repeats older ++ (round, is_repeated round older) ∷ []
 
--- the rounds of the block answers among frames, in order, each with whether it says that the number was asked for again
+-- the round of a frame which is a block answer, with whether it says that its number was asked for
+-- again, before those of later ones
 abbrev pub answer_before : Option Block → ℕ → List (ℕ × Bool) → List (ℕ × Bool)
 answer_before None round answers = answers
 answer_before (Some block) round answers = (round, says_again block.status) ∷ answers
 
+-- the rounds of the block answers among frames, in order, each with whether it says so
 abbrev pub block_answers : List Sent → List (ℕ × Bool)
 block_answers [] = []
-block_answers (frame ∷ frames) = answer_before (block_in frame.octets) frame.round (block_answers frames)
+block_answers (frame ∷ frames) =
+    answer_before (block_in frame.octets) frame.round (block_answers frames)

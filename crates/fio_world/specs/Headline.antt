@@ -1,7 +1,8 @@
--- The headline: after any list of scans, line syncs, polls, other commands and in-order deliveries with losses and
--- immediate repeats, without module restarts, the CPU's record is the module's transition log from its start through
--- the last block taken, each entry once and in order, with entries missing only at gap marks, each of which stands
--- where an overflow was flagged; until the first mark it is a prefix.
+-- The headline: after any list of scans, line syncs, polls, other commands and in-order deliveries
+-- with losses and immediate repeats, without module restarts, the CPU's record is the module's
+-- transition log from its start through the last block taken, each entry once and in order, with
+-- entries missing only at gap marks, each of which stands where an overflow was flagged; until the
+-- first mark it is a prefix.
 use Rattle.std.specs.Prelude.{◌≡◌, ℕ, List, map, take}
 use Rattle.std.specs.List.{AllByRecursion}
 use Rattle.fio_module.specs.Settings.{Settings}
@@ -22,14 +23,18 @@ HaveNoRestart events = AllByRecursion IsNotRestart events
 
 -- the place in the log where the last block that the CPU has taken ends, 0 if it has taken none
 abbrev pub end_taken : Settings → Machine → ℕ
-end_taken settings machine = end_of (take machine.round (blocks_of settings (life_of machine.history)))
+end_taken settings machine =
+    end_of (take machine.round (blocks_of settings (life_of machine.history)))
 
--- The record is the log from its start through the last block taken, and until the first gap mark a prefix of it.
+-- The record is the log from its start through the last block taken, and until the first gap mark a
+-- prefix of it.
 pub record RecordIsLog (settings : Settings) (machine : Machine) : Type 0 where
-  pub pieces : ArePieces settings (life_of machine.history) 0 (map piece_of machine.items) (end_taken settings machine)
+  pub pieces :
+      ArePieces settings (life_of machine.history) 0
+      (map piece_of machine.items) (end_taken settings machine)
   pub prefix : BeginLog (life_of machine.history) (until_gap (map piece_of machine.items))
 
--- The headline for a record that a CPU has after these events.
+-- the headline, of a record that a CPU has after these events
 abbrev pub Headline : Settings → ℕ → List Event → List Item → Type 0
 Headline settings first events items = HaveNoRestart events →
     (machine : Machine) × IsRun settings first events machine × (machine.items ≡ items)

@@ -1,3 +1,7 @@
+pub mod Lines
+pub mod Words
+pub mod Hexadecimal
+pub mod Collected
 pub mod Link
 pub mod Frames
 pub mod Pieces
@@ -8,10 +12,6 @@ pub mod Rising
 pub mod Sound
 pub mod Ends
 pub mod Worlds
-pub mod Lines
-pub mod Words
-pub mod Hexadecimal
-pub mod Collected
 pub mod Forms
 pub mod Headers
 pub mod EventLines

@@ -8,22 +8,23 @@ use Rattle.fio_message.specs.Answers.{answer_octets}
 use Rattle.fio_message.specs.Blocks.{Block}
 use Rattle.fio_message.specs.Decoding.{poll_in, block_in}
 use Rattle.fio_module.specs.Settings.{Settings}
-use Rattle.fio_module.specs.Life.{Received, History, life_of}
+use Rattle.fio_module.specs.Life.{Received, History}
 use Rattle.fio_module.specs.Life as module_events
-use Rattle.fio_module.specs.Blocks.{latest_poll, is_new}
 use Rattle.fio_module.specs.Replies.{reply_to}
 use Rattle.fio_cpu.specs.declared.items.Item.{Item}
 use Rattle.fio_cpu.specs.Record.{recorded}
 use Rattle.fio_world.specs.declared.event.Event.{Event}
 use Rattle.fio_world.specs.declared.event.Event.TheVariants.{Scan, LineSync, Raise, Poll, Send, ToModule, ToCpu, Restart}
 
--- why an event is refused: no such frame was sent, a later one was delivered already, or a poll is handed in
+-- why an event is refused: no such frame was sent, a later one was delivered already, a poll is
+-- handed in
 pub data Refusal : Type 0 where
   NotSent : (index : ℕ) → Refusal
   OutOfOrder : (index last : ℕ) → Refusal
   PollIsOurs : Refusal
 
--- a frame with its round: how many blocks the CPU had taken when it, or the command that it answers, was sent
+-- a frame with its round: how many blocks the CPU had taken when the frame, or the command that it
+-- answers, was sent
 pub record Sent : Type 0 where
   pub octets : List ℕ
   pub round : ℕ
@@ -43,8 +44,6 @@ pub record Machine : Type 0 where
   pub items : List Item
   -- the rounds of the polls that the module has received, newest first
   pub polls : List ℕ
-  -- the rounds of the polls that made its blocks, in all its lives, oldest first
-  pub makers : List ℕ
 
 abbrev pub start : Machine
 start =
@@ -57,7 +56,6 @@ start =
       round = 0;
       items = [];
       polls = [];
-      makers = [];
     }
 
 -- the block number of a round, for a CPU whose first number is this one
@@ -82,7 +80,8 @@ sending_refusal (commands.Poll number) = Some PollIsOurs
 sending_refusal other = None
 
 abbrev pub refusal : Machine → Event → Option Refusal
-refusal machine (ToModule index) = delivery_refusal (length machine.to_module) machine.last_to_module index
+refusal machine (ToModule index) =
+    delivery_refusal (length machine.to_module) machine.last_to_module index
 refusal machine (ToCpu index) = delivery_refusal (length machine.to_cpu) machine.last_to_cpu index
 refusal machine (Send command) = sending_refusal command
 refusal machine other = None
@@ -94,7 +93,8 @@ happened machine event = record machine { history = event ∷ machine.history }
 -- the CPU sends a command
 abbrev pub sent : Machine → Command → Machine
 sent machine command =
-    record machine { to_module = machine.to_module ++ record { octets = command_octets command; round = machine.round } ∷ [] }
+    let frame : Sent = record { octets = command_octets command; round = machine.round } in
+    record machine { to_module = machine.to_module ++ frame ∷ [] }
 
 -- the frame that an answer is sent in, where there is one
 abbrev pub answered : Option Answer → ℕ → List Sent
@@ -106,11 +106,6 @@ abbrev pub polls_with : Option ℕ → ℕ → List ℕ → List ℕ
 polls_with None round polls = polls
 polls_with (Some number) round polls = round ∷ polls
 
--- the rounds of the polls that made blocks, with that of a frame which is a new poll after the latest one
-abbrev pub makers_with : Option ℕ → Option ℕ → ℕ → List ℕ → List ℕ
-makers_with None latest round makers = makers
-makers_with (Some number) latest round makers = if is_new latest number then makers ++ round ∷ [] else makers
-
 -- the module receives the frame with this number, and its reply, if any, is sent
 abbrev pub received : Settings → Machine → ℕ → Option Sent → Machine
 received settings machine index None = machine
@@ -118,13 +113,14 @@ received settings machine index (Some frame) =
     record machine {
       last_to_module = index;
       history = Received frame.octets ∷ machine.history;
-      to_cpu = machine.to_cpu ++ answered (reply_to settings machine.history frame.octets) frame.round;
+      to_cpu =
+          machine.to_cpu
+          ++ answered (reply_to settings machine.history frame.octets) frame.round;
       polls = polls_with (poll_in frame.octets) frame.round machine.polls;
-      makers =
-          makers_with (poll_in frame.octets) (latest_poll (life_of machine.history)) frame.round machine.makers;
     }
 
--- a block with the CPU's number is taken: it is recorded and its round is over. Any other changes nothing
+-- a block with the CPU's number is taken: it is recorded, and its round is over. Any other changes
+-- nothing
 abbrev pub with_block : ℕ → Machine → Option Block → Machine
 with_block first machine None = machine
 with_block first machine (Some block) =
@@ -148,13 +144,15 @@ after settings first machine Poll = sent machine (commands.Poll (number_of first
 after settings first machine (Send command) = sent machine command
 after settings first machine (ToModule index) =
     received settings machine index (frame_numbered machine.to_module index)
-after settings first machine (ToCpu index) = heard first machine index (frame_numbered machine.to_cpu index)
+after settings first machine (ToCpu index) =
+    heard first machine index (frame_numbered machine.to_cpu index)
 
 -- these events, none of them refused, lead from one machine to another
 abbrev pub Leads : Settings → ℕ → Machine → List Event → Machine → Type 0
 Leads settings first machine [] last = last ≡ machine
 Leads settings first machine (event ∷ events) last =
-    (refusal machine event ≡ None) × Leads settings first (after settings first machine event) events last
+    (refusal machine event ≡ None)
+    × Leads settings first (after settings first machine event) events last
 
 -- these events, none of them refused, lead from the start to this machine
 abbrev pub IsRun : Settings → ℕ → List Event → Machine → Type 0

@@ -16,18 +16,22 @@ pub data Piece : Type 0 where
 
 abbrev pub piece_of : Item → Piece
 piece_of items.Gap = Gap
-piece_of (items.Entry input level stamp wide) = Got (record { input = input; level = level; stamp = stamp })
+piece_of (items.Entry input level stamp wide) =
+    Got (record { input = input; level = level; stamp = stamp })
 
--- what a block is in the record: a gap mark if it says that entries were lost before it, then its entries
+-- what a block is in the record: a gap mark if it says that entries were lost before it, then its
+-- entries
 abbrev pub pieces_of : MadeBlock → List Piece
 pieces_of block =
-    (if block.lost then Gap ∷ [] else []) ++ map (λ transition. Got (entry_of transition)) block.transitions
+    (if block.lost then Gap ∷ [] else [])
+    ++ map (λ transition. Got (entry_of transition)) block.transitions
 
 -- what the first m blocks are in the record
 abbrev pub taken : ℕ → List MadeBlock → List Piece
 taken m blocks = flat_map pieces_of (take m blocks)
 
--- among these blocks is one before which entries were lost, from the end of the block before it up to its start
+-- one of these blocks says that entries were lost before it, from where the block before it ended
+-- up to its own start
 pub record HasLoss (blocks : List MadeBlock) (before start : ℕ) : Type 0 where
   pub block : MadeBlock
   pub is_made : Contains blocks block
@@ -36,20 +40,24 @@ pub record HasLoss (blocks : List MadeBlock) (before start : ℕ) : Type 0 where
   pub ends : block.start ≡ start
   pub forward : before < start
 
--- The pieces are a life's transition log from one place up to another: each entry is the one that stands next in the
--- log, and only a gap mark passes some over, from the end of one block to the start of the next, which says so.
+-- The pieces are a life's transition log from one place up to another: each entry is the one that
+-- stands next in the log, and only a gap mark passes some over, from where a block ended to where
+-- the next one, which says so, starts.
 abbrev pub ArePieces : Settings → Life → ℕ → List Piece → ℕ → Type 0
 ArePieces settings life from [] to = to ≡ from
 ArePieces settings life from (Got entry ∷ pieces) to =
-    (slice_get (map entry_of (log_of life)) from ≡ Some entry) × ArePieces settings life (from + 1) pieces to
+    (slice_get (map entry_of (log_of life)) from ≡ Some entry)
+    × ArePieces settings life (from + 1) pieces to
 ArePieces settings life from (Gap ∷ pieces) to =
-    (next : ℕ) × HasLoss (blocks_of settings life) from next × ArePieces settings life next pieces to
+    (next : ℕ) × HasLoss (blocks_of settings life) from next
+    × ArePieces settings life next pieces to
 
--- the law of pieces: what the first m blocks of a life are in the record are pieces of its log from the start
--- through the end of the m-th, and nothing for m = 0
+-- the law of pieces: what the first m blocks of a life are in the record are pieces of its log from
+-- the start through the end of the m-th, and from 0 to 0 for m = 0
 abbrev pub TakenArePieces : Type 0
-TakenArePieces = (settings : Settings) (life : Life) (m : ℕ) → m ≤ length (blocks_of settings life) →
-    ArePieces settings life 0 (taken m (blocks_of settings life)) (end_of (take m (blocks_of settings life)))
+TakenArePieces = (settings : Settings) (life : Life) (m : ℕ) →
+    let blocks = blocks_of settings life in
+    m ≤ length blocks → ArePieces settings life 0 (taken m blocks) (end_of (take m blocks))
 
 -- the entries before the first gap mark
 abbrev pub until_gap : List Piece → List Entry

@@ -9,59 +9,73 @@ use Rattle.fio_world.specs.Link.{Sent, Machine, number_of}
 use Rattle.fio_world.specs.Frames.{HasPoll, HasBlock, received_numbers}
 use Rattle.fio_world.specs.Claims.{blocks_in}
 
--- the round after that of the newest of these polls, given newest first, 0 with none
+-- the round after that of the newest of these polls, given newest first, and 0 with none
 abbrev pub next_round : List ℕ → ℕ
 next_round [] = 0
 next_round (round ∷ older) = round + 1
 
--- The polls sent have the numbers of their rounds, which never fall and are at most the CPU's. From the one that was
--- delivered last on they are at least the newest round received.
+-- The polls among the frames sent to the module, where the frame with number `last` was delivered
+-- last, the CPU is in this round, and `next` is the round after the newest received.
 pub record PollsAreInOrder (first : ℕ) (frames : List Sent) (last round next : ℕ) : Type 0 where
+  -- they have the numbers of their rounds, which never fall and are at most the CPU's
   pub numbers : (place n r : ℕ) → HasPoll frames place n r → n ≡ number_of first r
-  pub rise : (p q m n r s : ℕ) → p ≤ q → HasPoll frames p m r → HasPoll frames q n s → r ≤ s
+  pub rise :
+      (p q m n r s : ℕ) → p ≤ q → HasPoll frames p m r → HasPoll frames q n s → r ≤ s
   pub sent : (place n r : ℕ) → HasPoll frames place n r → r ≤ round
+  -- from the last delivered frame on they are at least the newest received
   pub ahead : (place n r : ℕ) → last ≤ place + 1 → HasPoll frames place n r → next ≤ r + 1
 
 abbrev pub PollsOf : ℕ → Machine → Type 0
 PollsOf first machine =
-    PollsAreInOrder first machine.to_module machine.last_to_module machine.round (next_round machine.polls)
+    PollsAreInOrder first machine.to_module machine.last_to_module
+    machine.round (next_round machine.polls)
 
--- The block answers sent have rounds that never fall, and are of polls received. From the one that was delivered last
--- on they are at least the round before the CPU's, and the CPU has taken no round that was not received.
+-- The block answers among the frames sent to the CPU, likewise.
 pub record BlockAnswersAreInOrder (frames : List Sent) (last round next : ℕ) : Type 0 where
-  pub rise : (p q : ℕ) (a b : Block) (r s : ℕ) → p ≤ q → HasBlock frames p a r → HasBlock frames q b s → r ≤ s
+  -- their rounds never fall, and are of polls received
+  pub rise :
+      (p q : ℕ) (a b : Block) (r s : ℕ) → p ≤ q → HasBlock frames p a r → HasBlock frames q b s → r ≤ s
   pub answered : (place : ℕ) (a : Block) (r : ℕ) → HasBlock frames place a r → r < next
-  pub ahead : (place : ℕ) (a : Block) (r : ℕ) → last ≤ place + 1 → HasBlock frames place a r → round ≤ r + 1
+  -- from the last delivered frame on they are at least the round before the CPU's
+  pub ahead :
+      (place : ℕ) (a : Block) (r : ℕ) → last ≤ place + 1 → HasBlock frames place a r → round ≤ r + 1
+  -- the CPU has taken answers to polls received alone
   pub behind : round ≤ next
 
 abbrev pub BlockAnswersOf : Machine → Type 0
 BlockAnswersOf machine =
-    BlockAnswersAreInOrder machine.to_cpu machine.last_to_cpu machine.round (next_round machine.polls)
+    BlockAnswersAreInOrder machine.to_cpu machine.last_to_cpu
+    machine.round (next_round machine.polls)
 
 -- The rounds of the polls received are those of their numbers, and the newest is at most the CPU's.
 pub record NewestPollIsOf (first : ℕ) (machine : Machine) : Type 0 where
   pub numbers : map (number_of first) machine.polls ≡ received_numbers machine.history
   pub at_most : next_round machine.polls ≤ machine.round + 1
 
+-- The newest poll received is of the round of the newest block.
+abbrev pub NewestPollMadeNewestBlock : Settings → Machine → Type 0
+NewestPollMadeNewestBlock settings machine =
+    next_round machine.polls ≡ length (blocks_in settings machine)
+
 -- what a block answer says is the block
-pub record Brings (answer : Block) (block : MadeBlock) : Type 0 where
+pub record CarriesBlock (answer : Block) (block : MadeBlock) : Type 0 where
   pub entries : answer.entries ≡ map entry_of block.transitions
   pub more : says_more answer.status ≡ block.more
   pub lost : says_lost answer.status ≡ block.lost
   pub stamp : answer.stamp ≡ block.stamp
 
--- a block answer has the number of its round, in sequence, and brings the block of that round, counted from 0
-pub record BringsBlockOf (first : ℕ) (blocks : List MadeBlock) (answer : Block) (round : ℕ) : Type 0 where
+-- a block answer has the number of its round, in sequence, and carries the block of that round,
+-- counted from 0
+pub record CarriesBlockOf (first : ℕ) (blocks : List MadeBlock) (answer : Block) (round : ℕ)
+    : Type 0 where
   pub number : answer.number ≡ number_of first round
   pub in_sequence : says_out_of_sequence answer.status ≡ false
   pub block : MadeBlock
   pub is_made : slice_get blocks round ≡ Some block
-  pub brought : Brings answer block
+  pub carried : CarriesBlock answer block
 
-abbrev pub AnswersBringBlocks : Settings → ℕ → Machine → Type 0
-AnswersBringBlocks settings first machine = (place : ℕ) (answer : Block) (round : ℕ) →
-    HasBlock machine.to_cpu place answer round → BringsBlockOf first (blocks_in settings machine) answer round
-
--- the newest poll received is of the round of the newest block
-abbrev pub NewestPollMadeNewestBlock : Settings → Machine → Type 0
-NewestPollMadeNewestBlock settings machine = next_round machine.polls ≡ length (blocks_in settings machine)
+-- Each block answer carries the block of its round.
+abbrev pub AnswersCarryBlocks : Settings → ℕ → Machine → Type 0
+AnswersCarryBlocks settings first machine = (place : ℕ) (answer : Block) (round : ℕ) →
+    HasBlock machine.to_cpu place answer round →
+    CarriesBlockOf first (blocks_in settings machine) answer round

@@ -20,7 +20,8 @@ pub record IsSound (settings : Settings) (first : ℕ) (machine : Machine) : Typ
   pub times : HasTimes settings machine
 
 -- what holds of the machine to which these events lead
-pub record IsSoundRun (settings : Settings) (first : ℕ) (events : List Event) (machine : Machine) : Type 0 where
+pub record IsSoundRun (settings : Settings) (first : ℕ) (events : List Event) (machine : Machine)
+    : Type 0 where
   pub is_run : IsRun settings first events machine
   -- whatever restarts
   pub rising : IsRising machine
@@ -37,9 +38,11 @@ HoldsOfRuns Holds = (settings : Settings) (first : ℕ) (events : List Event) (m
 -- the same for every run without restarts
 abbrev pub HoldsWithoutRestart : (Settings → ℕ → Machine → Type 0) → Type 0
 HoldsWithoutRestart Holds =
-    HoldsOfRuns (λ settings first events machine. HaveNoRestart events → Holds settings first machine)
+    HoldsOfRuns (λ settings first events machine.
+    HaveNoRestart events → Holds settings first machine)
 
 -- events lead to one machine at most
 abbrev pub LeadToOneMachine : Type 0
-LeadToOneMachine = (settings : Settings) (first : ℕ) (events : List Event) (machine other : Machine) →
+LeadToOneMachine =
+    (settings : Settings) (first : ℕ) (events : List Event) (machine other : Machine) →
     IsRun settings first events machine → IsRun settings first events other → machine ≡ other

@@ -3,13 +3,15 @@
 use fio_message::Command;
 
 /// What happens next. Each direction of the bus is the list of all frames ever sent in it, numbered
-/// from 1, and a delivery names one of them. The numbers delivered in one direction never fall: a number
-/// that is passed over is a loss, and an equal one an immediate repeat.
+/// from 1, and a delivery names one of them. The numbers delivered in one direction never fall: a
+/// number that is passed over is a loss, and an equal one an immediate repeat.
 #[derive(Clone, Debug, Drop, PartialEq, Eq)]
 pub enum Event {
-    /// The module steps its millisecond counter and samples all inputs: bit i is the raw level of input i.
+    /// The module steps its millisecond counter and samples all inputs: bit i is the raw level of
+    /// input i.
     Scan(u64),
-    /// LINESYNC goes from 0 to 1 at the module: a load of its counter that was asked for happens now (TEES 2009).
+    /// LINESYNC goes from 0 to 1 at the module: a load of its counter that was asked for happens
+    /// now (TEES 2009).
     LineSync,
     /// The module's status flags whose bits are set go up.
     Raise(u8),
@@ -17,10 +19,12 @@ pub enum Event {
     Poll,
     /// The CPU sends this command. A poll is refused here: polls are sent by `Poll` alone.
     Send(Command),
-    /// The module receives the frame with this number among those sent to it, and sends its answer, if any.
+    /// The module receives the frame with this number among those sent to it, and sends its answer,
+    /// if any.
     ToModule(usize),
     /// The CPU hears the frame with this number among those sent to it.
     ToCpu(usize),
-    /// The module restarts: it is as a new one with the same id and limits. Frames under way stay (own profile).
+    /// The module restarts: it is as a new one with the same id and limits. Frames under way stay
+    /// (own profile).
     Restart,
 }

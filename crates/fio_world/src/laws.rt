@@ -1,18 +1,19 @@
-//! Laws of the definitions that the contracts cite: each function states some in its contract, and does nothing.
-ghost use Rattle.std.specs.Prelude.{◌≡◌, ◌≢◌, ◌≤◌, ◌++◌, ℕ, true, List, [], ◌∷◌, Result};
-ghost use Rattle.std.specs.List.{AllByRecursion};
+//! Laws of the definitions that the contracts cite: each function states some in its contract, and
+//! does nothing.
+ghost use Rattle.std.specs.Prelude.{◌≡◌, ℕ, ◌≤◌, true, List, ◌≢◌, ◌++◌, [], ◌∷◌, Result};
 ghost use Rattle.fio_module.specs.Limits.{Limits, are_limits};
 ghost use Rattle.fio_module.specs.Settings.{standard_settings, settings_with, AreInRange};
 ghost use Rattle.fio_world.specs.Pieces.{TakenArePieces, PiecesBeginLog};
 ghost use Rattle.fio_world.specs.Headline.{Headline};
-ghost use Rattle.fio_world.specs.Rounds.{PollsOf, NewestPollIsOf, NewestPollMadeNewestBlock, BlockAnswersOf, AnswersBringBlocks};
+ghost use Rattle.fio_world.specs.Rounds.{PollsOf, NewestPollIsOf, NewestPollMadeNewestBlock, BlockAnswersOf, AnswersCarryBlocks};
 ghost use Rattle.fio_world.specs.Rising.{IsRising};
 ghost use Rattle.fio_world.specs.Sound.{HoldsOfRuns, HoldsWithoutRestart, IsSoundRun, LeadToOneMachine};
+ghost use Rattle.std.specs.List.{AllByRecursion};
 ghost use Rattle.fio_world.specs.Collected.{Collects};
 ghost use Rattle.fio_world.specs.Lines.{IsOneLine, lines_of, text_of};
 
-/// What the first m blocks of a life are in the record are pieces of its transition log from the start
-/// through the end of the m-th.
+/// What the first m blocks of a life are in the record are pieces of its transition log from the
+/// start through the end of the m-th.
 pub fn pieces()
     ensures { TakenArePieces }
 {}
@@ -23,9 +24,11 @@ pub fn prefix_until_gap()
 {}
 
 /// After any events without restarts the CPU's record is the module's transition log from its start
-/// through the last block taken, each entry once and in order, with entries missing only at gap marks.
+/// through the last block taken, each entry once and in order, with entries missing only at gap
+/// marks.
 pub fn headline()
-    ensures { HoldsOfRuns (λ settings first events machine. Headline settings first events machine.items) }
+    ensures { HoldsOfRuns (λ settings first events machine.
+        Headline settings first events machine.items) }
 {}
 
 /// All that is promised of runs holds of every run.
@@ -33,34 +36,35 @@ pub fn runs_are_sound()
     ensures { HoldsOfRuns IsSoundRun }
 {}
 
-/// Whatever restarts, the record rises through the transition logs of all lives: nothing is doubled,
-/// reordered or invented.
+/// Whatever restarts, the record rises through the transition logs of all lives: nothing is
+/// doubled, reordered or invented.
 pub fn record_rises()
     ensures { HoldsOfRuns (λ settings first events machine. IsRising machine) }
 {}
 
-/// The rounds of the polls sent never fall, are at most the CPU's, and from the one delivered last on are
-/// at least the newest that the module has received.
+/// The rounds of the polls sent never fall, are at most the CPU's, and from the one delivered last
+/// on are at least the newest that the module has received.
 pub fn polls_are_in_order()
     ensures { HoldsOfRuns (λ settings first events machine. PollsOf first machine) }
 {}
 
-/// The rounds of the polls received are those of their numbers; without restarts the newest is the round
-/// of the newest block.
+/// The rounds of the polls received are those of their numbers; without restarts the newest is the
+/// round of the newest block.
 pub fn newest_poll_made_newest_block()
     ensures rounds { HoldsOfRuns (λ settings first events machine. NewestPollIsOf first machine) }
-    ensures newest { HoldsWithoutRestart (λ settings first machine. NewestPollMadeNewestBlock settings machine) }
+    ensures newest { HoldsWithoutRestart (λ settings first machine.
+        NewestPollMadeNewestBlock settings machine) }
 {}
 
-/// The rounds of the block answers sent never fall, are of polls received, and from the one delivered last
-/// on are at least the one before the CPU's.
+/// The rounds of the block answers sent never fall, are of polls received, and from the one
+/// delivered last on are at least the one before the CPU's.
 pub fn block_answers_are_in_order()
     ensures { HoldsOfRuns (λ settings first events machine. BlockAnswersOf machine) }
 {}
 
-/// Without restarts each block answer brings the block of its round.
-pub fn answers_bring_blocks()
-    ensures { HoldsWithoutRestart AnswersBringBlocks }
+/// Without restarts each block answer carries the block of its round.
+pub fn answers_carry_blocks()
+    ensures { HoldsWithoutRestart AnswersCarryBlocks }
 {}
 
 /// Events lead to one machine at most.

@@ -8,9 +8,9 @@ fn begins_ignored_with_filters_of_five(rt: HostRuntime) {
     for scan in 1..6 {
         assert_eq!(rt; filters.filtered(), u64::MAX, "before {scan}");
         assert_eq!(rt; filters.scan(0), 0, "at {scan}");
+        assert_eq!(rt; filters.raw(), 0, "at {scan}");
     }
     assert_eq!(rt; filters.filtered(), 0);
-    assert_eq!(rt; filters.raw(), 0);
 }
 
 #[test]

@@ -1,4 +1,4 @@
-use Rattle.fio_message.proofs.MessageLaws.{block_answer_needs}
+use Rattle.fio_message.proofs.KnownTypes.{block_answer_needs}
 use Rattle.fio_message.proofs.laws.block_answers_need_the_same.Goals as goal
 
 pub returns : goal.returns

@@ -1,4 +1,4 @@
-use Rattle.fio_message.proofs.MessageLaws.{status_back}
+use Rattle.fio_message.proofs.StatusBits.{status_back}
 use Rattle.fio_message.proofs.laws.status_reads_back.Goals as goal
 
 pub returns : goal.returns

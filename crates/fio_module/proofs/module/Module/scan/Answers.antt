@@ -4,7 +4,8 @@ use Rattle.fio_input.specs.Counter.{Tick}
 use Rattle.fio_input.specs.FilterHistory.{Scan}
 use Rattle.fio_module.specs.Life.{life_of, counter_events, filter_events}
 use Rattle.fio_module.specs.Blocks.{newest_end}
-use Rattle.fio_module.specs.Log.{entry_of, log_of, transitions_below}
+use Rattle.fio_module.specs.Log.{log_of, transitions_below}
+use Rattle.fio_module.specs.Module.{octets_of}
 use Rattle.fio_module.proofs.Scans.{map-transitions_below}
 use Rattle.fio_module.proofs.module.Module.scan.Goals as goal
 
@@ -19,7 +20,7 @@ returns c settings history after =
     (c.scan-changed.ensures.reported (filter_events life) after.filters)
     (c.filtered.ensures (Scan raw ∷ filter_events life) filters)
     stamp 64 (omega arith) in
-    let waiting = c.push_changed.ensures settings.waiting (map entry_of (log_of life)) (newest_end settings life) after.waiting in
+    let waiting = c.push_changed.ensures settings.waiting (map octets_of (log_of life)) (newest_end settings life) after.waiting in
     record {
       id = after.id;
       per_block = after.per_block;
@@ -28,6 +29,6 @@ returns c settings history after =
       flags = after.flags;
       watchdog = after.watchdog;
       outputs = after.outputs;
-      waiting = rw (map-append entry_of (log_of life) (transitions_below 64 raw life), entries) waiting;
+      waiting = rw (map-append octets_of (log_of life) (transitions_below 64 raw life), entries) waiting;
       sent = after.sent;
     }

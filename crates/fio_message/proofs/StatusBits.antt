@@ -1,0 +1,36 @@
+-- The named bits of a block answer's status.
+use Rattle.std.proofs.Common.{◌≡◌, ℕ, ◌≤◌, ◌==◌, Bool, true, false, refl, ap, ◌∙◌, arith}
+use Rattle.std.specs.Int.{bit_at}
+use Rattle.fio_message.specs.Bits.{is_set, bit_of}
+use Rattle.fio_message.specs.Status.{block_status}
+use Rattle.fio_message.specs.Laws.{StatusReadsBack}
+
+-- a flag as a bit is 0 or 1
+bit_of_small : (flag : Bool) → bit_of flag ≤ 1
+bit_of_small true = omega arith
+bit_of_small false = omega arith
+
+-- and it is 1 exactly where the flag is set
+bit_of_set : (flag : Bool) → (bit_of flag == 1) ≡ flag
+bit_of_set true = refl
+bit_of_set false = refl
+
+-- a bit that is a flag's says whether the flag is set
+set_by : (word place : ℕ) (flag : Bool) → bit_at word place ≡ bit_of flag → is_set word place ≡ flag
+unfolding is_set
+set_by word place flag same = ap (λ (n : ℕ). n == 1) same ∙ bit_of_set flag
+
+-- each named bit says what was put there
+pub status_back : (more lost again out_of_sequence : Bool) → StatusReadsBack more lost again out_of_sequence
+status_back more lost again out_of_sequence =
+    let status = block_status more lost again out_of_sequence in
+    let m = bit_of_small more in
+    let l = bit_of_small lost in
+    let a = bit_of_small again in
+    let o = bit_of_small out_of_sequence in
+    record {
+      says_more = set_by status 3 more (omega (arith, m, l, a, o));
+      says_lost = set_by status 2 lost (omega (arith, m, l, a, o));
+      says_again = set_by status 1 again (omega (arith, m, l, a, o));
+      says_out_of_sequence = set_by status 0 out_of_sequence (omega (arith, m, l, a, o));
+    }

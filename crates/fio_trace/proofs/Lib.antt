@@ -1,0 +1,3 @@
+pub mod PlacesAbove
+pub mod KeptFacts
+pub mod TranscriptLemmas

@@ -1,0 +1,6 @@
+pub mod Show
+pub mod Transcript
+pub mod TranscriptRules
+pub mod TranscriptFacts
+pub mod TranscriptTexts
+pub mod TranscriptLaws

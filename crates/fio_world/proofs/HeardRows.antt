@@ -1,0 +1,103 @@
+-- A frame that the CPU hears keeps what every run keeps.
+use Rattle.std.proofs.Common.{◌≡◌, ℕ, ◌+◌, ◌<◌, ◌≤◌, ◌==◌, Bool, true, false, ◌++◌, Option, Some, None, slice_get, refl, sym, subst, ◌∙◌, arith, inl, inr, if◌then◌else◌}
+use Rattle.std.proofs.lemmas.Bool.{cases_lt}
+use Rattle.std.proofs.lemmas.Bool.Decides.{nat_tests}
+use Rattle.fio_message.specs.Blocks.{Block}
+use Rattle.fio_message.specs.Decoding.{block_in}
+use Rattle.fio_module.specs.Settings.{Settings, AreInRange}
+use Rattle.fio_module.specs.Log.{whole_log}
+use Rattle.fio_cpu.specs.Record.{recorded}
+use Rattle.fio_world.specs.Link.{Sent, Machine, number_of, with_block, heard}
+use Rattle.fio_world.specs.Frames.{HasBlock}
+use Rattle.fio_world.specs.Rounds.{next_round}
+use Rattle.fio_world.proofs.RoundNumbers.{rounds_from_numbers}
+use Rattle.fio_world.proofs.MadeBlocks.{each-at}
+use Rattle.fio_world.proofs.AllLives.{all_blocks, reached, blocks_apart, apart_within, apart_order, StandsIn, blocks_stand}
+use Rattle.fio_world.proofs.PollOrder.{polls-taken}
+use Rattle.fio_world.proofs.AnswerOrder.{answers-passed, answers-taken}
+use Rattle.fio_world.proofs.RisingPieces.{rise_taken}
+use Rattle.fio_world.proofs.Kept.{HasInvariant}
+
+module _ (settings : Settings) (range : AreInRange settings) (first : ℕ) (machine : Machine) (i : HasInvariant settings first machine) where
+  -- the CPU hears a frame and takes nothing
+  keeps_passed : (index : ℕ) → machine.last_to_cpu ≤ index → HasInvariant settings first (record machine { last_to_cpu = index })
+  keeps_passed index le =
+      record {
+        polls = i.polls;
+        answers = answers-passed machine.to_cpu machine.last_to_cpu machine.round (next_round machine.polls) i.answers index le;
+        at_most = i.at_most;
+        numbered = i.numbered;
+        newest = i.newest;
+        makers_in_order = i.makers_in_order;
+        maker = i.maker;
+        carry = i.carry;
+        rising = i.rising;
+      }
+
+  -- a block answer with the CPU's number is of the CPU's round
+  pub same_round : (place : ℕ) (answer : Block) (round : ℕ) → machine.last_to_cpu ≤ place + 1 → HasBlock machine.to_cpu place answer round
+      → answer.number ≡ number_of first machine.round → round ≡ machine.round
+  same_round place answer round le block alike =
+      let named : answer.number ≡ number_of first round = (i.carry place answer round block).number in
+      let below : round < next_round machine.polls = i.answers.answered place answer round block in
+      let near : machine.round ≤ round + 1 = i.answers.ahead place answer round le block in
+      let high : next_round machine.polls ≤ machine.round + 1 = i.at_most in
+      rounds_from_numbers first round machine.round (omega arith) near (sym named ∙ alike)
+
+  -- the CPU takes a block
+  keeps_taken : (place : ℕ) (answer : Block) → HasBlock machine.to_cpu place answer machine.round
+      → HasInvariant settings first (record machine { last_to_cpu = place + 1; round = machine.round + 1; items = machine.items ++ recorded answer })
+  keeps_taken place answer block =
+      let h = machine.history in
+      let all = all_blocks settings h in
+      let log = whole_log h in
+      let b = i.carry place answer machine.round block in
+      let s = i.rising in
+      let apart = blocks_apart settings h in
+      let within = apart_within 0 (reached settings h) all b.place b.block apart b.is_made in
+      let low : s.to ≤ b.block.start = s.ahead b.place b.block machine.round b.is_made b.made_by (omega arith) in
+      let stands = each-at (StandsIn log) all b.place b.block (blocks_stand settings h) b.is_made in
+      let high : next_round machine.polls ≤ machine.round + 1 = i.at_most in
+      record {
+        polls = polls-taken first machine.to_module machine.last_to_module machine.round (next_round machine.polls) i.polls;
+        answers = answers-taken machine.to_cpu machine.last_to_cpu machine.round (next_round machine.polls) i.answers place answer block;
+        at_most = omega arith;
+        numbered = i.numbered;
+        newest = i.newest;
+        makers_in_order = i.makers_in_order;
+        maker = i.maker;
+        carry = i.carry;
+        rising = record {
+          to = b.block.end;
+          rises = rise_taken log s.to machine.items answer b.block s.rises low stands b.carried;
+          limited = within.2;
+          ahead = λ k c r p q far.
+              let later : b.place < k = elim (cases_lt b.place k) as (λ _. b.place < k) [
+                | inl less ↦ less
+                | inr not_less ↦ absurd (omega (arith, i.makers_in_order.rise k b.place r machine.round not_less q b.made_by))
+              ] in
+              apart_order 0 (reached settings h) all b.place k b.block c apart later b.is_made p;
+        };
+      }
+
+  taken_or_not : (place : ℕ) (answer : Block) (round : ℕ) → machine.last_to_cpu ≤ place + 1 → HasBlock machine.to_cpu place answer round
+      → (same : Bool) → (answer.number == number_of first machine.round) ≡ same
+      → HasInvariant settings first (if same then record machine { last_to_cpu = place + 1; round = machine.round + 1; items = machine.items ++ recorded answer } else record machine { last_to_cpu = place + 1 })
+  taken_or_not place answer round le block false is = keeps_passed (place + 1) le
+  taken_or_not place answer round le block true is =
+      let alike : answer.number ≡ number_of first machine.round = grind (arith, nat_tests) in
+      let same = same_round place answer round le block alike in
+      keeps_taken place answer (subst (HasBlock machine.to_cpu place answer) same block)
+
+  heard_frame : (place : ℕ) (frame : Sent) → machine.last_to_cpu ≤ place + 1 → slice_get machine.to_cpu place ≡ Some frame
+      → (found : Option Block) → block_in frame.octets ≡ found
+      → HasInvariant settings first (with_block first (record machine { last_to_cpu = place + 1 }) found)
+  heard_frame place frame le at None spells = keeps_passed (place + 1) le
+  heard_frame place frame le at (Some answer) spells =
+      taken_or_not place answer frame.round le (record { frame = frame; at_place = at; spells = spells; of_round = refl })
+      (answer.number == number_of first machine.round) refl
+
+  -- the CPU hears a frame
+  pub keeps_heard : (place : ℕ) (frame : Sent) → machine.last_to_cpu ≤ place + 1 → slice_get machine.to_cpu place ≡ Some frame
+      → HasInvariant settings first (heard first machine (place + 1) (Some frame))
+  keeps_heard place frame le at = heard_frame place frame le at (block_in frame.octets) refl
