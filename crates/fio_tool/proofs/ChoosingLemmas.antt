@@ -12,7 +12,7 @@ use Rattle.clap.proofs.OnLiterals.{clap_on_literals}
 use Rattle.fio_tool.specs.CommandLine.{command_line, chosen_name, NamesTool}
 use Rattle.fio_tool.specs.Tools.{name_of, tools}
 use Rattle.fio_tool.specs.declared.tools.Tool.{Tool}
-use Rattle.fio_tool.specs.declared.tools.Tool.TheVariants.{Show, Check}
+use Rattle.fio_tool.specs.declared.tools.Tool.TheVariants.{Show, Simulate, Check}
 
 -- clap's function of the words holds for this command line
 pub command_line-is_simple : is_simple command_line ≡ true
@@ -95,4 +95,5 @@ chosen-tool words name (Some t) chosen known unknown = ap Some known ∙ sym cho
 pub names_tool : (program : Text) (tool : Tool) → NamesTool (program ∷ name_of tool ∷ []) tool
 unfolding clap_on_literals
 names_tool program Show = record { faultless = refl; named = refl }
+names_tool program Simulate = record { faultless = refl; named = refl }
 names_tool program Check = record { faultless = refl; named = refl }

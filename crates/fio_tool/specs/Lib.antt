@@ -1,6 +1,7 @@
 pub mod ShowCommands
 pub mod ShowAnswers
 pub mod Show
+pub mod Simulation
 pub mod Transcript
 pub mod TranscriptRules
 pub mod TranscriptFacts

@@ -20,6 +20,9 @@ const ABOUT: &str =
 const ABOUT_SHOW: &str =
     "Tells what the frames on standard input say, a line of hexadecimal digits each";
 
+const ABOUT_SIMULATE: &str =
+    "Runs a script of events on both ends of the link, and tells what each event brings";
+
 const ABOUT_CHECK: &str =
     "Tells whether a transcript on standard input keeps the rules of the link, frame by frame";
 
@@ -50,12 +53,14 @@ fn command_line<'a>(alloc: Global) -> Result<Command<'a>, AllocError>
     ensures { IfOk result (λ command. app_of command ≡ command_line) }
 {
     let show = Command::new(alloc, "show").about(ABOUT_SHOW);
+    let simulate = Command::new(alloc, "simulate").about(ABOUT_SIMULATE);
     let check = Command::new(alloc, "check").about(ABOUT_CHECK);
     Command::new(alloc, "fio2070")
         .about(ABOUT)
         .version(VERSION)
         .disable_help_subcommand(true)
         .subcommand(show)?
+        .subcommand(simulate)?
         .subcommand(check)
 }
 
@@ -66,6 +71,7 @@ fn tool_named(name: &str) -> Option<Tool>
 {
     match name {
         "show" => Some(Tool::Show),
+        "simulate" => Some(Tool::Simulate),
         "check" => Some(Tool::Check),
         _ => None,
     }

@@ -8,7 +8,8 @@
 //! tool has done so.
 //!
 //! The definitions stand in `specs/`, in this order: the lines that tell of each message
-//! (`ShowCommands`, `ShowAnswers`), what `show` tells of a text (`Show`); the lines of a transcript and
+//! (`ShowCommands`, `ShowAnswers`), what `show` tells of a text (`Show`); what `simulate`
+//! tells of one (`Simulation`); the lines of a transcript and
 //! what they say (`Transcript`), its rules and the verdict on it (`TranscriptRules`), what is kept while
 //! it is checked (`TranscriptFacts`), what `check` tells of a text (`TranscriptTexts`); what is read and
 //! written (`Streams`), what each tool does (`Tools`), the command line (`CommandLine`), the exit status
@@ -22,6 +23,7 @@ mod endings;
 pub mod laws;
 mod running;
 mod showing;
+mod simulation;
 mod streams;
 mod tools;
 mod transcript;
@@ -31,7 +33,8 @@ pub use choosing::choose;
 pub use endings::{Ending, ToolFault};
 pub use running::run_program;
 pub use showing::show_text;
-pub use tools::{Tool, check, show};
+pub use simulation::simulate_text;
+pub use tools::{Tool, check, show, simulate};
 pub use transcript::{Line, Rule, TraceError, Verdict, check_text, check_trace, read_trace};
 
 #[cfg(test)]

@@ -9,7 +9,7 @@ ghost use Rattle.fio_tool.specs.declared.tools.Tool.{Tool};
 
 use crate::choosing::choose;
 use crate::endings::{Ending, ToolFault};
-use crate::tools::{Tool, check, show};
+use crate::tools::{Tool, check, show, simulate};
 use clap::Error;
 use clap::error::ErrorKind;
 use std::alloc::Global;
@@ -64,6 +64,7 @@ fn run_tool<R: Read, W: Write>(alloc: Global, tool: Tool, reader: &mut R, writer
 {
     let ending = match tool {
         Tool::Show => show(alloc, reader, writer),
+        Tool::Simulate => simulate(alloc, reader, writer),
         Tool::Check => check(alloc, reader, writer),
     };
     if let Err(fault) = ending {

@@ -6,6 +6,7 @@ ghost use Rattle.fio_tool.specs.Tools.{HasTold};
 
 use crate::endings::{Ending, ToolFault};
 use crate::showing::show_text;
+use crate::simulation::simulate_text;
 use crate::streams::{read_input, write_report};
 use crate::transcript::check_text;
 use std::alloc::Global;
@@ -16,6 +17,8 @@ use std::io::{Read, Write};
 pub enum Tool {
     /// To tell what each frame of the input says.
     Show,
+    /// To run a script, and to tell what each of its events brings.
+    Simulate,
     /// To tell whether a transcript keeps the rules.
     Check,
 }
@@ -40,6 +43,29 @@ pub fn show<R: Read, W: Write>(
 {
     let input = read_input(alloc, reader)?;
     let report = show_text(alloc, input.as_slice())?;
+    write_report(writer, &report)
+}
+
+/// Writes what the script that the input is brings: the text of `simulate_text`. The input is read
+/// whole, up to one octet more than it may have; its text is made whole, and then written and flushed.
+///
+/// # Errors
+/// `Read`, `Write` and `Memory` as `ToolFault` says. On `Read` and `Memory` nothing has been
+/// written.
+pub fn simulate<R: Read, W: Write>(
+    alloc: Global,
+    reader: &mut R,
+    writer: &mut W,
+) -> Result<Ending, ToolFault>
+    ensures ok { IfOk result (HasTold Tool.Simulate
+        (R.remaining reader.old) (R.remaining reader.new)
+        (W.contents writer.old) (W.contents writer.new)) }
+    ensures taken { TakesAtMost 1048577 (R.remaining reader.old) (R.remaining reader.new) }
+    ensures unwritten { IfErr result (λ fault. fault ≢ ToolFault.Write
+        → Keeps (W.contents writer.old) (W.contents writer.new)) }
+{
+    let input = read_input(alloc, reader)?;
+    let report = simulate_text(alloc, input.as_slice())?;
     write_report(writer, &report)
 }
 
