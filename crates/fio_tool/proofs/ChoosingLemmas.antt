@@ -1,5 +1,7 @@
-use Rattle.std.proofs.Common.{◌≡◌, ◌⊎◌, inl, inr, ℕ, List, [], ◌∷◌, map, Bool, true, false, Option, Some, None, option_map, refl, ap, sym, ◌∙◌, IfSome, cond, Box, Global}
-use Rattle.std.specs.Prelude.{find, IfNone}
+use Rattle.std.proofs.lemmas.List.{take_more}
+use Rattle.std.proofs.lemmas.List.Sums.{fold-append}
+use Rattle.std.proofs.Common.{◌≡◌, ◌+◌, ◌<◌, length, take, get_or, ◌⊎◌, inl, inr, ℕ, List, [], ◌∷◌, map, Bool, true, false, Option, Some, None, option_map, refl, ap, sym, ◌∙◌, IfSome, cond, Box, Global}
+use Rattle.std.specs.Prelude.{find, fold, IfNone}
 use Rattle.std.specs.Box.{box_value}
 use Rattle.clap.specs.Walk.{Text, Row, answers_to, stop_after}
 use Rattle.clap.specs.Simple.{App, Shape, entered, built, built_leaf, new_shape, rows_at, is_simple, names_of, argument_words, label_of, subcommand_rows_of, subcommand_rows}
@@ -9,7 +11,7 @@ use Rattle.clap.specs.declared.parser.matches.ArgMatches.{ArgMatches}
 use Rattle.clap.specs.declared.parser.matches.ArgMatches.TheViews.{out-ArgMatches, out-SubCommand}
 use Rattle.clap.specs.declared.parser.matches.SubCommand.{SubCommand}
 use Rattle.clap.proofs.OnLiterals.{clap_on_literals}
-use Rattle.fio_tool.specs.CommandLine.{command_line, chosen_name, NamesTool}
+use Rattle.fio_tool.specs.CommandLine.{program, with_tool, command_line, chosen_name, NamesTool}
 use Rattle.fio_tool.specs.Tools.{name_of, tools}
 use Rattle.fio_tool.specs.declared.tools.Tool.{Tool}
 use Rattle.fio_tool.specs.declared.tools.Tool.TheVariants.{Show, Simulate, Check}
@@ -23,6 +25,14 @@ command_line-is_simple = refl
 pub command_line-is_simple_and_free : is_simple_and_free command_line ≡ true
 unfolding clap_on_literals
 command_line-is_simple_and_free = refl
+
+-- the command line with one more tool
+pub with_tools-more : (place : ℕ) → place < length tools
+    → fold with_tool program (take (place + 1) tools)
+    ≡ with_tool (fold with_tool program (take place tools)) (get_or tools place Show)
+with_tools-more place within =
+    ap (fold with_tool program) (take_more tools place Show within)
+    ∙ fold-append with_tool program (take place tools) (get_or tools place Show ∷ [])
 
 -- the name is one of these commands'
 abbrev IsAmong : Text → List Shape → Type 0
@@ -85,15 +95,16 @@ chosen-name words name e =
 
 -- a tool that is looked up by the name that words choose
 pub chosen-tool : (words : List Text) (name : Text) (tool : Option Tool)
-    → chosen_name words ≡ Some name → IfSome tool (λ t. name_of t ≡ name) → IfNone tool ((t : Tool) → name_of t ≡ name → ⊥)
+    → chosen_name words ≡ Some name
+    → IfSome tool (λ t. name_of t ≡ name) → IfNone tool ((t : Tool) → name_of t ≡ name → ⊥)
     → option_map name_of tool ≡ chosen_name words
 chosen-tool words name None chosen known unknown =
     let is_known = chosen-name words name chosen in absurd (unknown is_known.0 is_known.1)
 chosen-tool words name (Some t) chosen known unknown = ap Some known ∙ sym chosen
 
 -- a tool's name behind the program's names that tool
-pub names_tool : (program : Text) (tool : Tool) → NamesTool (program ∷ name_of tool ∷ []) tool
+pub names_tool : (first : Text) (tool : Tool) → NamesTool (first ∷ name_of tool ∷ []) tool
 unfolding clap_on_literals
-names_tool program Show = record { faultless = refl; named = refl }
-names_tool program Simulate = record { faultless = refl; named = refl }
-names_tool program Check = record { faultless = refl; named = refl }
+names_tool first Show = record { faultless = refl; named = refl }
+names_tool first Simulate = record { faultless = refl; named = refl }
+names_tool first Check = record { faultless = refl; named = refl }

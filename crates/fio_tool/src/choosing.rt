@@ -1,8 +1,9 @@
 //! The command line.
-ghost use Rattle.std.specs.Prelude.{◌≡◌, IfOk, IfSome, IfNone, option_map, map};
+ghost use Rattle.std.specs.Prelude.{◌≡◌, false, IfOk, IfSome, IfNone, option_map, map};
 ghost use Rattle.clap.specs.Faults.{fault_of};
 ghost use Rattle.clap.specs.Kinds.{FailsBy};
-ghost use Rattle.clap.specs.Simple.{app_of};
+ghost use Rattle.clap.specs.Simple.{app_of, new_shape, shape_of};
+ghost use Rattle.clap.specs.declared.builder.command.Command.TheViews.{out-Command as fields_of};
 ghost use Rattle.fio_tool.specs.CommandLine.{chosen_name, command_line};
 ghost use Rattle.fio_tool.specs.Tools.{name_of};
 ghost use Rattle.fio_tool.specs.declared.tools.Tool.{Tool};
@@ -16,15 +17,6 @@ const VERSION: &str = "1.0.0";
 
 const ABOUT: &str =
     "Reads the messages between the CPU and the field I/O module of a Model 2070 controller";
-
-const ABOUT_SHOW: &str =
-    "Tells what the frames on standard input say, a line of hexadecimal digits each";
-
-const ABOUT_SIMULATE: &str =
-    "Runs a script of events on both ends of the link, and tells what each event brings";
-
-const ABOUT_CHECK: &str =
-    "Tells whether a transcript on standard input keeps the rules of the link, frame by frame";
 
 /// The tool that the words of a command line name, the program's name first: `None` where they name
 /// no subcommand.
@@ -52,16 +44,24 @@ pub fn choose<'a>(alloc: Global, words: &'a [&'a str]) -> Result<Option<Tool>, E
 fn command_line<'a>(alloc: Global) -> Result<Command<'a>, AllocError>
     ensures { IfOk result (λ command. app_of command ≡ command_line) }
 {
-    let show = Command::new(alloc, "show").about(ABOUT_SHOW);
-    let simulate = Command::new(alloc, "simulate").about(ABOUT_SIMULATE);
-    let check = Command::new(alloc, "check").about(ABOUT_CHECK);
-    Command::new(alloc, "fio2070")
+    let mut command = Command::new(alloc, "fio2070")
         .about(ABOUT)
         .version(VERSION)
-        .disable_help_subcommand(true)
-        .subcommand(show)?
-        .subcommand(simulate)?
-        .subcommand(check)
+        .disable_help_subcommand(true);
+    'tools: for tool in Tool::ALL {
+        command = command.subcommand(subcommand(alloc, tool))?;
+    }
+    Ok(command)
+}
+
+/// The subcommand of a tool, which has no words of its own.
+fn subcommand<'a>(alloc: Global, tool: Tool) -> Command<'a>
+    ensures shape { shape_of result ≡ new_shape (name_of tool) }
+    ensures local { (fields_of result).has_globals ≡ false }
+{
+    let name: &'a str = tool.name();
+    let about: &'a str = tool.about();
+    Command::new(alloc, name).about(about)
 }
 
 /// The tool of a subcommand.

@@ -5,7 +5,7 @@ ghost use Rattle.fio_tool.specs.CommandLine.{NamesTool};
 ghost use Rattle.fio_tool.specs.Tools.{name_of};
 ghost use Rattle.fio_tool.specs.declared.tools.Tool.{Tool};
 
-/// The program's name, whatever it is, and the name of a tool name that tool.
+/// The name of a tool behind any first word, the name of the program, names that tool.
 pub fn a_name_names_its_tool()
-    ensures { (program : List ℕ) (tool : Tool) → NamesTool (program ∷ name_of tool ∷ []) tool }
+    ensures { (first : List ℕ) (tool : Tool) → NamesTool (first ∷ name_of tool ∷ []) tool }
 {}

@@ -1,5 +1,5 @@
 //! The tools of the program, over any reader and writer.
-ghost use Rattle.std.specs.Prelude.{◌≢◌, IfOk, IfErr};
+ghost use Rattle.std.specs.Prelude.{◌≡◌, ◌≢◌, IfOk, IfErr};
 ghost use Rattle.std.specs.Io.KnownBytes.{Keeps};
 ghost use Rattle.fio_tool.specs.Streams.{TakesAtMost};
 ghost use Rattle.fio_tool.specs.Tools.{HasTold};
@@ -21,6 +21,39 @@ pub enum Tool {
     Simulate,
     /// To tell whether a transcript keeps the rules.
     Check,
+}
+
+impl Tool {
+    ghost use Rattle.fio_tool.specs.Tools.{name_of};
+
+    /// The tools, in the order in which help lists them.
+    pub(crate) const ALL: [Tool; 3] = [Tool::Show, Tool::Simulate, Tool::Check];
+
+    /// The tool's subcommand.
+    pub(crate) fn name(self) -> &'static str
+        ensures { result.now ≡ name_of self }
+    {
+        match self {
+            Tool::Show => "show",
+            Tool::Simulate => "simulate",
+            Tool::Check => "check",
+        }
+    }
+
+    /// What help says of the tool.
+    pub(crate) fn about(self) -> &'static str {
+        match self {
+            Tool::Show => {
+                "Tells what the frames on standard input say, a line of hexadecimal digits each"
+            }
+            Tool::Simulate => {
+                "Runs a script of events on both ends of the link, and tells what each event brings"
+            }
+            Tool::Check => {
+                "Tells whether a transcript on standard input keeps the rules of the link"
+            }
+        }
+    }
 }
 
 /// Writes what each frame of the input says: the text of `show_text`. The input is read whole, up
