@@ -1,6 +1,6 @@
 //! The text that tells whether a transcript keeps the rules.
 ghost use Rattle.std.specs.Prelude.{◌≡◌, ◌++◌, IfOk, OnOk, string_bytes};
-ghost use Rattle.fio_trace.specs.TranscriptTexts.{IsCheckText, is_good, rule_name, verdict_text};
+ghost use Rattle.fio_trace.specs.TranscriptTexts.{IsCheckText, rule_name, verdict_text};
 
 use super::reading::{TraceError, read_trace};
 use super::rules::{Rule, Verdict, check_trace};
