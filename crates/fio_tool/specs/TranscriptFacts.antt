@@ -1,4 +1,5 @@
--- What is kept of the lines above a place while a transcript is checked, and the rules by it.
+-- What is kept of the lines above a place while a transcript is checked, and the rules by it. Only the
+-- contracts of private functions speak of it.
 use Rattle.std.specs.Prelude.{ℕ, suc, ◌+◌, ◌%◌, Bool, true, false, List, Option, Some, None, length, find, ◌==◌, ◌&&◌, ◌||◌, nat_lt, not, is_some, option_map, if◌then◌else◌}
 use Rattle.fio_message.specs.Answers.{answer_code}
 use Rattle.fio_message.specs.Blocks.{Block}
@@ -35,6 +36,7 @@ facts_at lines place = record {
 
 -- ---- one line more
 
+-- the facts with a poll more, where there is one
 abbrev pub with_poll : Facts → Option ℕ → Facts
 with_poll facts None = facts
 with_poll facts (Some number) = record facts {
@@ -43,6 +45,7 @@ with_poll facts (Some number) = record facts {
   advanced = is_some_and facts.polled (λ polled. not (number == polled));
 }
 
+-- the facts with a block more, where there is one
 abbrev pub with_block : Facts → Option Block → Facts
 with_block facts None = facts
 with_block facts (Some block) = record facts { answered = true; more = Some (says_more block.status) }
@@ -70,11 +73,13 @@ abbrev pub number_due_by : Facts → Option ℕ
 number_due_by facts =
     option_map (λ polled. if facts.answered then (polled + 1) % 256 else polled) facts.polled
 
+-- a command breaks a rule
 abbrev pub is_broken_by_command : Facts → Command → Rule → Bool
 is_broken_by_command facts command Advance = is_some_and (number_polled command) (λ number.
     is_some_and (number_due_by facts) (λ due. not (number == due)))
 is_broken_by_command facts command rule = false
 
+-- a block breaks a rule, but for those on all answers
 abbrev pub is_broken_by_block : Facts → Block → Rule → Bool
 is_broken_by_block facts block Number =
     is_some_and facts.polled (λ polled. not (block.number == polled))
@@ -86,6 +91,7 @@ is_broken_by_block facts block Rest =
     length block.entries == 0 && is_some_and facts.more (λ more. more)
 is_broken_by_block facts block rule = false
 
+-- an answer breaks a rule
 abbrev pub is_broken_by_answer : Facts → Answer → Rule → Bool
 is_broken_by_answer facts answer Pair =
     not (is_some_and facts.awaited (λ code. code == answer_code answer))

@@ -1,5 +1,5 @@
 -- Worked runs of the link machine, by computation: what the definitions say of a few scripts.
-use Rattle.std.proofs.Common.{◌≡◌, ℕ, ◌-◌, ◌^◌, false, true, List, [], ◌∷◌, ◌++◌, map, Some, None, refl}
+use Rattle.std.proofs.Common.{◌≡◌, ℕ, ◌-◌, ◌^◌, false, true, List, [], ◌∷◌, map, Some, refl}
 use Rattle.fio_message.specs.declared.commands.Command.TheVariants as commands
 use Rattle.fio_message.specs.Bits.{is_set}
 use Rattle.fio_message.specs.Decoding.{message_in}
@@ -10,7 +10,7 @@ use Rattle.fio_cpu.specs.declared.items.Item.{Item}
 use Rattle.fio_cpu.specs.declared.items.Item.TheVariants.{Entry, Gap}
 use Rattle.fio_world.specs.declared.event.Event.{Event}
 use Rattle.fio_world.specs.declared.event.Event.TheVariants.{Scan, Poll, Send, ToModule, ToCpu, Restart}
-use Rattle.fio_world.specs.Link.{Machine, NotSent, OutOfOrder, PollIsOurs, start, refusal, after, Leads}
+use Rattle.fio_world.specs.Link.{Machine, NotSent, OutOfOrder, PollIsOurs, start, refusal, after}
 
 -- the machine after these events
 abbrev done : Settings → ℕ → Machine → List Event → Machine

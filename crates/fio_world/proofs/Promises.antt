@@ -14,7 +14,7 @@ use Rattle.fio_world.specs.Link.{Machine}
 use Rattle.fio_world.specs.Pieces.{Gap, Got, piece_of, pieces_of, taken, ArePieces}
 use Rattle.fio_world.specs.Headline.{RecordIsLog, Headline}
 use Rattle.fio_world.specs.Claims.{blocks_in, StandsAtTaken, RestIsTold, HasTimes, IsTimed, sources_of}
-use Rattle.fio_world.specs.Rounds.{next_round, PollsOf, NewestPollIsOf, NewestPollMadeNewestBlock, BlockAnswersOf, AnswersCarryBlocks}
+use Rattle.fio_world.specs.Rounds.{next_round, PollsOf, PollsReceivedHaveRounds, NewestPollMadeNewestBlock, BlockAnswersOf, AnswersCarryBlocks}
 use Rattle.fio_world.specs.Rising.{IsRising}
 use Rattle.fio_world.specs.Sound.{IsSound, IsSoundRun, HoldsOfRuns, HoldsWithoutRestart}
 use Rattle.fio_world.proofs.MadeBlocks.{each-take}
@@ -134,7 +134,7 @@ record_rises settings first events machine range run = (runs_are_sound settings 
 pub polls_are_in_order : HoldsOfRuns (λ settings first events machine. PollsOf first machine)
 polls_are_in_order settings first events machine range run = (invariant settings range first events machine run).polls
 
-pub newest_poll_rounds : HoldsOfRuns (λ settings first events machine. NewestPollIsOf first machine)
+pub newest_poll_rounds : HoldsOfRuns (λ settings first events machine. PollsReceivedHaveRounds first machine)
 newest_poll_rounds settings first events machine range run =
     let i = invariant settings range first events machine run in
     record { numbers = i.numbered; at_most = i.at_most }

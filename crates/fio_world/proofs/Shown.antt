@@ -17,6 +17,7 @@ use Rattle.fio_module.specs.Life.{Received}
 use Rattle.fio_module.specs.Replies.{reply_to, Encodes}
 use Rattle.fio_module.specs.Module as modules
 use Rattle.fio_cpu.specs.Poller.{Polling}
+use Rattle.fio_cpu.specs.declared.items.Item.{Item}
 use Rattle.fio_cpu.specs.Record.{recorded}
 use Rattle.fio_cpu.specs.Hearing.{heard_as, after_hearing, AddsItems}
 use Rattle.fio_world.specs.declared.event.Event.{Event}
@@ -60,6 +61,7 @@ polling-next first machine last (Some block) = by_test (block.number == number_o
   where
     next : (number_of first machine.round + 1) % 256 ≡ number_of first (machine.round + 1)
     next = omega arith
+
     by_test : (same : Bool) →
         (if same then record { number = (number_of first machine.round + 1) % 256; items = machine.items ++ recorded block } else polling_of first machine)
         ≡ polling_of first (if same then record machine { last_to_cpu = last; round = machine.round + 1; items = machine.items ++ recorded block } else record machine { last_to_cpu = last })
@@ -71,6 +73,7 @@ abbrev pub reply_octets : Option Answer → List (List ℕ)
 reply_octets None = []
 reply_octets (Some answer) = answer_octets answer ∷ []
 
+-- the octets of a reply are those of the frame that it is sent in
 octets-answered : (reply : Option Answer) (round : ℕ) → reply_octets reply ≡ map octets_of (answered reply round)
 octets-answered None round = refl
 octets-answered (Some answer) round = refl
@@ -89,6 +92,7 @@ told (Some answer) (Some other) frame e is =
     let same : other ≡ frame = cc in
     ap (λ os. os ∷ []) (sym e.spelled ∙ ap (λ (f : ArrayVec ℕ). f.items) same)
 
+-- what a reply brings whose octets a frame has
 pub told_outcome : (count : ℕ) (reply : Option Answer) (frame : ArrayVec ℕ) → reply_octets reply ≡ frame.items ∷ [] → replied_after count reply ≡ outcomes.Sent (count + 1) frame
 told_outcome count None frame e = absurd cc
 told_outcome count (Some answer) frame e =
@@ -112,6 +116,7 @@ module _ (settings : Settings) (first : ℕ) (machine : Machine) (world : Ends) 
       ap (λ n. delivery_refusal n world.last_to_cpu index) (ap length s.frames_to_cpu ∙ length-map machine.to_cpu octets_of)
       ∙ ap (λ n. delivery_refusal (length machine.to_cpu) n index) s.last_to_cpu
 
+  -- the octets with a number that the world shows are those of the machine's frame with it
   found_to_module : (index : ℕ) (octets : List ℕ) → octets_numbered world.to_module index ≡ Some octets → (frame : Sent) × (frame_numbered machine.to_module index ≡ Some frame) × (frame.octets ≡ octets)
   found_to_module index octets at = from_mapped (frame_numbered machine.to_module index) octets (sym (octets_numbered-map machine.to_module index) ∙ ap (λ fs. octets_numbered fs index) (sym s.frames_to_module) ∙ at)
 
@@ -153,56 +158,49 @@ module _ (settings : Settings) (first : ℕ) (machine : Machine) (world : Ends) 
             ∙ ap (λ o. replied_after (length machine.to_cpu) (reply_to settings machine.history o)) same
             ∙ ap (received_outcome settings machine) (sym d.1);
         shown = subst (λ found. Shows settings first (received settings machine index found) new) (sym d.1) (record {
-            history = subst (λ o. modules.StandsFor settings new.module_end (Received o ∷ machine.history)) same stands;
-            polling = poller ∙ s.polling;
-            frames_to_module = to_module ∙ s.frames_to_module;
-            frames_to_cpu =
-                to_cpu ∙ ap (λ fs. fs ++ reply_octets (reply_to settings machine.history octets)) s.frames_to_cpu
-                ∙ ap (λ fs. map octets_of machine.to_cpu ++ fs) replies
-                ∙ sym (map-append octets_of machine.to_cpu (answered reply frame.round));
-            last_to_module = last_to_module;
-            last_to_cpu = last_to_cpu ∙ s.last_to_cpu;
-          });
+          history = subst (λ o. modules.StandsFor settings new.module_end (Received o ∷ machine.history)) same stands;
+          polling = poller ∙ s.polling;
+          frames_to_module = to_module ∙ s.frames_to_module;
+          frames_to_cpu =
+              to_cpu ∙ ap (λ fs. fs ++ reply_octets (reply_to settings machine.history octets)) s.frames_to_cpu
+              ∙ ap (λ fs. map octets_of machine.to_cpu ++ fs) replies
+              ∙ sym (map-append octets_of machine.to_cpu (answered reply frame.round));
+          last_to_module = last_to_module;
+          last_to_cpu = last_to_cpu ∙ s.last_to_cpu;
+        });
       }
 
+  -- the CPU heard a frame that is this block, or none
   shown_block : (index : ℕ) (found : Option Block) (new : Ends)
       → new.module_end ≡ world.module_end → new.poller_end ≡ after_hearing world.poller_end found
       → new.to_module ≡ world.to_module → new.to_cpu ≡ world.to_cpu
       → new.last_to_module ≡ world.last_to_module → new.last_to_cpu ≡ index
       → Shows settings first (with_block first (record machine { last_to_cpu = index }) found) new
   shown_block index found new module_end poller to_module to_cpu last_to_module last_to_cpu =
-      let polling : new.poller_end ≡ polling_of first (with_block first (record machine { last_to_cpu = index }) found) = poller ∙ ap (λ p. after_hearing p found) s.polling ∙ polling-next first machine index found in
-      others found polling
+      by_case found (poller ∙ ap (λ p. after_hearing p found) s.polling ∙ polling-next first machine index found)
     where
+      shown : (round : ℕ) (items : List Item) → new.poller_end ≡ record { number = number_of first round; items = items }
+          → Shows settings first (record machine { last_to_cpu = index; round = round; items = items }) new
+      shown round items polling = record {
+        history = subst (λ m. modules.StandsFor settings m machine.history) (sym module_end) s.history;
+        polling = polling;
+        frames_to_module = to_module ∙ s.frames_to_module;
+        frames_to_cpu = to_cpu ∙ s.frames_to_cpu;
+        last_to_module = last_to_module ∙ s.last_to_module;
+        last_to_cpu = last_to_cpu;
+      }
+
       by_test : (block : Block) (same : Bool)
           → new.poller_end ≡ polling_of first (if same then record machine { last_to_cpu = index; round = machine.round + 1; items = machine.items ++ recorded block } else record machine { last_to_cpu = index })
           → Shows settings first (if same then record machine { last_to_cpu = index; round = machine.round + 1; items = machine.items ++ recorded block } else record machine { last_to_cpu = index }) new
-      by_test block true polling = record {
-        history = subst (λ m. modules.StandsFor settings m machine.history) (sym module_end) s.history;
-        polling = polling;
-        frames_to_module = to_module ∙ s.frames_to_module;
-        frames_to_cpu = to_cpu ∙ s.frames_to_cpu;
-        last_to_module = last_to_module ∙ s.last_to_module;
-        last_to_cpu = last_to_cpu;
-      }
-      by_test block false polling = record {
-        history = subst (λ m. modules.StandsFor settings m machine.history) (sym module_end) s.history;
-        polling = polling;
-        frames_to_module = to_module ∙ s.frames_to_module;
-        frames_to_cpu = to_cpu ∙ s.frames_to_cpu;
-        last_to_module = last_to_module ∙ s.last_to_module;
-        last_to_cpu = last_to_cpu;
-      }
-      others : (o : Option Block) → new.poller_end ≡ polling_of first (with_block first (record machine { last_to_cpu = index }) o) → Shows settings first (with_block first (record machine { last_to_cpu = index }) o) new
-      others None polling = record {
-        history = subst (λ m. modules.StandsFor settings m machine.history) (sym module_end) s.history;
-        polling = polling;
-        frames_to_module = to_module ∙ s.frames_to_module;
-        frames_to_cpu = to_cpu ∙ s.frames_to_cpu;
-        last_to_module = last_to_module ∙ s.last_to_module;
-        last_to_cpu = last_to_cpu;
-      }
-      others (Some block) polling = by_test block (block.number == number_of first machine.round) polling
+      by_test block true polling = shown (machine.round + 1) (machine.items ++ recorded block) polling
+      by_test block false polling = shown machine.round machine.items polling
+
+      by_case : (o : Option Block)
+          → new.poller_end ≡ polling_of first (with_block first (record machine { last_to_cpu = index }) o)
+          → Shows settings first (with_block first (record machine { last_to_cpu = index }) o) new
+      by_case None polling = shown machine.round machine.items polling
+      by_case (Some block) polling = by_test block (block.number == number_of first machine.round) polling
 
   -- the CPU heard the frame with this number
   pub done_heard : (index : ℕ) (octets : List ℕ) (new : Ends)

@@ -1,4 +1,5 @@
--- What a contract sees of a world: both ends, the octets of all frames ever sent, and the numbers delivered last.
+-- What a contract sees of a world: both ends, the octets of all frames ever sent, and the numbers
+-- delivered last.
 use Rattle.std.specs.Prelude.{ℕ, zero, suc, List, slice_get, Option, None}
 use Rattle.arrayvec.specs.ArrayVec.{ArrayVec}
 use Rattle.fio_module.specs.declared.module.Module.{Module}

@@ -1,6 +1,6 @@
 -- The headline: after any list of scans, line syncs, polls, other commands and in-order deliveries
 -- with losses and immediate repeats, without module restarts, the CPU's record is the module's
--- transition log from its start through the last block taken, each entry once and in order, with
+-- transition list from its start through the last block taken, each entry once and in order, with
 -- entries missing only at gap marks, each of which stands where an overflow was flagged; until the
 -- first mark it is a prefix.
 use Rattle.std.specs.Prelude.{◌≡◌, ℕ, List, map, take}

@@ -48,7 +48,7 @@ BlockAnswersOf machine =
     machine.round (next_round machine.polls)
 
 -- The rounds of the polls received are those of their numbers, and the newest is at most the CPU's.
-pub record NewestPollIsOf (first : ℕ) (machine : Machine) : Type 0 where
+pub record PollsReceivedHaveRounds (first : ℕ) (machine : Machine) : Type 0 where
   pub numbers : map (number_of first) machine.polls ≡ received_numbers machine.history
   pub at_most : next_round machine.polls ≤ machine.round + 1
 

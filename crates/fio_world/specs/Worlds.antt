@@ -21,6 +21,8 @@ use Rattle.fio_world.specs.Link.{Machine, Sent, Refusal, NotSent, OutOfOrder, Po
 use Rattle.fio_world.specs.Sound.{IsSoundRun}
 use Rattle.fio_world.specs.Ends.{Ends}
 
+-- ---- what is shown
+
 abbrev pub octets_of : Sent → List ℕ
 octets_of frame = frame.octets
 
@@ -48,11 +50,13 @@ abbrev pub replied_after : ℕ → Option Answer → Outcome
 replied_after count None = outcomes.Quiet
 replied_after count (Some answer) = sent_after count (answer_octets answer)
 
+-- what the module's reply to this frame brings
 abbrev pub received_outcome : Settings → Machine → Option Sent → Outcome
 received_outcome settings machine None = outcomes.Quiet
 received_outcome settings machine (Some frame) =
     replied_after (length machine.to_cpu) (reply_to settings machine.history frame.octets)
 
+-- what the CPU makes of this frame, where its number is this one
 abbrev pub heard_outcome : ℕ → Option Sent → Outcome
 heard_outcome number None = outcomes.Quiet
 heard_outcome number (Some frame) = outcomes.Heard (heard_as number (decoded_answer frame.octets))
@@ -60,7 +64,8 @@ heard_outcome number (Some frame) = outcomes.Heard (heard_as number (decoded_ans
 -- what an event brings that is not refused
 abbrev pub outcome_of : Settings → ℕ → Machine → Event → Outcome
 outcome_of settings first machine events.Poll =
-    sent_after (length machine.to_module) (command_octets (commands.Poll (number_of first machine.round)))
+    sent_after (length machine.to_module)
+    (command_octets (commands.Poll (number_of first machine.round)))
 outcome_of settings first machine (events.Send command) =
     sent_after (length machine.to_module) (command_octets command)
 outcome_of settings first machine (events.ToModule index) =
@@ -75,11 +80,13 @@ error_of (NotSent index) = errors.NotSent index
 error_of (OutOfOrder index last) = errors.OutOfOrder index last
 error_of PollIsOurs = errors.PollIsOurs
 
+-- this frame brings a block that adds to the record
 abbrev pub AddsFrom : Polling → Option Sent → Type 0
 AddsFrom polling None = ⊥
 AddsFrom polling (Some frame) = AddsItems polling (block_in frame.octets)
 
--- the event may take memory: one that sends a frame or may be answered, and a delivery that adds to the record
+-- the event may take memory: one that sends a frame or may be answered, or a delivery that adds to
+-- the record
 abbrev pub TakesMemory : ℕ → Machine → Event → Type 0
 TakesMemory first machine events.Poll = Unit {0}
 TakesMemory first machine (events.Send command) = Unit {0}
@@ -88,36 +95,42 @@ TakesMemory first machine (events.ToCpu index) =
     AddsFrom (polling_of first machine) (frame_numbered machine.to_cpu index)
 TakesMemory first machine other = ⊥
 
--- the fault is the machine's refusal; or the machine does not refuse, and memory that the event takes is wanting
+-- the fault is the machine's refusal; where the machine does not refuse, the memory that the event
+-- takes was wanting
 abbrev pub IsFault : Option Refusal → Type 0 → WorldError → Type 0
 IsFault None takes fault = (fault ≡ errors.Memory) × takes
 IsFault (Some refusal) takes fault = fault ≡ error_of refusal
 
--- what an event that is done gives: the machine does not refuse it, the outcome is exact, and the world shows the
--- machine after it
-pub record IsDone (settings : Settings) (first : ℕ) (machine : Machine) (event : Event) (outcome : Outcome) (world : Ends) : Type 0 where
+-- what an event that is done gives: the machine does not refuse it, the outcome is exact, and the
+-- world shows the machine after it
+pub record IsDone (settings : Settings) (first : ℕ) (machine : Machine) (event : Event)
+    (outcome : Outcome) (world : Ends) : Type 0 where
   pub fine : refusal machine event ≡ None
   pub brought : outcome ≡ outcome_of settings first machine event
   pub shown : Shows settings first (after settings first machine event) world
 
--- one event on a world that shows a machine: it is done, or refused exactly as the machine refuses it
+-- one event on a world that shows a machine: it is done, or it is refused exactly as the machine
+-- refuses it, or memory is wanting
 abbrev pub Steps : Settings → ℕ → Machine → Event → Result Outcome WorldError → Ends → Type 0
 Steps settings first machine event result world =
     MatchResult result
-      (λ outcome. IsDone settings first machine event outcome world)
-      (λ fault. IsFault (refusal machine event) (TakesMemory first machine event) fault)
+    (λ outcome. IsDone settings first machine event outcome world)
+    (λ fault. IsFault (refusal machine event) (TakesMemory first machine event) fault)
 
 -- ---- runs
 
 -- the world shows the machine that these events lead to
-pub record StandsFor (settings : Settings) (first : ℕ) (events : List Event) (world : Ends) : Type 0 where
+pub record StandsFor (settings : Settings) (first : ℕ) (events : List Event)
+    (world : Ends) : Type 0 where
   pub in_range : AreInRange settings
   pub machine : Machine
   pub is_run : IsRun settings first events machine
   pub shown : Shows settings first machine world
 
--- the world shows the machine that these events lead to, and all that is promised of runs holds of that machine
-pub record IsSoundWorld (settings : Settings) (first : ℕ) (events : List Event) (world : Ends) : Type 0 where
+-- the world shows the machine that these events lead to, and all that is promised of runs holds of
+-- that machine
+pub record IsSoundWorld (settings : Settings) (first : ℕ) (events : List Event)
+    (world : Ends) : Type 0 where
   pub in_range : AreInRange settings
   pub machine : Machine
   pub sound : IsSoundRun settings first events machine
@@ -128,8 +141,10 @@ abbrev pub events_done : List Event → Event → Result Outcome WorldError → 
 events_done events event (Ok outcome) = events ++ event ∷ []
 events_done events event (Err fault) = events
 
--- The events before this place were done and the world shows them; the event there has this fault.
-pub record HasStoppedAt (settings : Settings) (first : ℕ) (events : List Event) (place : ℕ) (fault : WorldError) (world : Ends) : Type 0 where
+-- The events before this place, from 0, were done, and the world shows the machine that they lead
+-- to. The event at this place has this fault.
+pub record HasStoppedAt (settings : Settings) (first : ℕ) (events : List Event) (place : ℕ)
+    (fault : WorldError) (world : Ends) : Type 0 where
   pub machine : Machine
   pub done : IsRun settings first (take place events) machine
   pub shown : Shows settings first machine world
@@ -137,7 +152,9 @@ pub record HasStoppedAt (settings : Settings) (first : ℕ) (events : List Event
   pub here : slice_get events place ≡ Some event
   pub cause : IsFault (refusal machine event) (TakesMemory first machine event) fault
 
--- A run has stopped after so many events: there was no memory for a start, or the event at this place has this fault.
+-- A run has stopped after so many events: there was no memory for a start, or the event at this
+-- place has this fault.
 abbrev pub HasStopped : Settings → ℕ → List Event → ℕ → WorldError → Type 0
 HasStopped settings first events place fault =
-    (place ≡ 0) × (fault ≡ errors.Memory) ⊎ ((world : Ends) × HasStoppedAt settings first events place fault world)
+    (place ≡ 0) × (fault ≡ errors.Memory)
+    ⊎ ((world : Ends) × HasStoppedAt settings first events place fault world)

@@ -5,7 +5,7 @@ ghost use Rattle.fio_module.specs.Limits.{Limits, are_limits};
 ghost use Rattle.fio_module.specs.Settings.{standard_settings, settings_with, AreInRange};
 ghost use Rattle.fio_world.specs.Pieces.{TakenArePieces, PiecesBeginLog};
 ghost use Rattle.fio_world.specs.Headline.{Headline};
-ghost use Rattle.fio_world.specs.Rounds.{PollsOf, NewestPollIsOf, NewestPollMadeNewestBlock, BlockAnswersOf, AnswersCarryBlocks};
+ghost use Rattle.fio_world.specs.Rounds.{PollsOf, PollsReceivedHaveRounds, NewestPollMadeNewestBlock, BlockAnswersOf, AnswersCarryBlocks};
 ghost use Rattle.fio_world.specs.Rising.{IsRising};
 ghost use Rattle.fio_world.specs.Sound.{HoldsOfRuns, HoldsWithoutRestart, IsSoundRun, LeadToOneMachine};
 ghost use Rattle.std.specs.List.{AllByRecursion};
@@ -51,7 +51,7 @@ pub fn polls_are_in_order()
 /// The rounds of the polls received are those of their numbers; without restarts the newest is the
 /// round of the newest block.
 pub fn newest_poll_made_newest_block()
-    ensures rounds { HoldsOfRuns (λ settings first events machine. NewestPollIsOf first machine) }
+    ensures rounds { HoldsOfRuns (λ settings first events machine. PollsReceivedHaveRounds first machine) }
     ensures newest { HoldsWithoutRestart (λ settings first machine.
         NewestPollMadeNewestBlock settings machine) }
 {}

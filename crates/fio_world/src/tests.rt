@@ -1,5 +1,16 @@
-//! The worked examples of texts.
+//! Worked examples: both ends and the bus, each run at once and event by event; scripts and their texts.
+
+mod examples;
+mod limits;
 mod lines;
+mod losses;
+mod overflows;
 mod printing;
+mod records;
+mod refusals;
+mod refused_memory;
+mod restarts;
+mod rounds;
+mod scans;
 mod scripts;
 mod words;

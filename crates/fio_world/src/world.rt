@@ -1,14 +1,13 @@
 //! Both ends and the bus between them.
-ghost use Rattle.std.specs.Prelude.{◌≡◌, ◌≤◌, ◌<◌, ◌+◌, ◌∷◌, ◌++◌, [], List, ℕ, IfOk, IfErr, OnOk, OnErr, length, vec_len, vec_capacity};
+ghost use Rattle.std.specs.Prelude.{◌≡◌, [], List, ℕ, IfOk, IfErr, OnErr, length};
 ghost use Rattle.std.specs.Option.{option_map};
 ghost use Rattle.std.specs.Borrow.{Bor};
 ghost use Rattle.fio_module.specs.Settings.{Settings, standard_settings, settings_with};
 ghost use Rattle.fio_world.specs.declared.event.Event.{Event as Happening};
-ghost use Rattle.fio_world.specs.declared.event.Event.TheVariants as events;
-ghost use Rattle.fio_world.specs.Link.{Machine, refusal, delivery_refusal};
+ghost use Rattle.fio_world.specs.Link.{Machine};
 ghost use Rattle.fio_world.specs.Headline.{Headline};
 ghost use Rattle.fio_world.specs.Ends.{octets_numbered};
-ghost use Rattle.fio_world.specs.Worlds.{Shows, Steps, StandsFor, IsSoundWorld, HasStopped, HasStoppedAt, events_done};
+ghost use Rattle.fio_world.specs.Worlds.{Shows, Steps, StandsFor, IsSoundWorld, HasStopped, events_done};
 
 mod frames;
 mod happening;
@@ -17,12 +16,13 @@ use self::frames::octets_of_frame;
 use crate::event::Event;
 use crate::outcome::{Outcome, RunError, WorldError};
 use fio_cpu::Poller;
-use fio_message::{Command, Frame, Memory, encode_command};
+use fio_message::{Frame, Memory};
 use fio_module::{Limits, Module};
 use std::alloc::Global;
 use std::marker::Model;
 
-/// A module, a CPU's poller, and all frames ever sent between them.
+/// A module, a CPU's poller, and the bus: all frames ever sent in each direction, numbered from 1,
+/// with the number delivered last (own profile). No memory is given back while it lives.
 #[derive(Drop)]
 pub struct World {
     module: Module,
@@ -40,14 +40,18 @@ impl Model for World {
     ghost Value = { Ends };
 
     ghost view = { λ w. record {
-        module_end = w.module; poller_end = w.poller;
-        to_module = map frame_octets w.to_module.items; to_cpu = map frame_octets w.to_cpu.items;
-        last_to_module = w.last_to_module; last_to_cpu = w.last_to_cpu } };
+      module_end = w.module;
+      poller_end = w.poller;
+      to_module = map frame_octets w.to_module.items;
+      to_cpu = map frame_octets w.to_cpu.items;
+      last_to_module = w.last_to_module;
+      last_to_cpu = w.last_to_cpu;
+    } };
 }
 
 impl World {
-    /// A world in which nothing has happened: a module with this identification octet and the standard
-    /// limits, and a CPU with this first block number.
+    /// A world in which nothing has happened: a module with this identification octet and the
+    /// limits of TEES 2009, and a CPU with this first block number.
     ///
     /// # Errors
     /// `Memory` where there is none for the module's waiting entries.
@@ -59,7 +63,7 @@ impl World {
         World::with_limits(alloc, id, first, Limits::STANDARD)
     }
 
-    /// The same, for a module with these limits.
+    /// The same with a module of these limits.
     ///
     /// # Errors
     /// `Memory` where there is none for the module's waiting entries.
@@ -78,21 +82,24 @@ impl World {
         })
     }
 
-    /// A new world, to which these events happen in order. It stops at the first that is refused.
+    /// A new world to which these events have happened in order. It stops at the first that is
+    /// refused.
     ///
     /// # Errors
-    /// How many events were done, and why the next was not; at place 0 also where there was no memory
-    /// for a start.
+    /// How many events were done, and why the next one was not; with 0 events done, `Memory` also
+    /// where there was none for a start.
     pub fn run(alloc: Global, id: u8, first: u8, events: &[Event]) -> Result<World, RunError>
-        ensures ok { IfOk result (λ world. IsSoundWorld (standard_settings id) first events.now world) }
+        ensures ok { IfOk result (λ world.
+            IsSoundWorld (standard_settings id) first events.now world) }
         ensures headline { IfOk result (λ world.
             Headline (standard_settings id) first events.now world.poller_end.items) }
-        ensures err { IfErr result (λ e. HasStopped (standard_settings id) first events.now e.place e.fault) }
+        ensures err { IfErr result (λ e.
+            HasStopped (standard_settings id) first events.now e.place e.fault) }
     {
         World::run_with_limits(alloc, id, first, Limits::STANDARD, events)
     }
 
-    /// The same, for a module with these limits.
+    /// The same with a module of these limits.
     ///
     /// # Errors
     /// Those of `run`.
@@ -103,10 +110,12 @@ impl World {
         limits: Limits,
         events: &[Event],
     ) -> Result<World, RunError>
-        ensures ok { IfOk result (λ world. IsSoundWorld (settings_with id limits) first events.now world) }
+        ensures ok { IfOk result (λ world.
+            IsSoundWorld (settings_with id limits) first events.now world) }
         ensures headline { IfOk result (λ world.
             Headline (settings_with id limits) first events.now world.poller_end.items) }
-        ensures err { IfErr result (λ e. HasStopped (settings_with id limits) first events.now e.place e.fault) }
+        ensures err { IfErr result (λ e.
+            HasStopped (settings_with id limits) first events.now e.place e.fault) }
     {
         let Ok(mut world) = World::with_limits(alloc, id, first, limits) else {
             return Err(RunError {
@@ -120,14 +129,17 @@ impl World {
         }
     }
 
-    /// Lets one event happen, or refuses it and changes nothing.
+    /// Lets one event happen, or refuses it and changes nothing, so that it may be tried again.
     ///
     /// # Errors
-    /// The first that applies: a delivery of a frame that was not sent, a delivery behind the last one,
-    /// a poll handed in to be sent, want of memory. `Scan`, `LineSync`, `Raise`, `Restart` and a delivery
-    /// to the CPU that adds nothing to the record take no memory.
+    /// The first that applies: `NotSent` for a delivery of a frame that was not sent, `OutOfOrder`
+    /// for one of a frame before that delivered last, `PollIsOurs` for a poll handed in to be sent,
+    /// and `Memory` where there is none. `Scan`, `LineSync`, `Raise`, `Restart` and a delivery to
+    /// the CPU that adds nothing to the record take no memory. A delivery to the module asks for
+    /// the place of its answer before the module receives the frame.
     pub fn step(&mut self, event: &Event) -> Result<Outcome, WorldError>
-        ensures row { (settings : Settings) (first : ℕ) (machine : Machine) → Shows settings first machine self.old
+        ensures row { (settings : Settings) (first : ℕ) (machine : Machine)
+            → Shows settings first machine self.old
             → Steps settings first machine event.now result self.new }
         ensures err { OnErr result (self.new ≡ self.old) }
         ensures stands { (settings : Settings) (first : ℕ) (events : List Happening)
@@ -135,7 +147,8 @@ impl World {
             → IsSoundWorld settings first (events_done events event.now result) self.new }
         ensures headline { (settings : Settings) (first : ℕ) (events : List Happening)
             → StandsFor settings first events self.old
-            → Headline settings first (events_done events event.now result) self.new.poller_end.items }
+            → Headline settings first (events_done events event.now result)
+            self.new.poller_end.items }
     {
         self.happen(event)
     }
@@ -154,14 +167,14 @@ impl World {
         &self.poller
     }
 
-    /// How many frames were sent to the module.
+    /// How many frames were ever sent to the module.
     pub fn sent_to_module(&self) -> usize
         ensures { result ≡ length self.now.to_module }
     {
         self.to_module.len()
     }
 
-    /// How many frames were sent to the CPU.
+    /// How many frames were ever sent to the CPU.
     pub fn sent_to_cpu(&self) -> usize
         ensures { result ≡ length self.now.to_cpu }
     {
@@ -182,8 +195,8 @@ impl World {
         self.last_to_cpu
     }
 
-    /// The octets of the frame with this number that was sent to the module, from 1; `None` where none
-    /// has it.
+    /// The octets of the frame with this number, from 1, among those sent to the module; `None`
+    /// where none has it.
     pub fn frame_to_module(&self, index: usize) -> Option<&[u8]>
         ensures { option_map (λ (octets : Bor (List ℕ)). octets.now) result
             ≡ octets_numbered self.now.to_module index }
@@ -191,8 +204,8 @@ impl World {
         octets_of_frame(&self.to_module, index)
     }
 
-    /// The octets of the frame with this number that was sent to the CPU, from 1; `None` where none has
-    /// it.
+    /// The octets of the frame with this number, from 1, among those sent to the CPU; `None` where
+    /// none has it.
     pub fn frame_to_cpu(&self, index: usize) -> Option<&[u8]>
         ensures { option_map (λ (octets : Bor (List ℕ)). octets.now) result
             ≡ octets_numbered self.now.to_cpu index }

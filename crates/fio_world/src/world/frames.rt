@@ -9,7 +9,7 @@ ghost use Rattle.fio_world.specs.Worlds.{IsFault};
 use crate::outcome::WorldError;
 use fio_message::Frame;
 
-/// The octets of the frame with this number, from 1.
+/// The octets of the frame with this number, from 1, or `None` where none has it.
 pub(crate) fn octets_of_frame(frames: &Vec<Frame>, index: usize) -> Option<&[u8]>
     ensures { option_map (λ (octets : Bor (List ℕ)). octets.now) result
         ≡ octets_numbered (map frame_octets frames.now.items) index }
@@ -20,8 +20,8 @@ pub(crate) fn octets_of_frame(frames: &Vec<Frame>, index: usize) -> Option<&[u8]
     Some(frames[index - 1].as_slice())
 }
 
-/// Whether the frame with this number may be delivered, of so many sent, after the one with the number
-/// delivered last.
+/// Refuses the delivery of the frame with this number, of so many sent in its direction, where none
+/// has it or where the frame delivered last has a higher one.
 pub(crate) fn check_delivery(sent: usize, last: usize, index: usize) -> Result<(), WorldError>
     ensures { MatchResult result
         (λ _. delivery_refusal sent last index ≡ None)

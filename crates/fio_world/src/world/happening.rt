@@ -1,10 +1,9 @@
 //! One event on a world.
-ghost use Rattle.std.specs.Prelude.{◌≡◌, ◌+◌, ◌∷◌, ◌++◌, [], ℕ, IfOk, IfErr, OnOk, OnErr, take, length};
+ghost use Rattle.std.specs.Prelude.{◌≡◌, ◌+◌, ◌∷◌, ◌++◌, [], ℕ, IfOk, IfErr, OnOk, OnErr, length};
 ghost use Rattle.fio_module.specs.Settings.{Settings};
-ghost use Rattle.fio_world.specs.declared.event.Event.{Event as Happening};
 ghost use Rattle.fio_world.specs.declared.event.Event.TheVariants as events;
 ghost use Rattle.fio_world.specs.Link.{Machine};
-ghost use Rattle.fio_world.specs.Worlds.{Shows, Steps, StandsFor, IsSoundWorld, HasStoppedAt};
+ghost use Rattle.fio_world.specs.Worlds.{Shows, Steps, IsSoundWorld, HasStoppedAt};
 
 use super::World;
 use super::frames::{add_within, check_delivery, copy_of};
@@ -16,7 +15,8 @@ impl World {
     /// Lets these events happen in order, up to the first that is refused.
     pub(crate) fn happen_all(&mut self, events: &[Event]) -> Result<(), RunError>
         ensures ok { OnOk result ((settings : Settings) (first : ℕ)
-            → IsSoundWorld settings first [] self.old → IsSoundWorld settings first events.now self.new) }
+            → IsSoundWorld settings first [] self.old
+            → IsSoundWorld settings first events.now self.new) }
         ensures err { IfErr result (λ e. (settings : Settings) (first : ℕ)
             → IsSoundWorld settings first [] self.old
             → HasStoppedAt settings first events.now e.place e.fault self.new) }
@@ -29,9 +29,11 @@ impl World {
         Ok(())
     }
 
-    /// Lets one event happen, or refuses it and changes nothing.
+    /// Lets one event happen, or refuses it and changes nothing: `step` without what follows for
+    /// runs.
     pub(crate) fn happen(&mut self, event: &Event) -> Result<Outcome, WorldError>
-        ensures row { (settings : Settings) (first : ℕ) (machine : Machine) → Shows settings first machine self.old
+        ensures row { (settings : Settings) (first : ℕ) (machine : Machine)
+            → Shows settings first machine self.old
             → Steps settings first machine event.now result self.new }
         ensures err { OnErr result (self.new ≡ self.old) }
     {
@@ -63,7 +65,7 @@ impl World {
         }
     }
 
-    /// The CPU sends a frame.
+    /// The CPU sends a frame: it joins those to the module.
     fn send(&mut self, frame: Frame) -> Result<Outcome, WorldError>
         ensures outcome { IfOk result (λ outcome.
             outcome ≡ Outcome.Sent (length self.old.to_module + 1) frame) }
@@ -82,9 +84,11 @@ impl World {
         }
     }
 
-    /// The module receives a frame. The place for its answer is asked for first.
+    /// The module receives the frame with this number, and its answer, if any, joins those to the
+    /// CPU. Room for it is asked for first: what the module has received can't be taken back.
     fn deliver_to_module(&mut self, index: usize) -> Result<Outcome, WorldError>
-        ensures row { (settings : Settings) (first : ℕ) (machine : Machine) → Shows settings first machine self.old
+        ensures row { (settings : Settings) (first : ℕ) (machine : Machine)
+            → Shows settings first machine self.old
             → Steps settings first machine (events.ToModule index) result self.new }
         ensures err { OnErr result (self.new ≡ self.old) }
     {
@@ -106,9 +110,10 @@ impl World {
         }
     }
 
-    /// The CPU hears a frame.
+    /// The CPU hears the frame with this number.
     fn deliver_to_cpu(&mut self, index: usize) -> Result<Outcome, WorldError>
-        ensures row { (settings : Settings) (first : ℕ) (machine : Machine) → Shows settings first machine self.old
+        ensures row { (settings : Settings) (first : ℕ) (machine : Machine)
+            → Shows settings first machine self.old
             → Steps settings first machine (events.ToCpu index) result self.new }
         ensures err { OnErr result (self.new ≡ self.old) }
     {

@@ -1,0 +1,82 @@
+//! Events that are refused.
+use super::examples::{ID, are_same};
+use crate::{Event, RunError, World, WorldError};
+use fio_message::Command;
+use std::alloc::Global;
+use std::process::Abort;
+use std::test::Fail;
+
+/// A world to which these events happen in order, but for those that are refused with this fault. After
+/// each of them it is the world of a run of those done, and a run of these, of a refused one and of a
+/// poll stops at the refused one.
+fn refuses(
+    rt: &impl Abort,
+    alloc: Global,
+    events: &[(Event, Option<WorldError>)],
+) -> Result<World, Fail> {
+    let mut world = World::new(alloc, ID, 0)?;
+    let mut done = Vec::new(alloc);
+    for (event, refusal) in events {
+        assert_eq!(rt; world.step(event).err(), *refusal);
+        done.push(event.clone()?)?;
+        if let Some(fault) = *refusal {
+            done.push(Event::Poll)?;
+            let stopped = World::run(alloc, ID, 0, done.as_slice()).err();
+            done.truncate(done.len().saturating_sub(2));
+            let place = done.len();
+            assert_eq!(rt; stopped, Some(RunError { place, fault }));
+        }
+        are_same(rt, &world, &World::run(alloc, ID, 0, done.as_slice())?);
+    }
+    Ok(world)
+}
+
+fn not_sent(index: usize) -> Option<WorldError> {
+    Some(WorldError::NotSent { index })
+}
+
+fn out_of_order(index: usize, last: usize) -> Option<WorldError> {
+    Some(WorldError::OutOfOrder { index, last })
+}
+
+#[test]
+fn refusals_to_the_module(rt: HostRuntime) -> Result<(), Fail> {
+    let poll = Command::Poll { block: 0 };
+    let events = [
+        (Event::ToCpu(1), not_sent(1)),
+        (Event::ToModule(0), not_sent(0)),
+        (Event::Poll, None),
+        (Event::Poll, None),
+        (Event::ToModule(2), None),
+        (Event::ToModule(1), out_of_order(1, 2)),
+        (Event::ToModule(0), not_sent(0)),
+        (Event::ToModule(3), not_sent(3)),
+        (Event::Send(poll), Some(WorldError::PollIsOurs)),
+    ];
+    let world = refuses(&rt, rt.alloc(), &events)?;
+    assert_eq!(rt; world.sent_to_module(), 2);
+    assert_eq!(rt; world.sent_to_cpu(), 1);
+    assert_eq!(rt; world.last_to_module(), 2);
+    assert_eq!(rt; world.last_to_cpu(), 0);
+    assert_eq!(rt; world.frame_to_module(2), Some([0x36, 0].as_slice()));
+    assert_eq!(rt; world.frame_to_cpu(2), None);
+    Ok(())
+}
+
+#[test]
+fn refusals_to_the_cpu(rt: HostRuntime) -> Result<(), Fail> {
+    let events = [
+        (Event::Poll, None),
+        (Event::ToModule(1), None),
+        (Event::ToModule(1), None),
+        (Event::ToCpu(2), None),
+        (Event::ToCpu(1), out_of_order(1, 2)),
+        (Event::ToCpu(0), not_sent(0)),
+        (Event::ToCpu(3), not_sent(3)),
+        (Event::ToCpu(2), None),
+    ];
+    let world = refuses(&rt, rt.alloc(), &events)?;
+    assert_eq!(rt; world.last_to_cpu(), 2);
+    assert_eq!(rt; world.poller().number(), 1);
+    Ok(())
+}
