@@ -32,8 +32,8 @@ impl Limits {
         waiting: 1024,
     };
 
-    /// The limits with these numbers, or `None` where one is out of its range: `per_block` from 1
-    /// on, `waiting` from 1,024 to 8,192.
+    /// The limits with these numbers, or `None` where one is out of its range: `per_block` 1 to 255,
+    /// `waiting` 1,024 to 8,192.
     pub fn new(per_block: u8, waiting: u16) -> Option<Limits>
         ensures { result
             ≡ (if are_limits per_block waiting then Some (record { per_block = per_block; waiting = waiting }) else None) }

@@ -1,13 +1,11 @@
-//! The module.
-ghost use Rattle.std.specs.Prelude.{◌≡◌, ◌≤◌, length, false};
+//! The module: what reaches it, and what it answers.
+ghost use Rattle.std.specs.Prelude.{◌≤◌, length};
 ghost use Rattle.fio_message.specs.Answers.{SpellsAnswer};
-ghost use Rattle.fio_message.specs.Status.{block_status};
-ghost use Rattle.fio_module.specs.Blocks.{is_new};
-ghost use Rattle.fio_module.specs.Sendings.{is_out_of_sequence};
 
 use crate::limits::Limits;
+use crate::numbers::{is_new, is_out_of_sequence, polled_number};
 use crate::outputs::Outputs;
-use crate::sent::SentBlock;
+use crate::sent::{SentBlock, first_status};
 use crate::waiting::Waiting;
 use fio_input::{Counter, Filters};
 use fio_message::{
@@ -20,7 +18,7 @@ const RESET: u8 = 0x80;
 
 /// A field I/O module (TEES 2009, in this project's own profile of 64 inputs and 64 outputs): its
 /// counter, its filters, its waiting entries and the block that it sent last.
-#[derive(Drop)]
+#[derive(Debug, Drop)]
 pub struct Module {
     id: u8,
     per_block: u8,
@@ -40,13 +38,14 @@ impl Module {
     ghost use Rattle.fio_module.specs.Settings.{Settings, standard_settings, settings_with};
     ghost use Rattle.fio_module.specs.Life.{History, Life, Scan, LineSync, Raise, Received, Restart, Commanded, life_of, counter_of, filter_events};
     ghost use Rattle.fio_module.specs.Log.{log_of};
-    ghost use Rattle.fio_module.specs.Blocks.{latest_poll, newest_end};
+    ghost use Rattle.fio_module.specs.Blocks.{is_new, latest_poll, newest_end};
     ghost use Rattle.fio_module.specs.Flags.{watchdog_of, outputs_of};
     ghost use Rattle.fio_module.specs.Replies.{reply_to, Encodes};
     ghost use Rattle.fio_module.specs.Module.{IsAfter, StandsFor, Obeys, frame_if};
 
-    /// A module with this identification octet and the limits of TEES 2009. All the memory that it
-    /// will ever need is taken here.
+    /// A module that answers `id` where it is asked for its identification (own profile: one octet),
+    /// with the limits of TEES 2009: 255 entries a block, 1,024 waiting. All the memory that it will
+    /// ever need is taken here.
     ///
     /// # Errors
     /// `Memory` where there is none for the waiting entries.
@@ -56,7 +55,7 @@ impl Module {
         Module::with_limits(alloc, id, Limits::STANDARD)
     }
 
-    /// The same with these limits.
+    /// The same with these limits, which stay for good.
     ///
     /// # Errors
     /// `Memory` where there is none for the waiting entries.
@@ -77,7 +76,9 @@ impl Module {
         })
     }
 
-    /// Starts anew: all but the identification octet and the limits is as it was made.
+    /// Starts anew: all but the identification and the limits is as it was made. The flags are P
+    /// alone, the counter is 0, and the waiting entries and the block that was sent last are lost
+    /// (own profile).
     #[tactic(auto, unfolding(crate::specs::Flags::word_of))]
     pub fn restart(&mut self)
         ensures { (settings : Settings) (history : History) → StandsFor settings self.old history
@@ -92,9 +93,11 @@ impl Module {
         self.sent = SentBlock::new();
     }
 
-    /// Steps the counter by one millisecond, then samples all inputs: bit i of `raw` is the level of
-    /// input i. Each change of a filtered state that is not ignored is appended to the waiting
-    /// entries.
+    /// Steps the counter by one millisecond, then takes a sample of each input (own profile: one scan a
+    /// step). Bit i of `raw` is the level of input i.
+    ///
+    /// Each reported change of a filtered state joins the waiting entries, in ascending order of the
+    /// inputs. Where as many wait as may, it pushes out the oldest one (own profile).
     pub fn scan(&mut self, raw: u64)
         ensures { (settings : Settings) (history : History) → StandsFor settings self.old history
             → StandsFor settings self.new (Scan raw ∷ history) }
@@ -106,7 +109,7 @@ impl Module {
             .push_changed(changed, self.filters.filtered(), stamp);
     }
 
-    /// LINESYNC goes from 0 to 1: a load of the counter that was asked for happens now.
+    /// LINESYNC goes from 0 to 1: a load of the counter that was asked for happens now (TEES 2009).
     pub fn line_sync(&mut self)
         ensures { (settings : Settings) (history : History) → StandsFor settings self.old history
             → StandsFor settings self.new (LineSync ∷ history) }
@@ -114,7 +117,8 @@ impl Module {
         self.counter.line_sync();
     }
 
-    /// Sets the status flags whose bits are one in `mask`: from bit 7 down P, E, K, R, T, M, L, W.
+    /// Sets the status flags whose bits are one in `mask`: from bit 7 down P, E, K, R, T, M, L and W
+    /// (own profile: their places).
     pub fn raise(&mut self, mask: u8)
         ensures { (settings : Settings) (history : History) → StandsFor settings self.old history
             → StandsFor settings self.new (Raise mask ∷ history) }
@@ -122,8 +126,8 @@ impl Module {
         self.flags |= mask;
     }
 
-    /// Takes the octets of a frame, and gives those of the answer, if there is one. Octets that spell
-    /// no command, and commands 56, 57 and 59, get no answer and change nothing (own profile).
+    /// Takes the octets of a frame, and gives those of the answer, 1 to 773. Octets that spell no
+    /// command, and commands 56, 57 and 59, get no answer and change nothing (own profile).
     pub fn receive(&mut self, octets: &[u8]) -> Option<Frame>
         ensures stands { (settings : Settings) (history : History) → StandsFor settings self.old history
             → StandsFor settings self.new (Received octets.now ∷ history) }
@@ -138,10 +142,25 @@ impl Module {
         }
     }
 
-    /// Writes the answer to the octets of a frame, if there is one. Each command writes into the one
-    /// frame, since each frame of its own would cost the filling of 773 octets.
-    #[inline(never)]
+    /// Writes the answer to the octets of a frame, if there is one. Polls come far more often than
+    /// other commands, so they are read in place.
     fn answer(&mut self, octets: &[u8], frame: &mut Frame) -> bool
+        ensures stands { (settings : Settings) (history : History) → StandsFor settings self.old history
+            → StandsFor settings self.new (Received octets.now ∷ history) }
+        ensures reply { (settings : Settings) (history : History) → StandsFor settings self.old history
+            → Encodes (reply_to settings history octets.now) (frame_if result frame.new) }
+    {
+        match polled_number(octets) {
+            Some(number) => {
+                self.poll(number, frame);
+                true
+            }
+            None => self.answer_decoded(octets, frame),
+        }
+    }
+
+    #[inline(never)]
+    fn answer_decoded(&mut self, octets: &[u8], frame: &mut Frame) -> bool
         ensures stands { (settings : Settings) (history : History) → StandsFor settings self.old history
             → StandsFor settings self.new (Received octets.now ∷ history) }
         ensures reply { (settings : Settings) (history : History) → StandsFor settings self.old history
@@ -153,6 +172,8 @@ impl Module {
         }
     }
 
+    /// Each command has a function of its own, which is not inlined and writes into the one frame:
+    /// room for a frame of its own would be cleared at each entry.
     fn obey(&mut self, command: Command, frame: &mut Frame) -> bool
         ensures { Obeys self.old self.new command (frame_if result frame.new) }
     {
@@ -296,8 +317,8 @@ impl Module {
         self.outputs
     }
 
-    /// The timeout of the watchdog in milliseconds, 10 to 100, or `None` before the first command
-    /// that sets it.
+    /// The timeout of the watchdog in milliseconds, 10 to 100 (own profile), or `None` before the
+    /// first command that sets it.
     pub fn watchdog_ms(&self) -> Option<u8>
         ensures { (settings : Settings) (history : History) → StandsFor settings self.now history
             → result ≡ watchdog_of (life_of history) }
@@ -305,7 +326,7 @@ impl Module {
         self.watchdog
     }
 
-    /// The milliseconds counted, modulo 2^32.
+    /// The milliseconds counted, modulo 2^32 (TEES 2009).
     pub fn counter(&self) -> u32
         ensures { (settings : Settings) (history : History) → StandsFor settings self.now history
             → result ≡ counter_of (life_of history) }
@@ -321,7 +342,7 @@ impl Module {
         self.filters.filtered()
     }
 
-    /// How many entries wait for a poll.
+    /// How many entries wait for a poll, at most as many as may.
     pub fn waiting(&self) -> usize
         ensures { (settings : Settings) (history : History) → StandsFor settings self.now history
             → result ≡ min settings.waiting
@@ -340,28 +361,4 @@ fn other_answer(kind: OtherAnswer, octets: &[u8]) -> Frame
         Ok(body) => encode_answer(&Answer::Other { kind, body }),
         Err(_) => unreachable!(),
     }
-}
-
-/// Whether a poll with this number is new after the poll before it.
-fn is_new(before: Option<u8>, number: u8) -> bool
-    ensures { result ≡ is_new before number }
-{
-    before != Some(number)
-}
-
-/// Whether a number is out of sequence after that of the poll before it: 255 is followed by 0.
-fn is_out_of_sequence(before: Option<u8>, number: u8) -> bool
-    ensures { result ≡ is_out_of_sequence before number }
-{
-    match before {
-        Some(before) => number != before.wrapping_add(1),
-        None => false,
-    }
-}
-
-/// The status of a block that is sent first.
-fn first_status(more: bool, lost: bool, out_of_sequence: bool) -> u8
-    ensures { result ≡ block_status more lost false out_of_sequence }
-{
-    8 * u8::from(more) + 4 * u8::from(lost) + u8::from(out_of_sequence)
 }

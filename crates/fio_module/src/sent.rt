@@ -1,11 +1,18 @@
 //! The block that was sent last.
-ghost use Rattle.std.specs.Prelude.{◌≡◌};
+ghost use Rattle.std.specs.Prelude.{◌≡◌, false};
+ghost use Rattle.fio_message.specs.Status.{block_status};
 ghost use Rattle.fio_module.specs.Sent.{marked_again};
 
 use fio_message::Frame;
 
 /// The type of a block answer.
 const BLOCK: u8 = 182;
+
+/// C in the status of a block: more entries waited than the block takes.
+const MORE: u8 = 8;
+
+/// F in the status of a block: entries that waited directly before the block were pushed out.
+const LOST: u8 = 4;
 
 /// E in the status of a block: the same number was asked for again.
 const AGAIN: u8 = 2;
@@ -14,7 +21,7 @@ const AGAIN: u8 = 2;
 const OUT_OF_SEQUENCE: u8 = 1;
 
 /// The octets of the block that was sent last, none before the first.
-#[derive(Drop)]
+#[derive(Debug, Drop)]
 pub struct SentBlock {
     octets: Frame,
 }
@@ -99,4 +106,11 @@ fn mark_again(octets: &mut [u8])
     if place < octets.len() {
         octets[place] = (octets[place] | AGAIN) & !OUT_OF_SEQUENCE;
     }
+}
+
+/// The status of a block that is sent first.
+pub fn first_status(more: bool, lost: bool, out_of_sequence: bool) -> u8
+    ensures { result ≡ block_status more lost false out_of_sequence }
+{
+    MORE * u8::from(more) + LOST * u8::from(lost) + OUT_OF_SEQUENCE * u8::from(out_of_sequence)
 }

@@ -8,7 +8,7 @@ use std::alloc::{AllocError, Global};
 
 /// The latest entries that no block has, and whether one was pushed out since the newest block was
 /// made.
-#[derive(Drop)]
+#[derive(Debug, Drop)]
 pub struct Waiting {
     /// The three octets of each, as a block carries them, the oldest entry first.
     entries: HeapCircularBuffer<[u8; 3]>,

@@ -1,1 +1,4 @@
+pub mod PlacesAbove
+pub mod KeptFacts
+pub mod TranscriptLemmas
 pub mod ChoosingLemmas

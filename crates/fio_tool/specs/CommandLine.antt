@@ -7,7 +7,9 @@ use Rattle.fio_tool.specs.declared.tools.Tool.{Tool}
 
 -- the program's name, with a version and without a subcommand for help
 abbrev pub program : App
-program = on_top (λ top. record top { disable_help_subcommand = true; has_version = true }) (new_app (codes "fio2070"))
+program =
+    on_top (λ top. record top { disable_help_subcommand = true; has_version = true })
+    (new_app (codes "fio2070"))
 
 abbrev pub with_tool : App → Tool → App
 with_tool app tool = with_subcommand app (new_shape (name_of tool))

@@ -1,6 +1,12 @@
 pub mod ShowCommands
 pub mod ShowAnswers
 pub mod Show
+pub mod Simulation
+pub mod Transcript
+pub mod TranscriptRules
+pub mod TranscriptFacts
+pub mod TranscriptTexts
+pub mod TranscriptLaws
 pub mod Streams
 pub mod Tools
 pub mod CommandLine

@@ -17,7 +17,8 @@ shown text (Err fault) = Err (fault_text fault)
 -- the lines for a frame: an answer where its first octet is 128 or more, else a command
 abbrev pub shown_frame : List ℕ → Result (List ℕ) (List ℕ)
 shown_frame octets =
-    if nat_le 128 (slice_index_or octets 0 0) then shown answer_text (decoded_answer octets)
+    if nat_le 128 (slice_index_or octets 0 0)
+    then shown answer_text (decoded_answer octets)
     else shown command_text (decoded_command octets)
 
 abbrev pub shown_octets : Option (List ℕ) → Result (List ℕ) (List ℕ)
@@ -31,7 +32,8 @@ shown_line line = shown_octets (octets_of line)
 -- these lines, or the one line that tells of the fault at this number
 abbrev pub told_at : ℕ → Result (List ℕ) (List ℕ) → List ℕ
 told_at number (Ok lines) = lines
-told_at number (Err fault) = codes "line " ++ (decimal number ++ (codes ": " ++ (fault ++ codes "\n")))
+told_at number (Err fault) =
+    codes "line " ++ (decimal number ++ (codes ": " ++ (fault ++ codes "\n")))
 
 -- the text for a numbered line
 abbrev pub line_text : ℕ × List ℕ → List ℕ
@@ -47,8 +49,10 @@ is_too_long input = nat_lt 1048576 (length input)
 -- the text that `show` writes for an input
 abbrev pub show_text : List ℕ → List ℕ
 show_text input =
-    if is_too_long input then codes "input too long\n" else flat_map line_text (numbered 1 (lines_of input))
+    if is_too_long input then codes "input too long\n"
+    else flat_map line_text (numbered 1 (lines_of input))
 
 -- whether it tells of no fault
 abbrev pub is_show_good : List ℕ → Bool
-is_show_good input = not (is_too_long input) && list_all is_line_good (numbered 1 (lines_of input))
+is_show_good input =
+    not (is_too_long input) && list_all is_line_good (numbered 1 (lines_of input))

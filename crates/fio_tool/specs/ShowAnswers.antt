@@ -13,8 +13,10 @@ use Rattle.fio_tool.specs.ShowCommands.{other_text}
 
 abbrev pub flags_text : ℕ → ℕ → ℕ → ℕ → List ℕ
 flags_text flags receive_errors transmit_errors stamp =
-    codes "status flags " ++ (encode_lower (flags ∷ []) ++ (codes " receive " ++ (decimal receive_errors
-    ++ (codes " transmit " ++ (decimal transmit_errors ++ (codes " stamp " ++ (decimal stamp ++ codes "\n")))))))
+    codes "status flags " ++ (encode_lower (flags ∷ [])
+    ++ (codes " receive " ++ (decimal receive_errors
+    ++ (codes " transmit " ++ (decimal transmit_errors
+    ++ (codes " stamp " ++ (decimal stamp ++ codes "\n")))))))
 
 -- a status octet, behind the name of the answer that has it
 abbrev pub status_text : List ℕ → ℕ → List ℕ
@@ -23,29 +25,36 @@ status_text name status = name ++ (codes " status " ++ (encode_lower (status ∷
 -- the levels of all inputs, behind their name
 abbrev pub levels_text : List ℕ → ℕ → ℕ → List ℕ
 levels_text name inputs stamp =
-    name ++ (codes " inputs " ++ (encode_lower (inputs_octets inputs) ++ (codes " stamp " ++ (decimal stamp ++ codes "\n"))))
+    name ++ (codes " inputs " ++ (encode_lower (inputs_octets inputs)
+    ++ (codes " stamp " ++ (decimal stamp ++ codes "\n"))))
 
 -- an entry of a block with this stamp
 abbrev pub entry_text : ℕ → Entry → List ℕ
 entry_text stamp entry =
-    codes "  input " ++ (decimal entry.input ++ (codes " state " ++ (decimal (bit_of entry.level)
-    ++ (codes " stamp " ++ (decimal entry.stamp ++ (codes " wide " ++ (decimal (widened stamp entry.stamp) ++ codes "\n")))))))
+    codes "  input " ++ (decimal entry.input
+    ++ (codes " state " ++ (decimal (bit_of entry.level)
+    ++ (codes " stamp " ++ (decimal entry.stamp
+    ++ (codes " wide " ++ (decimal (widened stamp entry.stamp) ++ codes "\n")))))))
 
 abbrev pub block_head_text : ℕ → ℕ → ℕ → ℕ → List ℕ
 block_head_text block count status stamp =
-    codes "block " ++ (decimal block ++ (codes " entries " ++ (decimal count
-    ++ (codes " status " ++ (encode_lower (status ∷ []) ++ (codes " stamp " ++ (decimal stamp ++ codes "\n")))))))
+    codes "block " ++ (decimal block
+    ++ (codes " entries " ++ (decimal count
+    ++ (codes " status " ++ (encode_lower (status ∷ [])
+    ++ (codes " stamp " ++ (decimal stamp ++ codes "\n")))))))
 
 abbrev pub block_text : ℕ → List Entry → ℕ → ℕ → List ℕ
 block_text block entries status stamp =
     block_head_text block (length entries) status stamp ++ flat_map (entry_text stamp) entries
 
 abbrev pub answer_text : Answer → List ℕ
-answer_text (Status flags receive_errors transmit_errors stamp) = flags_text flags receive_errors transmit_errors stamp
+answer_text (Status flags receive_errors transmit_errors stamp) =
+    flags_text flags receive_errors transmit_errors stamp
 answer_text (LoadCounter status) = status_text (codes "counter load") status
 answer_text (ConfigureInputs status) = status_text (codes "configure") status
 answer_text (RawInputs inputs stamp) = levels_text (codes "raw") inputs stamp
 answer_text (FilteredInputs inputs stamp) = levels_text (codes "filtered") inputs stamp
-answer_text (Block block entries status stamp) = block_text block entries.items status stamp
+answer_text (Block block entries status stamp) =
+    block_text block entries.items status stamp
 answer_text (Watchdog status) = status_text (codes "watchdog") status
 answer_text (Other kind body) = other_text (other_answer_code kind) body.items

@@ -11,19 +11,23 @@ use Rattle.fio_message.specs.declared.commands.Command.TheVariants.{Status, Load
 -- how one input is to be read
 abbrev pub item_text : InputItem → List ℕ
 item_text item =
-    codes "  input " ++ (decimal item.input ++ (codes " ignore " ++ (decimal (bit_of item.ignore)
-    ++ (codes " leading " ++ (decimal item.leading ++ (codes " trailing " ++ (decimal item.trailing ++ codes "\n")))))))
+    codes "  input " ++ (decimal item.input
+    ++ (codes " ignore " ++ (decimal (bit_of item.ignore)
+    ++ (codes " leading " ++ (decimal item.leading
+    ++ (codes " trailing " ++ (decimal item.trailing ++ codes "\n")))))))
 
 abbrev pub clearing_text : ℕ → List ℕ
 clearing_text clear = codes "status clear " ++ (encode_lower (clear ∷ []) ++ codes "\n")
 
 abbrev pub configuration_text : List InputItem → List ℕ
 configuration_text items =
-    (codes "configure inputs " ++ (decimal (length items) ++ codes "\n")) ++ flat_map item_text items
+    (codes "configure inputs " ++ (decimal (length items) ++ codes "\n"))
+    ++ flat_map item_text items
 
 abbrev pub outputs_text : List ℕ → List ℕ → List ℕ
 outputs_text levels controls =
-    codes "set outputs data " ++ (encode_lower levels ++ (codes " control " ++ (encode_lower controls ++ codes "\n")))
+    codes "set outputs data " ++ (encode_lower levels
+    ++ (codes " control " ++ (encode_lower controls ++ codes "\n")))
 
 -- the octets of a body, or a dash where it has none
 abbrev pub body_text : List ℕ → List ℕ
@@ -32,7 +36,8 @@ body_text (octet ∷ octets) = encode_lower (octet ∷ octets)
 
 -- a message that is not read further than its type
 abbrev pub other_text : ℕ → List ℕ → List ℕ
-other_text code body = codes "other " ++ (decimal code ++ (codes " body " ++ (body_text body ++ codes "\n")))
+other_text code body =
+    codes "other " ++ (decimal code ++ (codes " body " ++ (body_text body ++ codes "\n")))
 
 abbrev pub command_text : Command → List ℕ
 command_text (Status clear) = clearing_text clear

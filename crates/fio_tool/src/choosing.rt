@@ -20,16 +20,23 @@ const ABOUT: &str =
 const ABOUT_SHOW: &str =
     "Tells what the frames on standard input say, a line of hexadecimal digits each";
 
-/// The tool that the words of a command line name, the program's name first: `None` where they name no
-/// subcommand.
+const ABOUT_SIMULATE: &str =
+    "Runs a script of events on both ends of the link, and tells what each event brings";
+
+const ABOUT_CHECK: &str =
+    "Tells whether a transcript on standard input keeps the rules of the link, frame by frame";
+
+/// The tool that the words of a command line name, the program's name first: `None` where they name
+/// no subcommand.
 ///
 /// # Errors
-/// `clap`'s, exactly where the words have a fault or ask for help or the version, or where there is no
-/// memory.
+/// `clap`'s, exactly where the words have a fault or ask for help or the version, or where there is
+/// no memory.
 pub fn choose<'a>(alloc: Global, words: &'a [&'a str]) -> Result<Option<Tool>, Error>
     ensures tool { IfOk result (λ tool.
         option_map name_of tool ≡ chosen_name (map (λ word. word.now) words.entry.now)) }
-    // An `Ok` comes only where the words have no fault, and an `Err` tells of one, or of want of memory.
+    // An `Ok` comes only where the words have no fault, and an `Err` tells of one, or of want of
+    // memory.
     ensures fault { FailsBy
         (fault_of command_line (map (λ word. word.now) words.entry.now)) result }
 {
@@ -46,11 +53,15 @@ fn command_line<'a>(alloc: Global) -> Result<Command<'a>, AllocError>
     ensures { IfOk result (λ command. app_of command ≡ command_line) }
 {
     let show = Command::new(alloc, "show").about(ABOUT_SHOW);
+    let simulate = Command::new(alloc, "simulate").about(ABOUT_SIMULATE);
+    let check = Command::new(alloc, "check").about(ABOUT_CHECK);
     Command::new(alloc, "fio2070")
         .about(ABOUT)
         .version(VERSION)
         .disable_help_subcommand(true)
-        .subcommand(show)
+        .subcommand(show)?
+        .subcommand(simulate)?
+        .subcommand(check)
 }
 
 /// The tool of a subcommand.
@@ -60,6 +71,8 @@ fn tool_named(name: &str) -> Option<Tool>
 {
     match name {
         "show" => Some(Tool::Show),
+        "simulate" => Some(Tool::Simulate),
+        "check" => Some(Tool::Check),
         _ => None,
     }
 }

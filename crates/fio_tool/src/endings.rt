@@ -18,8 +18,8 @@ pub enum ToolFault {
     /// A read failed, be it only interrupted. Nothing was written.
     #[error("read fault")]
     Read,
-    /// A write or the flush failed, be it only interrupted, or a write took no octet. Some of the text
-    /// may have been written.
+    /// A write or the flush failed, be it only interrupted, or a write took no octet. Some of the
+    /// text may have been written.
     #[error("write fault")]
     Write,
     /// There was no memory for the input or its text. Nothing was written.

@@ -1,4 +1,4 @@
-//! Laws of the definitions that the contracts cite: each function states one in its contract, and does
+//! Laws of the definitions that the contracts cite: a function states one in its contract, and does
 //! nothing.
 ghost use Rattle.std.specs.Prelude.{ℕ, List, [], ◌∷◌};
 ghost use Rattle.fio_tool.specs.CommandLine.{NamesTool};

@@ -9,14 +9,14 @@ ghost use Rattle.fio_tool.specs.declared.tools.Tool.{Tool};
 
 use crate::choosing::choose;
 use crate::endings::{Ending, ToolFault};
-use crate::tools::{Tool, show};
+use crate::tools::{Tool, check, show, simulate};
 use clap::Error;
 use clap::error::ErrorKind;
 use std::alloc::Global;
 use std::io::{Read, Write};
 
-/// Runs the tool that the words of a command line name, the program's name first, and gives the exit
-/// status of the program.
+/// Runs the tool that the words of a command line name, the program's name first, and gives the
+/// exit status of the program.
 ///
 /// | Status | When |
 /// |---|---|
@@ -25,8 +25,8 @@ use std::io::{Read, Write};
 /// | 2 | the words name no subcommand, or have another fault |
 /// | 3 | a read or a write failed, or there was no memory |
 ///
-/// For 3 and for no subcommand the program prints one line, `fio2070: read fault` or the like; for every
-/// other fault of the words it prints `clap`'s text. A failure to print these is passed over.
+/// For 3 and for no subcommand the program prints one line, `fio2070: read fault` or the like; for
+/// every other fault of the words it prints `clap`'s text. A failure to print these is passed over.
 pub fn run_program<'a, R: Read, W: Write>(
     alloc: Global,
     words: &'a [&'a str],
@@ -64,6 +64,8 @@ fn run_tool<R: Read, W: Write>(alloc: Global, tool: Tool, reader: &mut R, writer
 {
     let ending = match tool {
         Tool::Show => show(alloc, reader, writer),
+        Tool::Simulate => simulate(alloc, reader, writer),
+        Tool::Check => check(alloc, reader, writer),
     };
     if let Err(fault) = ending {
         say(writer, fault_line(fault));

@@ -15,8 +15,8 @@ pub(crate) const MAX_INPUT: usize = 1_048_576;
 
 /// The text that tells of each line of the input: a line of octets in hexadecimal digits is told as
 /// the message that they spell, an answer where the first is 128 or more and else a command. A line
-/// that spells none gives `line N: ` and its fault, and an input of more than 1,048,576 octets the one
-/// line `input too long`. Lines that are empty or begin with `#` give none.
+/// that spells none gives `line N: ` and its fault, and an input of more than 1,048,576 octets the
+/// one line `input too long`. Lines that are empty or begin with `#` give none.
 ///
 /// # Errors
 /// `Memory` where there is none for the text or for a line's octets.

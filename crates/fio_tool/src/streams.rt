@@ -1,5 +1,5 @@
-//! Input and output, whole. The calls of std that read to the end or write all try an interrupted call
-//! again; here each error is final.
+//! Input and output, whole. The calls of std that read to the end or write all try an interrupted
+//! call again; here each error is final.
 ghost use Rattle.std.specs.Prelude.{◌≡◌, IfOk, IfErr, OnOk};
 ghost use Rattle.std.specs.Io.KnownBytes.{Appends};
 ghost use Rattle.fio_tool.specs.Streams.{TakesAtMost, TakesInput};

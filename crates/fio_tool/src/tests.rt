@@ -2,3 +2,4 @@ mod command_line;
 mod ends;
 mod shows;
 mod streams;
+mod transcripts;

@@ -25,3 +25,5 @@ pub mod SettingsInRange
 pub mod Examples
 pub mod Shown
 pub mod SoundWorlds
+pub mod ReadingLemmas
+pub mod ReportLemmas

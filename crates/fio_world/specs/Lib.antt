@@ -12,3 +12,9 @@ pub mod Rising
 pub mod Sound
 pub mod Ends
 pub mod Worlds
+pub mod Forms
+pub mod Headers
+pub mod EventLines
+pub mod Scripts
+pub mod ReportLines
+pub mod Reports

@@ -10,20 +10,30 @@
 //! block answers among its frames (`Frames`), the record as pieces of the transition log (`Pieces`), the
 //! headline (`Headline`), what else is promised (`Claims`), the order of rounds that it rests on
 //! (`Rounds`), the rising record, through restarts too (`Rising`), all of it for one run (`Sound`); then
-//! what contracts see of a world (`Ends`) and how it shows the machine (`Worlds`). The laws are the
-//! contracts of the module `laws`.
+//! what contracts see of a world (`Ends`) and how it shows the machine (`Worlds`); then forms of lines
+//! (`Forms`), a script's first line (`Headers`), its further lines (`EventLines`), scripts (`Scripts`), the
+//! lines of a report (`ReportLines`), reports (`Reports`). The laws are the contracts of the module `laws`.
 #![tactic(auto)]
 
 mod event;
+mod event_lines;
+mod headers;
 pub mod laws;
 mod outcome;
+mod report_lines;
+mod reporting;
 mod reports;
+mod script;
+mod scripts;
 pub mod text;
 mod world;
 
 pub use event::Event;
 pub use outcome::{Outcome, RunError, WorldError};
+pub use reporting::report;
 pub use reports::{Report, push_fault};
+pub use script::{Script, ScriptError};
+pub use scripts::read_script;
 pub use world::World;
 
 #[cfg(test)]

@@ -1,3 +1,5 @@
+//! The worked examples of texts.
 mod lines;
 mod printing;
+mod scripts;
 mod words;

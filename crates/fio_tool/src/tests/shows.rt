@@ -8,58 +8,60 @@ fn shows(alloc: Global, input: &[u8], text: &str, good: bool) -> Result<bool, Fa
     Ok(report.text.as_slice() == text.as_bytes() && report.good == good)
 }
 
+/// A line of each type, and what is told of it.
+const TYPES: [(&str, &str); 26] = [
+    ("3180", "status clear 80\n"),
+    ("3200010000", "load counter 65536\n"),
+    (
+        "33020c0503830000",
+        "configure inputs 2\n  input 12 ignore 0 leading 5 trailing 3\n  input 3 ignore 1 leading 0 trailing 0\n",
+    ),
+    ("3300", "configure inputs 0\n"),
+    ("34", "raw inputs\n"),
+    ("35", "filtered inputs\n"),
+    ("3605", "poll block 5\n"),
+    (
+        "3700000000000000010000000000000000",
+        "set outputs data 0000000000000001 control 0000000000000000\n",
+    ),
+    ("38", "other 56 body -\n"),
+    ("39aB", "other 57 body ab\n"),
+    ("3ac8", "watchdog ms 200\n"),
+    ("3b0102", "other 59 body 0102\n"),
+    ("3c", "identify\n"),
+    (
+        "B1800001000003E8",
+        "status flags 80 receive 0 transmit 1 stamp 1000\n",
+    ),
+    ("b2fe", "counter load status fe\n"),
+    ("b301", "configure status 01\n"),
+    (
+        "b4feffffffffffffff00000001",
+        "raw inputs feffffffffffffff stamp 1\n",
+    ),
+    (
+        "b5feffffffffffffffffffffff",
+        "filtered inputs feffffffffffffff stamp 4294967295\n",
+    ),
+    (
+        "b6050000000003e8",
+        "block 5 entries 0 status 00 stamp 1000\n",
+    ),
+    (
+        "b605018c03e700000003e8",
+        "block 5 entries 1 status 00 stamp 1000\n  input 12 state 1 stamp 999 wide 999\n",
+    ),
+    ("b7", "other 183 body -\n"),
+    ("b800", "other 184 body 00\n"),
+    ("b9", "other 185 body -\n"),
+    ("ba01", "watchdog status 01\n"),
+    ("bb", "other 187 body -\n"),
+    ("bc02", "other 188 body 02\n"),
+];
+
 #[test]
 fn each_type(rt: HostRuntime) -> Result<(), Fail> {
-    let cases = [
-        ("3180", "status clear 80\n"),
-        ("3200010000", "load counter 65536\n"),
-        (
-            "33020c0503830000",
-            "configure inputs 2\n  input 12 ignore 0 leading 5 trailing 3\n  input 3 ignore 1 leading 0 trailing 0\n",
-        ),
-        ("3300", "configure inputs 0\n"),
-        ("34", "raw inputs\n"),
-        ("35", "filtered inputs\n"),
-        ("3605", "poll block 5\n"),
-        (
-            "3700000000000000010000000000000000",
-            "set outputs data 0000000000000001 control 0000000000000000\n",
-        ),
-        ("38", "other 56 body -\n"),
-        ("39aB", "other 57 body ab\n"),
-        ("3ac8", "watchdog ms 200\n"),
-        ("3b0102", "other 59 body 0102\n"),
-        ("3c", "identify\n"),
-        (
-            "B1800001000003E8",
-            "status flags 80 receive 0 transmit 1 stamp 1000\n",
-        ),
-        ("b2fe", "counter load status fe\n"),
-        ("b301", "configure status 01\n"),
-        (
-            "b4feffffffffffffff00000001",
-            "raw inputs feffffffffffffff stamp 1\n",
-        ),
-        (
-            "b5feffffffffffffffffffffff",
-            "filtered inputs feffffffffffffff stamp 4294967295\n",
-        ),
-        (
-            "b6050000000003e8",
-            "block 5 entries 0 status 00 stamp 1000\n",
-        ),
-        (
-            "b605018c03e700000003e8",
-            "block 5 entries 1 status 00 stamp 1000\n  input 12 state 1 stamp 999 wide 999\n",
-        ),
-        ("b7", "other 183 body -\n"),
-        ("b800", "other 184 body 00\n"),
-        ("b9", "other 185 body -\n"),
-        ("ba01", "watchdog status 01\n"),
-        ("bb", "other 187 body -\n"),
-        ("bc02", "other 188 body 02\n"),
-    ];
-    for (line, text) in cases {
+    for (line, text) in TYPES {
         assert!(rt; shows(rt.alloc(), line.as_bytes(), text, true)?, "{line}");
     }
     Ok(())
@@ -161,8 +163,8 @@ fn is_refused(alloc: Global, message: &str, needed: usize, got: usize) -> Result
 /// whose octet is missing is taken as 0.
 #[test]
 fn cut_messages(rt: HostRuntime) -> Result<(), Fail> {
-    // Each message with an octet too many, how many of its octets tell how long it is, what it needs
-    // with fewer, and what it needs.
+    // Each message with an octet too many, how many of its octets tell how long it is, what it
+    // needs with fewer, and what it needs.
     let cases = [
         ("360500", 1, 2, 2),
         ("320001000000", 1, 5, 5),

@@ -15,7 +15,8 @@ returns-clause-tool c =
     ∙ ap (λ (a : App). subcommand_of a words) app in
     let chosen : chosen_name words ≡ Some name =
     sym (ap (option_map (λ entry. entry.0)) met) ∙ name-of_rows m ∙ sym c.in-Some.ensures in
-    chosen-tool words name c.tool_named.result chosen c.tool_named.ensures.known c.tool_named.ensures.unknown
+    let named = c.tool_named.ensures in
+    chosen-tool words name c.tool_named.result chosen named.known named.unknown
 
 pub returns-clause-fault : goal.returns-clause-fault
 returns-clause-fault c =

@@ -7,6 +7,10 @@ use Rattle.fio_tool.proofs.showing.show_text.Given as goal
 
 abbrev pub invariant-lines : goal.invariant-lines
 invariant-lines l = record {
-  text : string_bytes l.text ++ flat_map line_text l.number-iterator ≡ flat_map line_text (numbered 1 (lines_of l.input));
-  good : l.good && list_all is_line_good l.number-iterator ≡ list_all is_line_good (numbered 1 (lines_of l.input));
+  text :
+      string_bytes l.text ++ flat_map line_text l.number-iterator
+      ≡ flat_map line_text (numbered 1 (lines_of l.input));
+  good :
+      l.good && list_all is_line_good l.number-iterator
+      ≡ list_all is_line_good (numbered 1 (lines_of l.input));
 }

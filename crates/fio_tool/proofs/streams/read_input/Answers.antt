@@ -3,7 +3,8 @@ use Rattle.std.proofs.lemmas.Grind.{common_steps}
 use Rattle.std.proofs.KnownBytes.{Consumes-trans}
 use Rattle.fio_tool.proofs.streams.read_input.Goals as goal
 
-pub returns-in_err-extend_from_slice-clause-taken : goal.returns-in_err-extend_from_slice-clause-taken
+pub returns-in_err-extend_from_slice-clause-taken :
+    goal.returns-in_err-extend_from_slice-clause-taken
 returns-in_err-extend_from_slice-clause-taken g c = (
   c.reads.input.items ++ take c.in-Ok.count c.read.new.buf,
   Consumes-trans _ _ _ _ _ c.reads.invariant.0 c.in-Ok.ensures.bytes.0,

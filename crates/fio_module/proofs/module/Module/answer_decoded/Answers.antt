@@ -1,6 +1,6 @@
 use Rattle.fio_message.proofs.MessageLaws.{command_back}
 use Rattle.fio_module.specs.Life.{life_of}
-use Rattle.fio_module.proofs.module.Module.answer.Goals as goal
+use Rattle.fio_module.proofs.module.Module.answer_decoded.Goals as goal
 
 pub returns-in-Ok-clause-stands : goal.returns-in-Ok-clause-stands
 returns-in-Ok-clause-stands c settings history after =

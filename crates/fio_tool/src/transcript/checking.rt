@@ -1,0 +1,76 @@
+//! The text that tells whether a transcript keeps the rules.
+ghost use Rattle.std.specs.Prelude.{◌≡◌, ◌++◌, IfOk, OnOk, string_bytes};
+ghost use Rattle.fio_tool.specs.TranscriptTexts.{IsCheckText, is_good, rule_name, verdict_text};
+
+use super::reading::{TraceError, read_trace};
+use super::rules::{Rule, Verdict, check_trace};
+use crate::showing::MAX_INPUT;
+use fio_message::Memory;
+use fio_world::Report;
+use std::alloc::{AllocError, Global};
+
+/// The text that tells whether the transcript in the input keeps the rules: `good N frames`, or
+/// `line N breaks RULE` with the first line that breaks one. A line that is no frame gives the one
+/// line `line N: bad line`, and then no rule is tried; an input of more than 1,048,576 octets gives
+/// the one line `input too long`. The report is good for `good N frames` alone.
+///
+/// # Errors
+/// `Memory` where there is none for the lines of the transcript or for the text.
+pub fn check_text(alloc: Global, input: &[u8]) -> Result<Report, Memory>
+    ensures { IfOk result (λ report. IsCheckText input.now report.text.items report.good) }
+{
+    let mut text = String::new(alloc);
+    if input.len() > MAX_INPUT {
+        text.push_str("input too long\n")?;
+        return Ok(Report {
+            text: text.into_bytes(),
+            good: false,
+        });
+    }
+    let good = match read_trace(alloc, input) {
+        Ok(lines) => {
+            let verdict = check_trace(lines.as_slice());
+            push_verdict(&mut text, verdict)?;
+            matches!(verdict, Verdict::Good { .. })
+        }
+        Err(TraceError::BadLine { line }) => {
+            write!(text, "line {line}: bad line\n")?;
+            false
+        }
+        Err(TraceError::Memory) => return Err(Memory),
+    };
+    Ok(Report {
+        text: text.into_bytes(),
+        good,
+    })
+}
+
+/// Appends the line for a verdict.
+fn push_verdict(text: &mut String, verdict: Verdict) -> Result<(), AllocError>
+    ensures { OnOk result (string_bytes text.new ≡ string_bytes text.old ++ verdict_text verdict) }
+{
+    match verdict {
+        Verdict::Good { frames } => write!(text, "good {frames} frames\n"),
+        Verdict::Broken { number, rule } => {
+            let rule = rule_name(rule);
+            write!(text, "line {number} breaks {rule}\n")
+        }
+    }
+}
+
+/// The name of a rule in lower case.
+fn rule_name(rule: Rule) -> &'static str
+    ensures { result.now ≡ rule_name rule }
+{
+    match rule {
+        Rule::Readable => "readable",
+        Rule::Pair => "pair",
+        Rule::Number => "number",
+        Rule::Advance => "advance",
+        Rule::Same => "same",
+        Rule::Sequence => "sequence",
+        Rule::Limits => "limits",
+        Rule::Rest => "rest",
+        Rule::Refusal => "refusal",
+    }
+}

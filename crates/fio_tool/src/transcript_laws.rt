@@ -1,0 +1,23 @@
+//! Laws of the definitions that the contracts on transcripts cite: each function states one in its
+//! contract, and does nothing.
+ghost use Rattle.std.specs.Prelude.{ℕ, List};
+ghost use Rattle.fio_tool.specs.Transcript.{TraceLine, poll_sent, block_heard};
+ghost use Rattle.fio_tool.specs.TranscriptLaws.{HasOneCheckText, HasOneVerdict, TellsTheLatest};
+
+/// The earlier poll of a line is the latest poll above it, and so is the earlier block among blocks.
+pub fn earlier_is_latest_above()
+    ensures polls { (lines : List TraceLine) → TellsTheLatest (poll_sent lines) }
+    ensures blocks { (lines : List TraceLine) → TellsTheLatest (block_heard lines) }
+{}
+
+/// A transcript has exactly one verdict: `check_trace` finds one, and no other is one.
+#[tactic(auto, using(crate::proofs::TranscriptLemmas::one_verdict))]
+pub fn verdicts_are_one()
+    ensures { (lines : List TraceLine) → HasOneVerdict lines }
+{}
+
+/// The text that tells whether an input's transcript keeps the rules is one, and so is its ending.
+#[tactic(auto, using(crate::proofs::TranscriptLemmas::one_check_text))]
+pub fn check_texts_are_one()
+    ensures { (input : List ℕ) → HasOneCheckText input }
+{}

@@ -1,0 +1,28 @@
+use Rattle.std.proofs.Common.{◌<◌, ◌∙◌, sym, vec_len, rules, arith}
+use Rattle.std.proofs.lemmas.Grind.{common_steps}
+use Rattle.std.proofs.lemmas.Result.{err_from_is_err_and}
+use Rattle.fio_world.proofs.ReadingLemmas.{read_on-start, read_on-end, read_on-event, read_on-fault}
+use Rattle.fio_world.proofs.scripts.read_events.Goals as goal
+
+pub lines-init : goal.lines-init
+lines-init c =
+    let all = c.into_iter-number-iterator.ensures.into_iter_gives ∙ c.numbered_lines-number-items.ensures in
+    record {
+      events = read_on-start _ _ c.args.restarts _ _ c.new-events.ensures.items c.new-events.ensures.len all;
+      left = λ none. all ∙ none;
+      few = omega arith;
+    }
+
+pub lines-preserved : goal.lines-preserved
+lines-preserved c = grind (arith, common_steps, read_on-event)
+
+pub returns-in_err-event-clause-err : goal.returns-in_err-event-clause-err
+returns-in_err-event-clause-err c =
+    let fault = err_from_is_err_and c.from_residual.result c.from_residual.ensures.1 in
+    let few : vec_len c.lines.events < 10000 = search rules in
+    rw (fault.1, fault.2) (λ told.
+    sym c.lines.invariant.events
+    ∙ read_on-fault _ _ _ _ _ _ _ c.in-Some.ensures.steps few (c.in_err-event.ensures.err told))
+
+pub returns-clause-ok : goal.returns-clause-ok
+returns-clause-ok c = grind (arith, common_steps, read_on-end)

@@ -1,0 +1,45 @@
+-- A script's further lines: one event each.
+use Rattle.std.specs.Prelude.{ℕ, Bool, List, Option, Some, None, Result, Ok, Err, option_map, codes}
+use Rattle.std.specs.Bool.{then_some}
+use Rattle.std.specs.Option.{option_map_or, ok_or}
+use Rattle.fio_message.specs.Decoding.{decoded_command}
+use Rattle.fio_message.specs.declared.commands.Command.{Command}
+use Rattle.fio_message.specs.declared.faults.DecodeError.{DecodeError}
+use Rattle.fio_world.specs.declared.event.Event.{Event}
+use Rattle.fio_world.specs.declared.event.Event.TheVariants.{Scan, LineSync, Raise, Poll, Send, ToModule, ToCpu, Restart}
+use Rattle.fio_world.specs.declared.script.ScriptError.{ScriptError}
+use Rattle.fio_world.specs.declared.script.ScriptError.TheVariants.{TooManyEvents, BadLine, BadFrame}
+use Rattle.fio_world.specs.Forms.{exactly, begins}
+use Rattle.fio_world.specs.Hexadecimal.{octets_of, octet_of, inputs_of}
+use Rattle.fio_world.specs.Words.{after_prefix, number_of}
+
+-- the event of a line that sends no command, where the module may restart or not
+abbrev pub plain_event : Bool → List ℕ → Option Event
+plain_event restarts line =
+    exactly (codes "sync") (Some LineSync) line
+    (exactly (codes "poll") (Some Poll) line
+    (exactly (codes "restart") (then_some restarts Restart) line
+    (begins (codes "scan ") (λ word. option_map Scan (inputs_of word)) line
+    (begins (codes "raise ") (λ word. option_map Raise (octet_of word)) line
+    (begins (codes "to-module ") (λ word. option_map ToModule (number_of word)) line
+    (begins (codes "to-cpu ") (λ word. option_map ToCpu (number_of word)) line None))))))
+
+-- the command is sent, or the frame has this fault
+abbrev pub sending_at : ℕ → Result Command DecodeError → Result Event ScriptError
+sending_at number (Ok command) = Ok (Send command)
+sending_at number (Err fault) = Err (BadFrame number fault)
+
+-- a word that is no octets is no form of an event
+abbrev pub frame_at : ℕ → Option (List ℕ) → Result Event ScriptError
+frame_at number None = Err (BadLine number)
+frame_at number (Some octets) = sending_at number (decoded_command octets)
+
+-- the event of the line with this number, or its fault
+abbrev pub event_at : Bool → ℕ × List ℕ → Result Event ScriptError
+event_at restarts line =
+    option_map_or (λ word. frame_at line.0 (octets_of word)) (after_prefix (codes "send ") line.1)
+    (ok_or (plain_event restarts line.1) (BadLine line.0))
+
+-- the fault of a line below as many events as a script may have
+abbrev pub too_many_at : ℕ × List ℕ → Result Event ScriptError
+too_many_at line = Err (TooManyEvents line.0)

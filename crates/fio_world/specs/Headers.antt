@@ -1,0 +1,48 @@
+-- A script's first line, in three versions.
+use Rattle.std.specs.Prelude.{ℕ, Bool, true, false, List, Option, Some, None, option_map, option_and_then, codes, if◌then◌else◌}
+use Rattle.fio_module.specs.Limits.{Limits, are_limits}
+use Rattle.fio_world.specs.declared.headers.Header.{Header}
+use Rattle.fio_world.specs.Forms.{begins, both}
+use Rattle.fio_world.specs.Words.{number_of, small_number_of}
+
+-- those of TEES 2009
+abbrev pub standard_limits : Limits
+standard_limits = record { per_block = 255; waiting = 1024 }
+
+-- the limits with these two numbers, where they are limits
+abbrev pub limits_with : ℕ × ℕ → Option Limits
+limits_with numbers =
+    if are_limits numbers.0 numbers.1
+    then Some (record { per_block = numbers.0; waiting = numbers.1 })
+    else None
+
+-- N N: the most entries of a block, and the most that wait
+abbrev pub limits_in : List ℕ → Option Limits
+limits_in words = option_and_then limits_with (both number_of number_of words)
+
+-- B B: the module's identification octet and the CPU's first number
+abbrev pub standard_header : Bool → List ℕ → Option Header
+standard_header restarts words =
+    option_map (λ numbers. record {
+      id = numbers.0;
+      first = numbers.1;
+      limits = standard_limits;
+      restarts = restarts;
+    }) (both small_number_of small_number_of words)
+
+-- B B N N: the same, then the limits
+abbrev pub limited_header : List ℕ → Option Header
+limited_header words =
+    option_map (λ numbers. record {
+      id = numbers.0;
+      first = numbers.1.0;
+      limits = numbers.1.1;
+      restarts = true;
+    }) (both small_number_of (both small_number_of limits_in) words)
+
+-- the header that a line is
+abbrev pub header_of : List ℕ → Option Header
+header_of line =
+    begins (codes "fio2070 script 1 ") (standard_header false) line
+    (begins (codes "fio2070 script 2 ") (standard_header true) line
+    (begins (codes "fio2070 script 3 ") limited_header line None))

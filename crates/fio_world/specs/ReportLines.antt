@@ -1,0 +1,81 @@
+-- The lines of a report.
+use Rattle.std.specs.Prelude.{ℕ, List, [], ◌∷◌, ◌++◌, length, codes, decimal, Option, Some, None}
+use Rattle.std.specs.List.{flat_map}
+use Rattle.hex.specs.Hex.{encode_lower}
+use Rattle.fio_message.specs.Bits.{bit_of}
+use Rattle.fio_message.specs.Texts.{fault_text}
+use Rattle.fio_cpu.specs.declared.hearing.Heard.{Heard}
+use Rattle.fio_cpu.specs.declared.hearing.Heard.TheVariants.{Unreadable, Other, Stale, Block}
+use Rattle.fio_cpu.specs.declared.items.Item.{Item}
+use Rattle.fio_cpu.specs.declared.items.Item.TheVariants.{Entry, Gap}
+use Rattle.fio_module.specs.Blocks.{waiting_of}
+use Rattle.fio_module.specs.Life.{life_of, counter_of}
+use Rattle.fio_module.specs.Settings.{Settings}
+use Rattle.fio_world.specs.declared.outcome.Outcome.{Outcome}
+use Rattle.fio_world.specs.declared.outcome.Outcome.TheVariants as outcomes
+use Rattle.fio_world.specs.declared.outcome.WorldError.{WorldError}
+use Rattle.fio_world.specs.declared.outcome.WorldError.TheVariants as errors
+use Rattle.fio_world.specs.Link.{Machine, Refusal, NotSent, OutOfOrder, PollIsOurs, number_of}
+
+-- ---- one event
+
+-- what the CPU made of a frame
+abbrev pub heard_line : ℕ → Heard → List ℕ
+heard_line number (Block entries status) =
+    decimal number ++ (codes " block entries " ++ (decimal entries ++ (codes " status "
+    ++ (encode_lower (status ∷ []) ++ codes "\n"))))
+heard_line number (Stale block) = decimal number ++ (codes " stale " ++ (decimal block ++ codes "\n"))
+heard_line number (Other code) = decimal number ++ (codes " other " ++ (decimal code ++ codes "\n"))
+heard_line number (Unreadable fault) = decimal number ++ (codes " unreadable " ++ (fault_text fault ++ codes "\n"))
+
+-- a frame was sent, with its number and its octets
+abbrev pub sent_line : ℕ → ℕ → List ℕ → List ℕ
+sent_line number index octets =
+    decimal number ++ (codes " sent " ++ (decimal index ++ (codes " " ++ (encode_lower octets ++ codes "\n"))))
+
+-- what the event with this number brought
+abbrev pub outcome_line : ℕ → Outcome → List ℕ
+outcome_line number outcomes.Quiet = decimal number ++ codes " quiet\n"
+outcome_line number (outcomes.Sent index frame) = sent_line number index frame.items
+outcome_line number (outcomes.Heard heard) = heard_line number heard
+
+-- the refusal that a fault tells of, unless it is want of memory
+abbrev pub refusal_in : WorldError → Option Refusal
+refusal_in (errors.NotSent index) = Some (NotSent index)
+refusal_in (errors.OutOfOrder index last) = Some (OutOfOrder index last)
+refusal_in errors.PollIsOurs = Some PollIsOurs
+refusal_in errors.Memory = None
+
+-- why the event with this number is refused
+abbrev pub refused_line : ℕ → Refusal → List ℕ
+refused_line number (NotSent index) =
+    decimal number ++ (codes " refused not sent " ++ (decimal index ++ codes "\n"))
+refused_line number (OutOfOrder index last) =
+    decimal number ++ (codes " refused out of order " ++ (decimal index ++ (codes " after " ++ (decimal last ++ codes "\n"))))
+refused_line number PollIsOurs = decimal number ++ codes " refused poll is ours\n"
+
+-- ---- the end of a run
+
+-- an item of the record
+abbrev pub item_line : Item → List ℕ
+item_line Gap = codes "gap\n"
+item_line (Entry input level stamp wide) =
+    codes "input " ++ (decimal input ++ (codes " state " ++ (decimal (bit_of level)
+    ++ (codes " stamp " ++ (decimal stamp ++ (codes " wide " ++ (decimal wide ++ codes "\n")))))))
+
+-- the module's counter, the CPU's number, how many entries wait, and how many items the record has
+abbrev pub count_lines : ℕ → ℕ → ℕ → ℕ → List ℕ
+count_lines counter number waiting items =
+    codes "counter " ++ (decimal counter ++ (codes "\nnumber " ++ (decimal number
+    ++ (codes "\nwaiting " ++ (decimal waiting ++ (codes "\nrecord " ++ (decimal items ++ codes "\n")))))))
+
+-- the same, and the record
+abbrev pub ending_lines : ℕ → ℕ → ℕ → List Item → List ℕ
+ending_lines counter number waiting items =
+    count_lines counter number waiting (length items) ++ flat_map item_line items
+
+-- how a run has ended that leads to this machine
+abbrev pub ending_text : Settings → ℕ → Machine → List ℕ
+ending_text settings first machine =
+    ending_lines (counter_of (life_of machine.history)) (number_of first machine.round)
+        (length (waiting_of settings (life_of machine.history))) machine.items

@@ -1,0 +1,33 @@
+-- The report of a script: a line for each event of its run, and then how it ended.
+use Rattle.std.specs.Prelude.{ℕ, ◌+◌, Bool, true, false, List, [], ◌∷◌, ◌++◌, Option, Some, None}
+use Rattle.fio_module.specs.Settings.{Settings}
+use Rattle.fio_world.specs.declared.event.Event.{Event}
+use Rattle.fio_world.specs.Link.{Machine, Refusal, start, refusal, after}
+use Rattle.fio_world.specs.Worlds.{outcome_of}
+use Rattle.fio_world.specs.ReportLines.{outcome_line, refused_line, ending_text}
+use Rattle.fio_world.specs.Scripts.{Scenario}
+
+-- a text, and whether it tells of no fault
+pub record Telling : Type 0 where
+  pub text : List ℕ
+  pub good : Bool
+
+-- the same with this text in front
+abbrev pub told_after : List ℕ → Telling → Telling
+told_after text telling = record { text = text ++ telling.text; good = telling.good }
+
+-- an event that is refused is the last of which is told; else its line stands above what follows
+abbrev pub unless_refused : ℕ → Option Refusal → List ℕ → Telling → Telling
+unless_refused number None line telling = told_after line telling
+unless_refused number (Some reason) line telling = record { text = refused_line number reason; good = false }
+
+-- what is told of these events from a machine on, the first of which has this number
+abbrev pub told_from : Settings → ℕ → ℕ → Machine → List Event → Telling
+told_from settings first number machine [] = record { text = ending_text settings first machine; good = true }
+told_from settings first number machine (event ∷ events) =
+    unless_refused number (refusal machine event) (outcome_line number (outcome_of settings first machine event))
+        (told_from settings first (number + 1) (after settings first machine event) events)
+
+-- the report of a script
+abbrev pub report_of : Scenario → Telling
+report_of scenario = told_from scenario.settings scenario.first 1 start scenario.events

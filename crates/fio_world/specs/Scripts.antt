@@ -1,0 +1,53 @@
+-- Scripts: the first line is a header, and each further line that says something is an event.
+use Rattle.std.specs.Prelude.{◌≢◌, ℕ, Bool, List, [], ◌∷◌, ◌++◌, map, take, drop, Option, Some, None, IsSome, Result, Ok, Err}
+use Rattle.fio_module.specs.Settings.{Settings, settings_with}
+use Rattle.fio_world.specs.declared.event.Event.{Event}
+use Rattle.fio_world.specs.declared.script.Script.{Script}
+use Rattle.fio_world.specs.declared.script.ScriptError.{ScriptError}
+use Rattle.fio_world.specs.declared.script.ScriptError.TheVariants.{BadHeader}
+use Rattle.fio_world.specs.Collected.{collected}
+use Rattle.fio_world.specs.EventLines.{event_at, too_many_at}
+use Rattle.fio_world.specs.Headers.{header_of}
+use Rattle.fio_world.specs.declared.headers.Header.{Header}
+use Rattle.fio_world.specs.Lines.{lines_of, numbered}
+
+-- what a module and a CPU are made with, and what then happens
+pub record Scenario : Type 0 where
+  pub settings : Settings
+  pub first : ℕ
+  pub events : List Event
+
+-- what each of these numbered lines gives, of which so many may be events
+abbrev pub readings : ℕ → Bool → List (ℕ × List ℕ) → List (Result Event ScriptError)
+readings most restarts lines =
+    map (event_at restarts) (take most lines) ++ map too_many_at (drop most lines)
+
+-- the events of the lines below a header, 10,000 at most, or the fault of the first faulty line
+abbrev pub events_of : Bool → List (List ℕ) → Result (List Event) ScriptError
+events_of restarts lines = collected (readings 10000 restarts (numbered 2 lines))
+
+abbrev pub with_events : Header → Result (List Event) ScriptError → Result Scenario ScriptError
+with_events header (Ok events) = Ok (record { settings = settings_with header.id header.limits; first = header.first; events = events })
+with_events header (Err fault) = Err fault
+
+abbrev pub below : Option Header → List (List ℕ) → Result Scenario ScriptError
+below None lines = Err BadHeader
+below (Some header) lines = with_events header (events_of header.restarts lines)
+
+abbrev pub scenario_in : List (List ℕ) → Result Scenario ScriptError
+scenario_in [] = Err BadHeader
+scenario_in (header ∷ lines) = below (header_of header) lines
+
+-- the script that a text spells, or the fault of its first faulty line
+abbrev pub script_in : List ℕ → Result Scenario ScriptError
+script_in text = scenario_in (lines_of text)
+
+-- there is a header, and a line below it that says something: only then is memory asked for
+abbrev pub HasEventLine : List (List ℕ) → Type 0
+HasEventLine [] = ⊥
+HasEventLine (header ∷ lines) = IsSome (header_of header) × (numbered 2 lines ≢ [])
+
+-- a script, wherever its events lie in memory
+abbrev pub scenario_of : Script → Scenario
+scenario_of script =
+    record { settings = settings_with script.id script.limits; first = script.first; events = script.events.items }

@@ -1,0 +1,71 @@
+//! A script's further lines: one event each.
+ghost use Rattle.std.specs.Prelude.{◌≡◌, ◌≢◌, IfOk, IfErr};
+ghost use Rattle.fio_world.specs.EventLines.{event_at, frame_at, plain_event};
+ghost use Rattle.fio_world.specs.Hexadecimal.{octets_of};
+
+use crate::event::Event;
+use crate::script::ScriptError;
+use crate::text::{after_prefix, read_inputs, read_number, read_octet, read_octets};
+use fio_message::decode_command;
+use std::alloc::Global;
+
+/// The event of the line with this number, where the module may restart or not.
+pub(crate) fn read_event(
+    alloc: Global,
+    number: usize,
+    line: &[u8],
+    restarts: bool,
+) -> Result<Event, ScriptError>
+    ensures ok { IfOk result (λ event. event_at restarts (number, line.now) ≡ Ok event) }
+    ensures err { IfErr result (λ fault. fault ≢ ScriptError.Memory
+        → event_at restarts (number, line.now) ≡ Err fault) }
+{
+    if let Some(word) = after_prefix(line, b"send ") {
+        return read_sending(alloc, number, word);
+    }
+    read_plain(line, restarts).ok_or(ScriptError::BadLine { line: number })
+}
+
+/// The sending of the command that the word's octets spell.
+fn read_sending(alloc: Global, number: usize, word: &[u8]) -> Result<Event, ScriptError>
+    ensures ok { IfOk result (λ event. frame_at number (octets_of word.now) ≡ Ok event) }
+    ensures err { IfErr result (λ fault. fault ≢ ScriptError.Memory
+        → frame_at number (octets_of word.now) ≡ Err fault) }
+{
+    let Some(octets) = read_octets(alloc, word)? else {
+        return Err(ScriptError::BadLine { line: number });
+    };
+    match decode_command(octets.as_slice()) {
+        Ok(command) => Ok(Event::Send(command)),
+        Err(fault) => Err(ScriptError::BadFrame {
+            line: number,
+            fault,
+        }),
+    }
+}
+
+/// The event of a line that sends no command.
+fn read_plain(line: &[u8], restarts: bool) -> Option<Event>
+    ensures { result ≡ plain_event restarts line.now }
+{
+    if line == b"sync".as_slice() {
+        return Some(Event::LineSync);
+    }
+    if line == b"poll".as_slice() {
+        return Some(Event::Poll);
+    }
+    if line == b"restart".as_slice() {
+        return restarts.then_some(Event::Restart);
+    }
+    if let Some(word) = after_prefix(line, b"scan ") {
+        return read_inputs(word).map(Event::Scan);
+    }
+    if let Some(word) = after_prefix(line, b"raise ") {
+        return read_octet(word).map(Event::Raise);
+    }
+    if let Some(word) = after_prefix(line, b"to-module ") {
+        return read_number(word).map(Event::ToModule);
+    }
+    let word = after_prefix(line, b"to-cpu ")?;
+    read_number(word).map(Event::ToCpu)
+}

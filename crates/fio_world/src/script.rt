@@ -1,0 +1,73 @@
+//! Scripts, and why a text is none.
+ghost use Rattle.std.specs.Prelude.{◌≡◌};
+
+use crate::event::Event;
+use fio_message::{DecodeError, Memory};
+use fio_module::Limits;
+use std::alloc::AllocFailed;
+use thiserror::Error;
+
+/// What a module and a CPU are made with, and what then happens.
+#[derive(Debug, Drop)]
+pub struct Script {
+    /// The module's identification octet.
+    pub id: u8,
+    /// The block number of the CPU's first poll.
+    pub first: u8,
+    /// The module's limits.
+    pub limits: Limits,
+    /// What happens, in order: at most 10,000 events (own profile).
+    pub events: Vec<Event>,
+}
+
+/// Why a text is no script. The first faulty line decides, and on one line the first of these that
+/// applies (own profile). Lines count from 1.
+#[derive(Clone, Copy, Debug, PartialEq, Eq, Error)]
+pub enum ScriptError {
+    /// The first line is no header of a version that there is, or there is no line.
+    #[error("line 1: bad header")]
+    BadHeader,
+    /// 10,000 events stand above the line, whatever it holds.
+    #[error("line {line}: too many events")]
+    TooManyEvents {
+        /// The number of the line.
+        line: usize,
+    },
+    /// The line has no form of an event.
+    #[error("line {line}: bad line")]
+    BadLine {
+        /// The number of the line.
+        line: usize,
+    },
+    /// The line sends octets that spell no command.
+    #[error("line {line}: bad frame {fault}")]
+    BadFrame {
+        /// The number of the line.
+        line: usize,
+        /// Why they spell none.
+        fault: DecodeError,
+    },
+    /// The events had to grow, and there was no memory.
+    #[error("out of memory")]
+    Memory,
+}
+
+impl From<Memory> for ScriptError {
+    ghost use Rattle.fio_world.specs.declared.script.ScriptError.TheVariants as errors;
+
+    ghost from_gives = { λ _ e. e ≡ errors.Memory };
+
+    fn from(_fault: Memory) -> ScriptError {
+        ScriptError::Memory
+    }
+}
+
+impl<T: Drop> From<AllocFailed<T>> for ScriptError {
+    ghost use Rattle.fio_world.specs.declared.script.ScriptError.TheVariants as errors;
+
+    ghost from_gives = { λ _ e. e ≡ errors.Memory };
+
+    fn from(_fault: AllocFailed<T>) -> ScriptError {
+        ScriptError::Memory
+    }
+}
