@@ -61,13 +61,17 @@ abbrev pub AreApart : ℕ → List MadeBlock → ℕ → Type 0
 AreApart from [] to = from ≤ to
 AreApart from (block ∷ blocks) to = (from ≤ block.start) × (block.start ≤ block.end) × AreApart block.end blocks to
 
-apart-append : (from next to : ℕ) (xs ys : List MadeBlock) → AreApart from xs next → AreApart next ys to → AreApart from (xs ++ ys) to
+-- blocks apart up to a place, and blocks apart from there on
+apart-append : (from next to : ℕ) (xs ys : List MadeBlock) → AreApart from xs next → AreApart next ys to
+    → AreApart from (xs ++ ys) to
 apart-append from next to [] [] p q = omega arith
 apart-append from next to [] (y ∷ ys) p q = let low : next ≤ y.start = q.0 in (omega arith, q.1, q.2)
 apart-append from next to (x ∷ xs) ys p q = (p.0, p.1, apart-append x.end next to xs ys p.2 q)
 
+-- blocks of a life that follow one another lie apart, behind what went before
 apart-follow : (log : List Transition) (per_block past before : ℕ) (blocks : List MadeBlock)
-    → FollowOneAnother log per_block before blocks → AreApart (past + before) (map (behind past) blocks) (past + last_end before blocks)
+    → FollowOneAnother log per_block before blocks
+    → AreApart (past + before) (map (behind past) blocks) (past + last_end before blocks)
 apart-follow log per_block past before [] follow = omega arith
 apart-follow log per_block past before (block ∷ blocks) follow =
     let begins : block.before ≡ before = follow.0 in
@@ -75,11 +79,15 @@ apart-follow log per_block past before (block ∷ blocks) follow =
     let ends : block.start ≤ block.end = follow.1.ends in
     (omega arith, omega arith, apart-follow log per_block past block.end blocks follow.2)
 
-apart-more : (from to later : ℕ) (blocks : List MadeBlock) → to ≤ later → AreApart from blocks to → AreApart from blocks later
+-- blocks that lie apart up to a place do so up to a later one
+apart-more : (from to later : ℕ) (blocks : List MadeBlock) → to ≤ later → AreApart from blocks to
+    → AreApart from blocks later
 apart-more from to later [] le p = omega arith
 apart-more from to later (block ∷ blocks) le p = (p.0, p.1, apart-more block.end to later blocks le p.2)
 
-apart-joined : (settings : Settings) (blocks : List MadeBlock) (past : ℕ) (life : Life) → AreApart 0 blocks past
+-- the blocks of a life lie apart behind those of the lives before it
+apart-joined : (settings : Settings) (blocks : List MadeBlock) (past : ℕ) (life : Life)
+    → AreApart 0 blocks past
     → AreApart 0 (joined settings blocks past life) (past + newest_end settings life)
 apart-joined settings blocks past life apart =
     let here = apart-follow (log_of life) settings.per_block past 0 (blocks_of settings life) (blocks_follow settings life) in
@@ -87,7 +95,9 @@ apart-joined settings blocks past life apart =
     apart-append 0 past (past + newest_end settings life) blocks (map (behind past) (blocks_of settings life)) apart
     (subst (λ n. AreApart n (map (behind past) (blocks_of settings life)) (past + newest_end settings life)) none here)
 
-past_apart : (settings : Settings) (history : History) → AreApart 0 (past_blocks settings history) (length (past_log history))
+-- the blocks of the lives before the present one lie apart
+past_apart : (settings : Settings) (history : History)
+    → AreApart 0 (past_blocks settings history) (length (past_log history))
 past_apart settings [] = omega arith
 past_apart settings (Restart ∷ history) =
     let within : newest_end settings (life_of history) ≤ length (log_of (life_of history)) = blocks_end_within settings (life_of history) in
@@ -98,12 +108,14 @@ past_apart settings (Restart ∷ history) =
 past_apart settings (other ∷ history) = past_apart settings history
 
 -- the blocks of all lives lie one behind the other, up to where the next may take
-pub blocks_apart : (settings : Settings) (history : History) → AreApart 0 (all_blocks settings history) (reached settings history)
+pub blocks_apart : (settings : Settings) (history : History)
+    → AreApart 0 (all_blocks settings history) (reached settings history)
 blocks_apart settings history =
     apart-joined settings (past_blocks settings history) (length (past_log history)) (life_of history) (past_apart settings history)
 
 -- each of them ends before the place up to which they lie
-pub apart_within : (from to : ℕ) (blocks : List MadeBlock) (k : ℕ) (block : MadeBlock) → AreApart from blocks to
+pub apart_within : (from to : ℕ) (blocks : List MadeBlock) (k : ℕ) (block : MadeBlock)
+    → AreApart from blocks to
     → slice_get blocks k ≡ Some block → (from ≤ block.start) × (block.start ≤ block.end) × (block.end ≤ to)
 apart_within from to [] k block apart is = absurd (cc is)
 apart_within from to (first ∷ blocks) zero block apart is =
@@ -125,7 +137,8 @@ apart_within from to (first ∷ blocks) (suc k) block apart is =
     (omega arith, rest.1, rest.2)
 
 -- an earlier one ends before a later one starts
-pub apart_order : (from to : ℕ) (blocks : List MadeBlock) (j k : ℕ) (s t : MadeBlock) → AreApart from blocks to → j < k
+pub apart_order : (from to : ℕ) (blocks : List MadeBlock) (j k : ℕ) (s t : MadeBlock)
+    → AreApart from blocks to → j < k
     → slice_get blocks j ≡ Some s → slice_get blocks k ≡ Some t → s.end ≤ t.start
 apart_order from to [] j k s t apart less p q = absurd (cc p)
 apart_order from to (first ∷ blocks) zero zero s t apart less p q = absurd (omega arith)
@@ -140,13 +153,18 @@ apart_order from to (first ∷ blocks) (suc j) (suc k) s t apart less p q =
 -- the transitions of a block stand in a log from its start up to its end
 pub record StandsIn (log : List Transition) (block : MadeBlock) : Type 0 where
   pub count : block.start + length block.transitions ≡ block.end
-  pub places : (i : ℕ) (t : Transition) → slice_get block.transitions i ≡ Some t → slice_get log (block.start + i) ≡ Some t
+  pub places : (i : ℕ) (t : Transition) → slice_get block.transitions i ≡ Some t
+      → slice_get log (block.start + i) ≡ Some t
 
-stands-more : (log more : List Transition) (block : MadeBlock) → StandsIn log block → StandsIn (log ++ more) block
+-- what stands in a log stands in a longer one
+stands-more : (log more : List Transition) (block : MadeBlock) → StandsIn log block
+    → StandsIn (log ++ more) block
 stands-more log more block s =
     record { count = s.count; places = λ i t is. get_before_push log more (block.start + i) t (s.places i t is) }
 
-stands-behind : (past log : List Transition) (per_block : ℕ) (block : MadeBlock) → IsPartOf log per_block block
+-- a part of a life's log stands behind the logs before it
+stands-behind : (past log : List Transition) (per_block : ℕ) (block : MadeBlock)
+    → IsPartOf log per_block block
     → StandsIn (past ++ log) (behind (length past) block)
 stands-behind past log per_block block part =
     let count : block.start + length block.transitions ≡ block.end = part_count log per_block block part in
@@ -158,12 +176,15 @@ stands-behind past log per_block block part =
           ∙ get_behind past log (block.start + i) t (part_stands log per_block block part i t is);
     }
 
-stand-follow : (past log : List Transition) (per_block before : ℕ) (blocks : List MadeBlock) → FollowOneAnother log per_block before blocks
+-- so do blocks that follow one another
+stand-follow : (past log : List Transition) (per_block before : ℕ) (blocks : List MadeBlock)
+    → FollowOneAnother log per_block before blocks
     → AllByRecursion (StandsIn (past ++ log)) (map (behind (length past)) blocks)
 stand-follow past log per_block before [] follow = tt
 stand-follow past log per_block before (block ∷ blocks) follow =
     (stands-behind past log per_block block follow.1, stand-follow past log per_block block.end blocks follow.2)
 
+-- the blocks of a life stand in its log, joined to those before it
 stand-joined : (settings : Settings) (blocks : List MadeBlock) (past : List Transition) (life : Life)
     → AllByRecursion (StandsIn past) blocks
     → AllByRecursion (StandsIn (past ++ log_of life)) (joined settings blocks (length past) life)
@@ -172,7 +193,9 @@ stand-joined settings blocks past life stand =
     (each-map (StandsIn past) (StandsIn (past ++ log_of life)) (stands-more past (log_of life)) blocks stand)
     (stand-follow past (log_of life) settings.per_block 0 (blocks_of settings life) (blocks_follow settings life))
 
-past_stand : (settings : Settings) (history : History) → AllByRecursion (StandsIn (past_log history)) (past_blocks settings history)
+-- the blocks of the lives before the present one stand in their logs
+past_stand : (settings : Settings) (history : History)
+    → AllByRecursion (StandsIn (past_log history)) (past_blocks settings history)
 past_stand settings [] = tt
 past_stand settings (Restart ∷ history) =
     subst (λ log. AllByRecursion (StandsIn log) (all_blocks settings history)) (sym (whole_log-split history))
@@ -180,7 +203,8 @@ past_stand settings (Restart ∷ history) =
 past_stand settings (other ∷ history) = past_stand settings history
 
 -- the blocks of all lives stand in the joined log
-pub blocks_stand : (settings : Settings) (history : History) → AllByRecursion (StandsIn (whole_log history)) (all_blocks settings history)
+pub blocks_stand : (settings : Settings) (history : History)
+    → AllByRecursion (StandsIn (whole_log history)) (all_blocks settings history)
 blocks_stand settings history =
     subst (λ log. AllByRecursion (StandsIn log) (all_blocks settings history)) (sym (whole_log-split history))
     (stand-joined settings (past_blocks settings history) (past_log history) (life_of history) (past_stand settings history))

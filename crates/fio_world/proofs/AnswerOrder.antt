@@ -9,7 +9,8 @@ use Rattle.fio_world.specs.Rounds.{BlockAnswersAreInOrder}
 use Rattle.fio_world.proofs.Places.{get_after_push}
 
 -- a block answer among frames and one more is among them, or is the last
-pub block_after_push : (frames : List Sent) (f : Sent) (p : ℕ) (a : Block) (r : ℕ) → HasBlock (frames ++ f ∷ []) p a r
+pub block_after_push : (frames : List Sent) (f : Sent) (p : ℕ) (a : Block) (r : ℕ)
+    → HasBlock (frames ++ f ∷ []) p a r
     → HasBlock frames p a r ⊎ ((p ≡ length frames) × (block_in f.octets ≡ Some a) × (f.round ≡ r))
 block_after_push frames f p a r h =
     elim (get_after_push frames f p h.frame h.at_place)
@@ -23,7 +24,8 @@ block_after_push frames f p a r h =
     ]
 
 -- a block answer among frames and one more that is none is among them
-pub block_before_other : (frames : List Sent) (f : Sent) (p : ℕ) (a : Block) (r : ℕ) → block_in f.octets ≡ None
+pub block_before_other : (frames : List Sent) (f : Sent) (p : ℕ) (a : Block) (r : ℕ)
+    → block_in f.octets ≡ None
     → HasBlock (frames ++ f ∷ []) p a r → HasBlock frames p a r
 block_before_other frames f p a r none h =
     elim (block_after_push frames f p a r h) as (λ _. HasBlock frames p a r) [
@@ -31,6 +33,7 @@ block_before_other frames f p a r none h =
       | inr new ↦ absurd (cc (none, new.1))
     ]
 
+-- a block answer stands among the frames
 block_within : (frames : List Sent) (p : ℕ) (a : Block) (r : ℕ) → HasBlock frames p a r → p < length frames
 block_within frames p a r h = slice_get_within frames p h.frame h.at_place
 
@@ -46,7 +49,8 @@ answers-none next =
 
 module _ (frames : List Sent) (last round next : ℕ) (o : BlockAnswersAreInOrder frames last round next) where
   -- one more frame is sent, which is no block answer
-  pub answers-other : (f : Sent) → block_in f.octets ≡ None → BlockAnswersAreInOrder (frames ++ f ∷ []) last round next
+  pub answers-other : (f : Sent) → block_in f.octets ≡ None
+      → BlockAnswersAreInOrder (frames ++ f ∷ []) last round next
   answers-other f none =
       record {
         rise = λ p q a b r s le h k.
@@ -58,7 +62,8 @@ module _ (frames : List Sent) (last round next : ℕ) (o : BlockAnswersAreInOrde
 
   -- one more block answer is sent, to a poll that has been received now, whose round is not below
   -- the newest
-  pub answers-more : (f : Sent) (r : ℕ) → f.round ≡ r → next ≤ r + 1 → BlockAnswersAreInOrder (frames ++ f ∷ []) last round (r + 1)
+  pub answers-more : (f : Sent) (r : ℕ) → f.round ≡ r → next ≤ r + 1
+      → BlockAnswersAreInOrder (frames ++ f ∷ []) last round (r + 1)
   answers-more f r is high =
       let behind : round ≤ next = o.behind in
       record {

@@ -101,16 +101,20 @@ lost_over_restart = refl
 not_sent_to_cpu : refusal start (ToCpu 1) ≡ Some (NotSent 1)
 not_sent_to_cpu = refl
 
+-- 0 is the number of no frame
 not_sent_to_module : refusal start (ToModule 0) ≡ Some (NotSent 0)
 not_sent_to_module = refl
 
+-- a frame behind the one delivered last
 out_of_order : refusal (done (standard_settings 2) 0 start (Poll ∷ Poll ∷ ToModule 2 ∷ [])) (ToModule 1) ≡ Some (OutOfOrder 1 2)
 unfolding message_in
 out_of_order = refl
 
+-- where both apply, that it was not sent comes first
 not_sent_comes_first : refusal (done (standard_settings 2) 0 start (Poll ∷ ToModule 1 ∷ [])) (ToModule 0) ≡ Some (NotSent 0)
 unfolding message_in
 not_sent_comes_first = refl
 
+-- a poll that is handed in
 poll_is_ours : refusal start (Send (commands.Poll 0)) ≡ Some PollIsOurs
 poll_is_ours = refl

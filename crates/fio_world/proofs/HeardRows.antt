@@ -18,7 +18,13 @@ use Rattle.fio_world.proofs.AnswerOrder.{answers-passed, answers-taken}
 use Rattle.fio_world.proofs.RisingPieces.{rise_taken}
 use Rattle.fio_world.proofs.Kept.{HasInvariant}
 
-module _ (settings : Settings) (range : AreInRange settings) (first : ℕ) (machine : Machine) (i : HasInvariant settings first machine) where
+-- the machine after its CPU has taken the block of a frame at this place
+abbrev pub after_taken : Machine → ℕ → Block → Machine
+after_taken machine place block =
+    record machine { last_to_cpu = place + 1; round = machine.round + 1; items = machine.items ++ recorded block }
+
+module _ (settings : Settings) (range : AreInRange settings) (first : ℕ) (machine : Machine)
+    (i : HasInvariant settings first machine) where
   -- the CPU hears a frame and takes nothing
   keeps_passed : (index : ℕ) → machine.last_to_cpu ≤ index → HasInvariant settings first (record machine { last_to_cpu = index })
   keeps_passed index le =
@@ -35,7 +41,8 @@ module _ (settings : Settings) (range : AreInRange settings) (first : ℕ) (mach
       }
 
   -- a block answer with the CPU's number is of the CPU's round
-  pub same_round : (place : ℕ) (answer : Block) (round : ℕ) → machine.last_to_cpu ≤ place + 1 → HasBlock machine.to_cpu place answer round
+  pub same_round : (place : ℕ) (answer : Block) (round : ℕ) → machine.last_to_cpu ≤ place + 1
+      → HasBlock machine.to_cpu place answer round
       → answer.number ≡ number_of first machine.round → round ≡ machine.round
   same_round place answer round le block alike =
       let named : answer.number ≡ number_of first round = (i.carry place answer round block).number in
@@ -46,7 +53,7 @@ module _ (settings : Settings) (range : AreInRange settings) (first : ℕ) (mach
 
   -- the CPU takes a block
   keeps_taken : (place : ℕ) (answer : Block) → HasBlock machine.to_cpu place answer machine.round
-      → HasInvariant settings first (record machine { last_to_cpu = place + 1; round = machine.round + 1; items = machine.items ++ recorded answer })
+      → HasInvariant settings first (after_taken machine place answer)
   keeps_taken place answer block =
       let h = machine.history in
       let all = all_blocks settings h in
@@ -80,16 +87,20 @@ module _ (settings : Settings) (range : AreInRange settings) (first : ℕ) (mach
         };
       }
 
-  taken_or_not : (place : ℕ) (answer : Block) (round : ℕ) → machine.last_to_cpu ≤ place + 1 → HasBlock machine.to_cpu place answer round
+  -- a block answer is taken, or is not
+  taken_or_not : (place : ℕ) (answer : Block) (round : ℕ) → machine.last_to_cpu ≤ place + 1
+      → HasBlock machine.to_cpu place answer round
       → (same : Bool) → (answer.number == number_of first machine.round) ≡ same
-      → HasInvariant settings first (if same then record machine { last_to_cpu = place + 1; round = machine.round + 1; items = machine.items ++ recorded answer } else record machine { last_to_cpu = place + 1 })
+      → HasInvariant settings first (if same then after_taken machine place answer else record machine { last_to_cpu = place + 1 })
   taken_or_not place answer round le block false is = keeps_passed (place + 1) le
   taken_or_not place answer round le block true is =
       let alike : answer.number ≡ number_of first machine.round = grind (arith, nat_tests) in
       let same = same_round place answer round le block alike in
       keeps_taken place answer (subst (HasBlock machine.to_cpu place answer) same block)
 
-  heard_frame : (place : ℕ) (frame : Sent) → machine.last_to_cpu ≤ place + 1 → slice_get machine.to_cpu place ≡ Some frame
+  -- a frame is heard in which a block was found, or none
+  heard_frame : (place : ℕ) (frame : Sent) → machine.last_to_cpu ≤ place + 1
+      → slice_get machine.to_cpu place ≡ Some frame
       → (found : Option Block) → block_in frame.octets ≡ found
       → HasInvariant settings first (with_block first (record machine { last_to_cpu = place + 1 }) found)
   heard_frame place frame le at None spells = keeps_passed (place + 1) le
@@ -98,6 +109,7 @@ module _ (settings : Settings) (range : AreInRange settings) (first : ℕ) (mach
       (answer.number == number_of first machine.round) refl
 
   -- the CPU hears a frame
-  pub keeps_heard : (place : ℕ) (frame : Sent) → machine.last_to_cpu ≤ place + 1 → slice_get machine.to_cpu place ≡ Some frame
+  pub keeps_heard : (place : ℕ) (frame : Sent) → machine.last_to_cpu ≤ place + 1
+      → slice_get machine.to_cpu place ≡ Some frame
       → HasInvariant settings first (heard first machine (place + 1) (Some frame))
   keeps_heard place frame le at = heard_frame place frame le at (block_in frame.octets) refl

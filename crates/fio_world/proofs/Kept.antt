@@ -8,13 +8,13 @@ use Rattle.fio_message.specs.Answers.{answer_octets}
 use Rattle.fio_message.specs.Blocks.{Block}
 use Rattle.fio_message.specs.Decoding.{block_in}
 use Rattle.fio_module.specs.Settings.{Settings}
-use Rattle.fio_module.specs.Life.{Received, Life, life_of}
+use Rattle.fio_module.specs.Life.{History, Received, Life, life_of}
 use Rattle.fio_module.specs.Log.{Transition, whole_log}
 use Rattle.fio_module.specs.Blocks.{MadeBlock, latest_poll, is_new, blocks_of, next_block}
 use Rattle.fio_module.specs.Sendings.{Sending, is_out_of_sequence, first_sending, sent_again, latest_sending}
 use Rattle.fio_world.specs.Link.{Sent, Machine, number_of, answered}
 use Rattle.fio_world.specs.Frames.{HasPoll, received_numbers}
-use Rattle.fio_world.specs.Rounds.{next_round, PollsOf, BlockAnswersOf}
+use Rattle.fio_world.specs.Rounds.{PollsAreInOrder, next_round, PollsOf, BlockAnswersOf}
 use Rattle.fio_world.proofs.RoundNumbers.{number_of-next, rounds_from_numbers}
 use Rattle.fio_world.proofs.AllLives.{all_blocks, reached}
 use Rattle.fio_world.proofs.PollOrder.{polls-passed, polls-received}
@@ -25,7 +25,8 @@ use Rattle.fio_world.proofs.RisingPieces.{RecordRises}
 -- What every run keeps of a machine, for the joined log of its module, its blocks, the place from
 -- which the next may take, the latest poll of its present life, the numbers of all polls received,
 -- and the rounds of those that made the blocks.
-pub record Invariant (first : ℕ) (log : List Transition) (blocks : List MadeBlock) (limit : ℕ) (latest : Option ℕ) (numbers makers : List ℕ) (machine : Machine) : Type 0 where
+pub record Invariant (first : ℕ) (log : List Transition) (blocks : List MadeBlock) (limit : ℕ)
+    (latest : Option ℕ) (numbers makers : List ℕ) (machine : Machine) : Type 0 where
   pub polls : PollsOf first machine
   pub answers : BlockAnswersOf machine
   pub at_most : next_round machine.polls ≤ machine.round + 1
@@ -36,6 +37,7 @@ pub record Invariant (first : ℕ) (log : List Transition) (blocks : List MadeBl
   pub carry : AnswersCarryMade first blocks makers machine.to_cpu
   pub rising : RecordRises log blocks makers limit machine.round machine.items
 
+-- the same for a machine, of what has reached its module
 abbrev pub HasInvariant : Settings → ℕ → Machine → Type 0
 HasInvariant settings first machine =
     Invariant first (whole_log machine.history) (all_blocks settings machine.history) (reached settings machine.history)
@@ -48,7 +50,9 @@ abbrev pub Meets : Bool → ℕ → Option ℕ → ℕ → ℕ → Type 0
 Meets true round latest number next = is_out_of_sequence latest number ≡ false
 Meets false round latest number next = round + 1 ≡ next
 
-meets_some : (first round number before : ℕ) (polls older : List ℕ) (new : Bool) → map (number_of first) polls ≡ before ∷ older
+-- where a poll was received before
+meets_some : (first round number before : ℕ) (polls older : List ℕ) (new : Bool)
+    → map (number_of first) polls ≡ before ∷ older
     → number ≡ number_of first round → round ≤ next_round polls → next_round polls ≤ round + 1
     → is_new (Some before) number ≡ new → Meets new round (Some before) number (next_round polls)
 meets_some first round number before [] older new known numbered low high is = absurd (cc known)
@@ -67,7 +71,8 @@ meets_some first round number before (s ∷ ss) older false known numbered low h
     omega arith
 
 -- a poll that is received is one or the other
-pub meets : (first round number : ℕ) (latest : Option ℕ) (polls numbers : List ℕ) (new : Bool) → map (number_of first) polls ≡ numbers
+pub meets : (first round number : ℕ) (latest : Option ℕ) (polls numbers : List ℕ) (new : Bool)
+    → map (number_of first) polls ≡ numbers
     → ((n : ℕ) → latest ≡ Some n → (older : List ℕ) × (numbers ≡ n ∷ older))
     → number ≡ number_of first round → round ≤ next_round polls → next_round polls ≤ round + 1
     → is_new latest number ≡ new → Meets new round latest number (next_round polls)
@@ -76,6 +81,27 @@ meets first round number None polls numbers false known newest numbered low high
 meets first round number (Some before) polls numbers new known newest numbered low high is =
     let n = newest before refl in
     meets_some first round number before polls n.0 new (known ∙ n.1) numbered low high is
+
+-- it holds of a machine whose module has another history too, where the record rises through its log, and the
+-- latest poll of its present life, if any, is the same
+pub keeps_history : (first : ℕ) (log log' : List Transition) (blocks : List MadeBlock) (limit limit' : ℕ)
+    (latest latest' : Option ℕ) (numbers makers : List ℕ) (machine : Machine) (history : History)
+    → Invariant first log blocks limit latest numbers makers machine
+    → ((n : ℕ) → latest' ≡ Some n → latest ≡ Some n)
+    → RecordRises log' blocks makers limit' machine.round machine.items
+    → Invariant first log' blocks limit' latest' numbers makers (record machine { history = history })
+keeps_history first log log' blocks limit limit' latest latest' numbers makers machine history i same rises =
+    record {
+      polls = i.polls;
+      answers = i.answers;
+      at_most = i.at_most;
+      numbered = i.numbered;
+      newest = λ n is. i.newest n (same n is);
+      makers_in_order = i.makers_in_order;
+      maker = λ n is. i.maker n (same n is);
+      carry = i.carry;
+      rising = rises;
+    }
 
 -- the machine after its module has received a frame at this place that is no poll, and these
 -- answers were sent
@@ -109,13 +135,21 @@ sending_if settings life number new =
 abbrev pub makers_if : List ℕ → ℕ → Bool → List ℕ
 makers_if makers round new = if new then makers ++ round ∷ [] else makers
 
-module _ (first : ℕ) (log : List Transition) (blocks : List MadeBlock) (limit : ℕ) (latest : Option ℕ) (numbers makers : List ℕ) (machine : Machine)
-    (i : Invariant first log blocks limit latest numbers makers machine) (place : ℕ) (frame : Sent) (in_order : machine.last_to_module ≤ place + 1) where
+module _ (first : ℕ) (log : List Transition) (blocks : List MadeBlock) (limit : ℕ)
+    (latest : Option ℕ) (numbers makers : List ℕ) (machine : Machine)
+    (i : Invariant first log blocks limit latest numbers makers machine)
+    (place : ℕ) (frame : Sent) (in_order : machine.last_to_module ≤ place + 1) where
+  -- the polls sent are in order after the delivery of any frame
+  passed : PollsAreInOrder first machine.to_module (place + 1) machine.round (next_round machine.polls)
+  passed =
+      polls-passed first machine.to_module machine.last_to_module machine.round
+      (next_round machine.polls) i.polls (place + 1) in_order
+
   -- a frame that is no poll is received, and what it gets is no block answer
-  pub keeps_other : (reply : Option Answer) → ((answer : Answer) → reply ≡ Some answer → block_in (answer_octets answer) ≡ None)
+  pub keeps_other : (reply : Option Answer)
+      → ((answer : Answer) → reply ≡ Some answer → block_in (answer_octets answer) ≡ None)
       → Invariant first log blocks limit latest numbers makers (after_other machine place frame (answered reply frame.round))
   keeps_other None other =
-      let passed = polls-passed first machine.to_module machine.last_to_module machine.round (next_round machine.polls) i.polls (place + 1) in_order in
       subst (λ frames. Invariant first log blocks limit latest numbers makers (record machine {
         last_to_module = place + 1;
         history = Received frame.octets ∷ machine.history;
@@ -135,7 +169,7 @@ module _ (first : ℕ) (log : List Transition) (blocks : List MadeBlock) (limit 
       let f : Sent = record { octets = answer_octets answer; round = frame.round } in
       let none : block_in (answer_octets answer) ≡ None = other answer refl in
       record {
-        polls = polls-passed first machine.to_module machine.last_to_module machine.round (next_round machine.polls) i.polls (place + 1) in_order;
+        polls = passed;
         answers = answers-other machine.to_cpu machine.last_to_cpu machine.round (next_round machine.polls) i.answers f none;
         at_most = i.at_most;
         numbered = i.numbered;
@@ -150,7 +184,8 @@ module _ (first : ℕ) (log : List Transition) (blocks : List MadeBlock) (limit 
   pub keeps_poll : (number limit' : ℕ) (blocks' : List MadeBlock) (makers' : List ℕ) (answer : Block) (octets : List ℕ)
       → HasPoll machine.to_module place number frame.round → block_in octets ≡ Some answer
       → MakersAreInOrder makers' (frame.round + 1) blocks' → NewestIsMaker makers' (frame.round + 1)
-      → AnswersCarryMade first blocks' makers' machine.to_cpu → CarriesMadeOf first blocks' makers' answer frame.round
+      → AnswersCarryMade first blocks' makers' machine.to_cpu
+      → CarriesMadeOf first blocks' makers' answer frame.round
       → RecordRises log blocks' makers' limit' machine.round machine.items
       → Invariant first log blocks' limit' (Some number) (number ∷ numbers) makers'
       (after_poll machine place frame (record { octets = octets; round = frame.round } ∷ []))
@@ -160,7 +195,9 @@ module _ (first : ℕ) (log : List Transition) (blocks : List MadeBlock) (limit 
       let high : next ≤ frame.round + 1 = i.polls.ahead place number frame.round in_order poll in
       let named : number ≡ number_of first frame.round = i.polls.numbers place number frame.round poll in
       record {
-        polls = polls-received first machine.to_module machine.last_to_module machine.round next i.polls place number frame.round poll;
+        polls =
+            polls-received first machine.to_module machine.last_to_module machine.round next i.polls
+            place number frame.round poll;
         answers = answers-more machine.to_cpu machine.last_to_cpu machine.round next i.answers f frame.round refl high;
         at_most = omega (arith, i.polls.sent place number frame.round poll);
         numbered = ap (λ n. n ∷ map (number_of first) machine.polls) (sym named) ∙ ap (λ ns. number ∷ ns) i.numbered;

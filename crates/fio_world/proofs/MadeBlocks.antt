@@ -11,38 +11,47 @@ use Rattle.fio_module.specs.Life.{filter_events}
 use Rattle.fio_module.specs.Blocks.{MadeBlock, latest_poll, is_new, blocks_of, next_block, newest_end, start_after, count_from}
 
 -- all elements of two lists are all of both
-pub each-append : {A : Type 0} (P : A → Type 0) (xs ys : List A) → AllByRecursion P xs → AllByRecursion P ys → AllByRecursion P (xs ++ ys)
+pub each-append : {A : Type 0} (P : A → Type 0) (xs ys : List A) → AllByRecursion P xs → AllByRecursion P ys
+    → AllByRecursion P (xs ++ ys)
 each-append P [] ys p q = q
 each-append P (x ∷ xs) ys p q = (p.0, each-append P xs ys p.1 q)
 
-pub each-take : {A : Type 0} (P : A → Type 0) (n : ℕ) (xs : List A) → AllByRecursion P xs → AllByRecursion P (take n xs)
+-- the first of a list are all
+pub each-take : {A : Type 0} (P : A → Type 0) (n : ℕ) (xs : List A) → AllByRecursion P xs
+    → AllByRecursion P (take n xs)
 each-take P zero xs p = tt
 each-take P (suc n) [] p = tt
 each-take P (suc n) (x ∷ xs) p = (p.0, each-take P n xs p.1)
 
-pub each-drop : {A : Type 0} (P : A → Type 0) (n : ℕ) (xs : List A) → AllByRecursion P xs → AllByRecursion P (drop n xs)
+-- and so are the last
+pub each-drop : {A : Type 0} (P : A → Type 0) (n : ℕ) (xs : List A) → AllByRecursion P xs
+    → AllByRecursion P (drop n xs)
 each-drop P zero xs p = p
 each-drop P (suc n) [] p = tt
 each-drop P (suc n) (x ∷ xs) p = each-drop P n xs p.1
 
 -- what holds of each element may be weakened
-pub each-map : {A : Type 0} (P Q : A → Type 0) → ((x : A) → P x → Q x) → (xs : List A) → AllByRecursion P xs → AllByRecursion Q xs
+pub each-map : {A : Type 0} (P Q : A → Type 0) → ((x : A) → P x → Q x) → (xs : List A) → AllByRecursion P xs
+    → AllByRecursion Q xs
 each-map P Q f [] p = tt
 each-map P Q f (x ∷ xs) p = (f x p.0, each-map P Q f xs p.1)
 
 -- what holds of each element holds of the one at a place
-pub each-at : {A : Type 0} (P : A → Type 0) (xs : List A) (k : ℕ) (x : A) → AllByRecursion P xs → slice_get xs k ≡ Some x → P x
+pub each-at : {A : Type 0} (P : A → Type 0) (xs : List A) (k : ℕ) (x : A) → AllByRecursion P xs
+    → slice_get xs k ≡ Some x → P x
 each-at P [] k x p is = absurd (cc is)
 each-at P (y ∷ ys) zero x p is = let same : y ≡ x = cc in subst P same p.0
 each-at P (y ∷ ys) (suc k) x p is = each-at P ys k x p.1 is
 
+-- where one more block is made, or none
 each_block-if : (P : MadeBlock → Type 0) (new : Bool) (blocks : List MadeBlock) (block : MadeBlock)
     → AllByRecursion P blocks → P block → AllByRecursion P (if new then blocks ++ block ∷ [] else blocks)
 each_block-if P true blocks block all one = each-append P blocks (block ∷ []) all (one, tt)
 each_block-if P false blocks block all one = all
 
 -- what holds of each block as it is made holds of all blocks of a life
-pub each_block : (P : MadeBlock → Type 0) (settings : Settings) → ((life : Life) → P (next_block settings life))
+pub each_block : (P : MadeBlock → Type 0) (settings : Settings)
+    → ((life : Life) → P (next_block settings life))
     → (life : Life) → AllByRecursion P (blocks_of settings life)
 each_block P settings made [] = tt
 each_block P settings made (Commanded (Poll number) ∷ life) =
@@ -54,12 +63,15 @@ each_block P settings made (other ∷ life) = each_block P settings made life
 abbrev HasInput : Transition → Type 0
 HasInput transition = transition.input < 128
 
+-- one input of a scan
 one_input : (reported : Bool) (life : Life) (input : ℕ) → input < 128
     → AllByRecursion HasInput (if reported then transition_at life input ∷ [] else [])
 one_input true life input low = (low, tt)
 one_input false life input low = tt
 
-below_inputs : (count raw : ℕ) (life : Life) → count ≤ 128 → AllByRecursion HasInput (transitions_below count raw life)
+-- the inputs of a scan below a number
+below_inputs : (count raw : ℕ) (life : Life) → count ≤ 128
+    → AllByRecursion HasInput (transitions_below count raw life)
 unfolding transitions_below
 below_inputs zero raw life low = tt
 below_inputs (suc input) raw life low =
@@ -86,7 +98,8 @@ pub record FitsAnswer (per_block : ℕ) (block : MadeBlock) : Type 0 where
   pub stamp : block.stamp < 2 ^ 32
 
 -- the block that a new poll makes next fits an answer
-pub next_fits : (settings : Settings) (life : Life) → FitsAnswer settings.per_block (next_block settings life)
+pub next_fits : (settings : Settings) (life : Life)
+    → FitsAnswer settings.per_block (next_block settings life)
 next_fits settings life =
     let log = log_of life in
     let start = start_after settings log (newest_end settings life) in
@@ -98,5 +111,6 @@ next_fits settings life =
     }
 
 -- each block of a life fits an answer
-pub blocks_fit : (settings : Settings) (life : Life) → AllByRecursion (FitsAnswer settings.per_block) (blocks_of settings life)
+pub blocks_fit : (settings : Settings) (life : Life)
+    → AllByRecursion (FitsAnswer settings.per_block) (blocks_of settings life)
 blocks_fit settings life = each_block (FitsAnswer settings.per_block) settings (next_fits settings) life

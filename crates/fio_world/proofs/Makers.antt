@@ -52,6 +52,7 @@ pub record CarriesMadeOf (first : ℕ) (blocks : List MadeBlock) (makers : List 
   pub made_by : slice_get makers place ≡ Some round
   pub carried : CarriesBlock answer block
 
+-- each block answer among these frames does
 abbrev pub AnswersCarryMade : ℕ → List MadeBlock → List ℕ → List Sent → Type 0
 AnswersCarryMade first blocks makers frames = (place : ℕ) (answer : Block) (round : ℕ) →
     HasBlock frames place answer round → CarriesMadeOf first blocks makers answer round
@@ -63,8 +64,10 @@ makers-repeated makers next later blocks le o =
     record { count = o.count; rise = o.rise; below = λ j r is. omega (arith, o.below j r is) }
 
 -- a poll of a round not below it makes a block
-pub makers-new : (makers : List ℕ) (next round : ℕ) (blocks : List MadeBlock) (block : MadeBlock) → next ≤ round + 1
-    → MakersAreInOrder makers next blocks → MakersAreInOrder (makers ++ round ∷ []) (round + 1) (blocks ++ block ∷ [])
+pub makers-new : (makers : List ℕ) (next round : ℕ) (blocks : List MadeBlock) (block : MadeBlock)
+    → next ≤ round + 1
+    → MakersAreInOrder makers next blocks
+    → MakersAreInOrder (makers ++ round ∷ []) (round + 1) (blocks ++ block ∷ [])
 makers-new makers next round blocks block high o =
     record {
       count = omega (arith, length-append makers (round ∷ []), length-append blocks (block ∷ []), o.count);
@@ -85,7 +88,8 @@ makers-new makers next round blocks block high o =
     }
 
 -- a frame is sent that is no block answer
-pub carry-other : (first : ℕ) (blocks : List MadeBlock) (makers : List ℕ) (frames : List Sent) (f : Sent) → block_in f.octets ≡ None
+pub carry-other : (first : ℕ) (blocks : List MadeBlock) (makers : List ℕ) (frames : List Sent) (f : Sent)
+    → block_in f.octets ≡ None
     → AnswersCarryMade first blocks makers frames → AnswersCarryMade first blocks makers (frames ++ f ∷ [])
 carry-other first blocks makers frames f none carry p a r h = carry p a r (block_before_other frames f p a r none h)
 

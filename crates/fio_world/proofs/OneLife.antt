@@ -42,7 +42,8 @@ newest_number first (round ∷ older) = Some (number_of first round)
 -- What runs without restarts keep besides, for the blocks of the one life and its latest poll: the
 -- newest poll received made the newest block, each block was made by a poll of its round, the
 -- record is what the taken blocks are, and block answers say which polls were repeated.
-pub record InOneLife (first : ℕ) (blocks : List MadeBlock) (latest : Option ℕ) (makers : List ℕ) (machine : Machine) : Type 0 where
+pub record InOneLife (first : ℕ) (blocks : List MadeBlock) (latest : Option ℕ) (makers : List ℕ)
+    (machine : Machine) : Type 0 where
   pub made : next_round machine.polls ≡ length blocks
   pub own : (k r : ℕ) → slice_get makers k ≡ Some r → r ≡ k
   pub polled : latest ≡ newest_number first machine.polls
@@ -54,6 +55,7 @@ pub record HasNoPast (settings : Settings) (history : History) : Type 0 where
   pub log : past_log history ≡ []
   pub blocks : past_blocks settings history ≡ []
 
+-- blocks behind nothing are where they were
 behind_nothing : (blocks : List MadeBlock) → map (behind 0) blocks ≡ blocks
 behind_nothing [] = refl
 behind_nothing (block ∷ blocks) =
@@ -80,8 +82,10 @@ abbrev pub Continues : Bool → ℕ → List ℕ → Type 0
 Continues true round polls = (round ≡ next_round polls) × (is_repeated round polls ≡ false)
 Continues false round polls = (round + 1 ≡ next_round polls) × (is_repeated round polls ≡ true)
 
+-- a poll that is received is one or the other
 pub continues : (first round number : ℕ) (polls : List ℕ) (new : Bool) → number ≡ number_of first round
-    → round ≤ next_round polls → next_round polls ≤ round + 1 → is_new (newest_number first polls) number ≡ new
+    → round ≤ next_round polls → next_round polls ≤ round + 1
+    → is_new (newest_number first polls) number ≡ new
     → Continues new round polls
 continues first round number [] true numbered low high is = (omega arith, refl)
 continues first round number [] false numbered low high is = absurd (cc is)
@@ -109,7 +113,8 @@ block_answers-push (g ∷ frames) f =
     before_more (Some block) round xs ys = refl
 
 -- an answer that carries a block is recorded as the block is
-pub recorded-carried : (answer : Block) (block : MadeBlock) → CarriesBlock answer block → recorded answer ≡ recorded_of block
+pub recorded-carried : (answer : Block) (block : MadeBlock) → CarriesBlock answer block
+    → recorded answer ≡ recorded_of block
 recorded-carried answer block b =
     ap (λ lost. (if lost then items.Gap ∷ [] else []) ++ map (item_of answer.stamp) answer.entries) b.lost
     ∙ ap (λ entries. (if block.lost then items.Gap ∷ [] else []) ++ map (item_of answer.stamp) entries) b.entries
@@ -125,9 +130,11 @@ record_of-next blocks m taken answer block found carries kept =
     ∙ sym (flat_map-append recorded_of (take m blocks) (block ∷ []))
     ∙ ap (flat_map recorded_of) (sym (take_one_more blocks m block found))
 
-module _ (first : ℕ) (blocks : List MadeBlock) (latest : Option ℕ) (makers : List ℕ) (machine : Machine) (o : InOneLife first blocks latest makers machine) (place : ℕ) (frame : Sent) where
+module _ (first : ℕ) (blocks : List MadeBlock) (latest : Option ℕ) (makers : List ℕ) (machine : Machine)
+    (o : InOneLife first blocks latest makers machine) (place : ℕ) (frame : Sent) where
   -- a frame that is no poll is received, and what it gets is no block answer
-  pub life-other : (reply : Option Answer) → ((answer : Answer) → reply ≡ Some answer → block_in (answer_octets answer) ≡ None)
+  pub life-other : (reply : Option Answer)
+      → ((answer : Answer) → reply ≡ Some answer → block_in (answer_octets answer) ≡ None)
       → InOneLife first blocks latest makers (after_other machine place frame (answered reply frame.round))
   life-other None other =
       record { made = o.made; own = o.own; polled = o.polled; kept = o.kept; again = ap block_answers (append-nil machine.to_cpu) ∙ o.again }
@@ -155,8 +162,10 @@ module _ (first : ℕ) (blocks : List MadeBlock) (latest : Option ℕ) (makers :
       ∙ ap (λ xs. xs ++ (frame.round, is_repeated frame.round machine.polls) ∷ []) o.again
 
   -- a new poll is received
-  pub life-new : (number : ℕ) (block : MadeBlock) (octets : List ℕ) (answer : Block) → number ≡ number_of first frame.round
-      → Continues true frame.round machine.polls → length makers ≡ length blocks → machine.round ≤ length blocks
+  pub life-new : (number : ℕ) (block : MadeBlock) (octets : List ℕ) (answer : Block)
+      → number ≡ number_of first frame.round
+      → Continues true frame.round machine.polls → length makers ≡ length blocks
+      → machine.round ≤ length blocks
       → block_in octets ≡ Some answer → says_again answer.status ≡ false
       → InOneLife first (blocks ++ block ∷ []) (Some number) (makers ++ frame.round ∷ [])
       (after_poll machine place frame (record { octets = octets; round = frame.round } ∷ []))
@@ -176,7 +185,8 @@ module _ (first : ℕ) (blocks : List MadeBlock) (latest : Option ℕ) (makers :
 
   -- the newest poll is received again
   pub life-repeated : (number : ℕ) (octets : List ℕ) (answer : Block) → number ≡ number_of first frame.round
-      → Continues false frame.round machine.polls → block_in octets ≡ Some answer → says_again answer.status ≡ true
+      → Continues false frame.round machine.polls → block_in octets ≡ Some answer
+      → says_again answer.status ≡ true
       → InOneLife first blocks (Some number) makers
       (after_poll machine place frame (record { octets = octets; round = frame.round } ∷ []))
   life-repeated number octets answer numbered met reads says =

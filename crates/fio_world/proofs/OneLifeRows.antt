@@ -12,7 +12,6 @@ use Rattle.fio_module.specs.Life.{Received, Life, life_of, with_command}
 use Rattle.fio_module.specs.Blocks.{latest_poll, is_new, blocks_of, next_block}
 use Rattle.fio_module.specs.Sendings.{Sending, answer_of, first_sending, sent_again}
 use Rattle.fio_module.specs.Replies.{answer_if}
-use Rattle.fio_cpu.specs.Record.{recorded}
 use Rattle.fio_world.specs.declared.event.Event.{Event}
 use Rattle.fio_world.specs.declared.event.Event.TheVariants as events
 use Rattle.fio_world.specs.Link.{Sent, Machine, start, number_of, frame_numbered, refusal, answered, polls_with, received, with_block, heard, after, Leads, IsRun}
@@ -26,7 +25,7 @@ use Rattle.fio_world.proofs.MadeBlocks.{next_fits}
 use Rattle.fio_world.proofs.Received.{no_block_reply, same_number, first_carries, again_carries, carried_back, said_again, latest_sent, newest_fits}
 use Rattle.fio_world.proofs.Makers.{makers_of, makers_after}
 use Rattle.fio_world.proofs.Kept.{HasInvariant, after_poll, blocks_if, sending_if, makers_if}
-use Rattle.fio_world.proofs.HeardRows.{same_round}
+use Rattle.fio_world.proofs.HeardRows.{after_taken, same_round}
 use Rattle.fio_world.proofs.Rows.{deliverable, frame_at_place, keeps-start, keeps}
 use Rattle.fio_world.proofs.OneLife.{InOneLife, HasNoPast, all_in_life, Continues, continues, record_of-next, life-other, life-new, life-repeated}
 
@@ -36,6 +35,7 @@ pub record HasOneLife (settings : Settings) (first : ℕ) (machine : Machine) : 
   pub in_life : InOneLife first (blocks_in settings machine) (latest_poll (life_of machine.history))
       (makers_of machine.history machine.polls) machine
 
+-- the start
 one_life-start : (settings : Settings) (first : ℕ) → HasOneLife settings first start
 one_life-start settings first =
     record {
@@ -43,7 +43,8 @@ one_life-start settings first =
       in_life = record { made = refl; own = λ k r is. absurd (cc is); polled = refl; kept = refl; again = refl };
     }
 
-module _ (settings : Settings) (range : AreInRange settings) (first : ℕ) (machine : Machine) (i : HasInvariant settings first machine) (o : HasOneLife settings first machine) where
+module _ (settings : Settings) (range : AreInRange settings) (first : ℕ) (machine : Machine)
+    (i : HasInvariant settings first machine) (o : HasOneLife settings first machine) where
   abbrev life : Life
   life = life_of machine.history
 
@@ -61,7 +62,9 @@ module _ (settings : Settings) (range : AreInRange settings) (first : ℕ) (mach
         number = b.number;
         in_sequence = b.in_sequence;
         block = b.block;
-        is_made = ap (slice_get (blocks_in settings machine)) same ∙ ap (λ blocks. slice_get blocks b.place) (sym all) ∙ b.is_made;
+        is_made =
+            ap (slice_get (blocks_in settings machine)) same
+            ∙ ap (λ blocks. slice_get blocks b.place) (sym all) ∙ b.is_made;
         carried = b.carried;
       }
 
@@ -79,7 +82,8 @@ module _ (settings : Settings) (range : AreInRange settings) (first : ℕ) (mach
       let upto : machine.round ≤ next_round machine.polls = i.answers.behind in
       life-new first (blocks_of settings life) (latest_poll life) makers machine o.in_life place frame
       number block (answer_octets (answer_of sending)) (said sending) named met count (omega arith)
-      (carried_back settings.per_block sending block range.few_per_block fits (next_fits settings life) (first_carries settings life number))
+      (carried_back settings.per_block sending block range.few_per_block fits
+      (next_fits settings life) (first_carries settings life number))
       (said_again sending)
   received_poll place number frame false is named fits met =
       let found = latest_sent settings life number (same_number (latest_poll life) number is) in
@@ -90,14 +94,17 @@ module _ (settings : Settings) (range : AreInRange settings) (first : ℕ) (mach
       (after_poll machine place frame (answered (option_map answer_of (option_map sent_again latest)) frame.round))) (sym l.is)
       (life-repeated first (blocks_of settings life) (latest_poll life) makers machine o.in_life place frame
       number (answer_octets (answer_of again)) (said again) named met
-      (carried_back settings.per_block again l.block range.few_per_block (omega arith) (newest_fits settings life l.earlier l.block l.made) (again_carries found.0 l.block l.carried))
+      (carried_back settings.per_block again l.block range.few_per_block (omega arith)
+      (newest_fits settings life l.earlier l.block l.made) (again_carries found.0 l.block l.carried))
       (said_again again))
 
   -- a frame is received that is read as this command, or as none
-  received_frame : (place : ℕ) (frame : Sent) → machine.last_to_module ≤ place + 1 → slice_get machine.to_module place ≡ Some frame
+  received_frame : (place : ℕ) (frame : Sent) → machine.last_to_module ≤ place + 1
+      → slice_get machine.to_module place ≡ Some frame
       → (command : Option Command) → command_in frame.octets ≡ command
       → InOneLife first (blocks_of settings (with_command command life)) (latest_poll (with_command command life))
-      (makers_after (polled_number command) (latest_poll life) (makers_of machine.history) (polls_with (polled_number command) frame.round machine.polls))
+      (makers_after (polled_number command) (latest_poll life) (makers_of machine.history)
+      (polls_with (polled_number command) frame.round machine.polls))
       (record machine {
         last_to_module = place + 1;
         history = Received frame.octets ∷ machine.history;
@@ -106,7 +113,8 @@ module _ (settings : Settings) (range : AreInRange settings) (first : ℕ) (mach
       })
   received_frame place frame le at (Some (commands.Poll number)) spells =
       let round = frame.round in
-      let poll : HasPoll machine.to_module place number round = record { frame = frame; at_place = at; spells = ap polled_number spells; of_round = refl } in
+      let poll : HasPoll machine.to_module place number round =
+      record { frame = frame; at_place = at; spells = ap polled_number spells; of_round = refl } in
       let low : round ≤ machine.round = i.polls.sent place number round poll in
       let high : next_round machine.polls ≤ round + 1 = i.polls.ahead place number round le poll in
       let upto : machine.round ≤ next_round machine.polls = i.answers.behind in
@@ -114,12 +122,15 @@ module _ (settings : Settings) (range : AreInRange settings) (first : ℕ) (mach
       let fits : number ≤ 255 = omega (arith, number_of-fits first round) in
       let new = is_new (latest_poll life) number in
       received_poll place number frame new refl named fits
-      (continues first round number machine.polls new named (omega arith) high (ap (λ latest. is_new latest number) (sym o.in_life.polled)))
+      (continues first round number machine.polls new named (omega arith) high
+      (ap (λ latest. is_new latest number) (sym o.in_life.polled)))
   received_frame place frame le at command spells =
       life-other first (blocks_of settings life) (latest_poll life) makers machine o.in_life place frame
       (answer_if settings life command) (no_block_reply settings life command refl)
 
-  one_life_received : (place : ℕ) (frame : Sent) → machine.last_to_module ≤ place + 1 → slice_get machine.to_module place ≡ Some frame
+  -- the module receives a frame
+  one_life_received : (place : ℕ) (frame : Sent) → machine.last_to_module ≤ place + 1
+      → slice_get machine.to_module place ≡ Some frame
       → HasOneLife settings first (received settings machine (place + 1) (Some frame))
   one_life_received place frame le at =
       record {
@@ -136,16 +147,19 @@ module _ (settings : Settings) (range : AreInRange settings) (first : ℕ) (mach
         in_life = record { made = l.made; own = l.own; polled = l.polled; kept = l.kept; again = l.again };
       }
 
-  taken_or_not : (place : ℕ) (answer : Block) (round : ℕ) → machine.last_to_cpu ≤ place + 1 → HasBlock machine.to_cpu place answer round
+  -- a block answer is taken, or is not
+  taken_or_not : (place : ℕ) (answer : Block) (round : ℕ) → machine.last_to_cpu ≤ place + 1
+      → HasBlock machine.to_cpu place answer round
       → (same : Bool) → (answer.number == number_of first machine.round) ≡ same
-      → HasOneLife settings first (if same then record machine { last_to_cpu = place + 1; round = machine.round + 1; items = machine.items ++ recorded answer } else record machine { last_to_cpu = place + 1 })
+      → HasOneLife settings first (if same then after_taken machine place answer else record machine { last_to_cpu = place + 1 })
   taken_or_not place answer round le block false is = one_life_passed (place + 1)
   taken_or_not place answer round le block true is =
       let alike : answer.number ≡ number_of first machine.round = grind (arith, nat_tests) in
       let same : round ≡ machine.round = same_round settings range first machine i place answer round le block alike in
       let b = carries_own place answer round block in
       let l = o.in_life in
-      let found : slice_get (blocks_in settings machine) machine.round ≡ Some b.block = ap (slice_get (blocks_in settings machine)) (sym same) ∙ b.is_made in
+      let found : slice_get (blocks_in settings machine) machine.round ≡ Some b.block =
+      ap (slice_get (blocks_in settings machine)) (sym same) ∙ b.is_made in
       record {
         no_past = record { log = o.no_past.log; blocks = o.no_past.blocks };
         in_life = record {
@@ -157,7 +171,9 @@ module _ (settings : Settings) (range : AreInRange settings) (first : ℕ) (mach
         };
       }
 
-  heard_frame : (place : ℕ) (frame : Sent) → machine.last_to_cpu ≤ place + 1 → slice_get machine.to_cpu place ≡ Some frame
+  -- a frame is heard in which a block was found, or none
+  heard_frame : (place : ℕ) (frame : Sent) → machine.last_to_cpu ≤ place + 1
+      → slice_get machine.to_cpu place ≡ Some frame
       → (found : Option Block) → block_in frame.octets ≡ found
       → HasOneLife settings first (with_block first (record machine { last_to_cpu = place + 1 }) found)
   heard_frame place frame le at None spells = one_life_passed (place + 1)
@@ -166,21 +182,24 @@ module _ (settings : Settings) (range : AreInRange settings) (first : ℕ) (mach
       (answer.number == number_of first machine.round) refl
 
   -- each row but a restart keeps it
-  one_life : (event : Event) → IsNotRestart event → refusal machine event ≡ None → HasOneLife settings first (after settings first machine event)
+  one_life : (event : Event) → IsNotRestart event → refusal machine event ≡ None
+      → HasOneLife settings first (after settings first machine event)
   one_life events.Restart none fine = absurd none
   one_life (events.ToModule index) none fine =
       let d = deliverable machine.to_module machine.last_to_module index fine in
       let at = d.numbered in
       let le : machine.last_to_module ≤ d.place + 1 = omega (arith, d.in_order) in
+      let here = sym (frame_at_place machine.to_module d.place ∙ d.found) in
       subst (λ n. HasOneLife settings first (received settings machine n (frame_numbered machine.to_module n))) (sym at)
-      (subst (λ f. HasOneLife settings first (received settings machine (d.place + 1) f)) (sym (frame_at_place machine.to_module d.place ∙ d.found))
+      (subst (λ f. HasOneLife settings first (received settings machine (d.place + 1) f)) here
       (one_life_received d.place d.frame le d.found))
   one_life (events.ToCpu index) none fine =
       let d = deliverable machine.to_cpu machine.last_to_cpu index fine in
       let at = d.numbered in
       let le : machine.last_to_cpu ≤ d.place + 1 = omega (arith, d.in_order) in
+      let here = sym (frame_at_place machine.to_cpu d.place ∙ d.found) in
       subst (λ n. HasOneLife settings first (heard first machine n (frame_numbered machine.to_cpu n))) (sym at)
-      (subst (λ f. HasOneLife settings first (heard first machine (d.place + 1) f)) (sym (frame_at_place machine.to_cpu d.place ∙ d.found))
+      (subst (λ f. HasOneLife settings first (heard first machine (d.place + 1) f)) here
       (heard_frame d.place d.frame le d.found (block_in d.frame.octets) refl))
   one_life event none fine =
       let l = o.in_life in
@@ -194,8 +213,11 @@ pub record IsKept (settings : Settings) (first : ℕ) (machine : Machine) : Type
   pub always : HasInvariant settings first machine
   pub one_life : HasOneLife settings first machine
 
-kept_all : (settings : Settings) → AreInRange settings → (first : ℕ) (events : List Event) (machine last : Machine)
-    → HaveNoRestart events → Leads settings first machine events last → IsKept settings first machine → IsKept settings first last
+-- events that lead on keep it
+kept_all : (settings : Settings) → AreInRange settings
+    → (first : ℕ) (events : List Event) (machine last : Machine)
+    → HaveNoRestart events → Leads settings first machine events last → IsKept settings first machine
+    → IsKept settings first last
 kept_all settings range first [] machine last none leads k = subst (IsKept settings first) (sym leads) k
 kept_all settings range first (event ∷ events) machine last none leads k =
     kept_all settings range first events (after settings first machine event) last none.1 leads.1
@@ -205,7 +227,8 @@ kept_all settings range first (event ∷ events) machine last none leads k =
     })
 
 -- every run without restarts keeps all of it
-pub kept : (settings : Settings) → AreInRange settings → (first : ℕ) (events : List Event) (machine : Machine)
+pub kept : (settings : Settings) → AreInRange settings
+    → (first : ℕ) (events : List Event) (machine : Machine)
     → IsRun settings first events machine → HaveNoRestart events → IsKept settings first machine
 kept settings range first events machine run none =
     kept_all settings range first events start machine none run

@@ -17,13 +17,15 @@ use Rattle.fio_world.proofs.Places.{get_part}
 
 -- pieces from one place to another, and pieces from there on
 pub pieces-append : (settings : Settings) (life : Life) (from next to : ℕ) (ps qs : List Piece)
-    → ArePieces settings life from ps next → ArePieces settings life next qs to → ArePieces settings life from (ps ++ qs) to
+    → ArePieces settings life from ps next → ArePieces settings life next qs to
+    → ArePieces settings life from (ps ++ qs) to
 pieces-append settings life from next to [] qs p q = subst (λ n. ArePieces settings life n qs to) p q
 pieces-append settings life from next to (Got entry ∷ ps) qs p q =
     (p.0, pieces-append settings life (from + 1) next to ps qs p.1 q)
 pieces-append settings life from next to (Gap ∷ ps) qs p q =
     (p.0, p.1, pieces-append settings life p.0 next to ps qs p.2 q)
 
+-- transitions as pieces
 abbrev got : List Transition → List Piece
 got transitions = map (λ transition. Got (entry_of transition)) transitions
 
@@ -45,7 +47,8 @@ run_of_log settings life from (t ∷ ts) at =
 
 -- the transitions of a block stand in the log from its start up to its end
 pub part_stands : (log : List Transition) (per_block : ℕ) (block : MadeBlock) → IsPartOf log per_block block
-    → (i : ℕ) (t : Transition) → slice_get block.transitions i ≡ Some t → slice_get log (block.start + i) ≡ Some t
+    → (i : ℕ) (t : Transition) → slice_get block.transitions i ≡ Some t
+    → slice_get log (block.start + i) ≡ Some t
 part_stands log per_block block part i t is =
     get_part (block.end - block.start) block.start log i t (ap (λ ts. slice_get ts i) (sym part.transitions) ∙ is)
 
@@ -59,7 +62,9 @@ part_count log per_block block part =
     let within : block.end ≤ length log = part.within in
     omega (arith, length-take (block.end - block.start) (drop block.start log), length-drop block.start log)
 
-block_run : (settings : Settings) (life : Life) (block : MadeBlock) → IsPartOf (log_of life) settings.per_block block
+-- the entries of a block are pieces of the log from its start up to its end
+block_run : (settings : Settings) (life : Life) (block : MadeBlock)
+    → IsPartOf (log_of life) settings.per_block block
     → ArePieces settings life block.start (got block.transitions) block.end
 block_run settings life block part =
     subst (ArePieces settings life block.start (got block.transitions)) (part_count (log_of life) settings.per_block block part)
@@ -96,6 +101,7 @@ blocks_pieces settings life before (block ∷ blocks) follow made =
     pieces-append settings life before block.end (last_end block.end blocks) (pieces_of block) (flat_map pieces_of blocks)
     (subst (λ n. ArePieces settings life n (pieces_of block) block.end) follow.0 first) rest
 
+-- the first of blocks that follow one another do so
 follow-take : (log : List Transition) (per_block before m : ℕ) (blocks : List MadeBlock)
     → FollowOneAnother log per_block before blocks → FollowOneAnother log per_block before (take m blocks)
 follow-take log per_block before zero blocks follow = tt
@@ -104,7 +110,8 @@ follow-take log per_block before (suc m) (block ∷ blocks) follow =
     (follow.0, follow.1, follow-take log per_block block.end m blocks follow.2)
 
 -- what stands among the first elements stands among all
-get_in_take : {A : Type 0} (m : ℕ) (xs : List A) (k : ℕ) (x : A) → slice_get (take m xs) k ≡ Some x → slice_get xs k ≡ Some x
+get_in_take : {A : Type 0} (m : ℕ) (xs : List A) (k : ℕ) (x : A) → slice_get (take m xs) k ≡ Some x
+    → slice_get xs k ≡ Some x
 get_in_take zero xs k x is = absurd (cc is)
 get_in_take (suc m) [] k x is = is
 get_in_take (suc m) (y ∷ ys) zero x is = is
@@ -122,7 +129,8 @@ taken_are_pieces settings life m within =
     (λ k block is. contains_found blocks k block (get_in_take m blocks k block is))
 
 -- the element at a place begins what is left from there
-drop_found : {A : Type 0} (xs : List A) (k : ℕ) (x : A) → slice_get xs k ≡ Some x → drop k xs ≡ x ∷ drop (k + 1) xs
+drop_found : {A : Type 0} (xs : List A) (k : ℕ) (x : A) → slice_get xs k ≡ Some x
+    → drop k xs ≡ x ∷ drop (k + 1) xs
 drop_found [] k x is = absurd (cc is)
 drop_found (y ∷ ys) zero x is = let same : y ≡ x = cc in ap (λ z. z ∷ ys) same
 drop_found (y ∷ ys) (suc k) x is =
@@ -130,7 +138,8 @@ drop_found (y ∷ ys) (suc k) x is =
     drop_found ys k x is ∙ ap (λ n. x ∷ drop n (y ∷ ys)) next
 
 -- pieces begin what is left of the log from their first place
-begin_rest : (settings : Settings) (life : Life) (from : ℕ) (pieces : List Piece) (to : ℕ) → ArePieces settings life from pieces to
+begin_rest : (settings : Settings) (life : Life) (from : ℕ) (pieces : List Piece) (to : ℕ)
+    → ArePieces settings life from pieces to
     → (rest : List Entry) × (drop from (map entry_of (log_of life)) ≡ until_gap pieces ++ rest)
 begin_rest settings life from [] to p = (drop from (map entry_of (log_of life)), refl)
 begin_rest settings life from (Gap ∷ pieces) to p = (drop from (map entry_of (log_of life)), refl)

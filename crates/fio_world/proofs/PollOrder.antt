@@ -21,6 +21,7 @@ poll_after_push frames f p n r h =
       )
     ]
 
+-- a poll stands among the frames
 poll_within : (frames : List Sent) (p n r : ℕ) → HasPoll frames p n r → p < length frames
 poll_within frames p n r h = slice_get_within frames p h.frame h.at_place
 
@@ -71,7 +72,8 @@ module _ (first : ℕ) (frames : List Sent) (last round next : ℕ) (o : PollsAr
       record { numbers = o.numbers; rise = o.rise; sent = o.sent; ahead = λ p n r far h. o.ahead p n r (omega arith) h }
 
   -- a poll is delivered
-  pub polls-received : (place n r : ℕ) → HasPoll frames place n r → PollsAreInOrder first frames (place + 1) round (r + 1)
+  pub polls-received : (place n r : ℕ) → HasPoll frames place n r
+      → PollsAreInOrder first frames (place + 1) round (r + 1)
   polls-received place n r poll =
       record {
         numbers = o.numbers;

@@ -30,19 +30,23 @@ got_entries : (stamp : ℕ) (ts : List Transition)
 got_entries stamp [] = refl
 got_entries stamp (t ∷ ts) = ap (λ ps. Got (entry_of t) ∷ ps) (got_entries stamp ts)
 
+-- the same with its gap mark
 got_marked : (lost : Bool) (stamp : ℕ) (ts : List Transition)
     → map piece_of ((if lost then items.Gap ∷ [] else []) ++ map (item_of stamp) (map entry_of ts))
     ≡ (if lost then Gap ∷ [] else []) ++ map (λ transition. Got (entry_of transition)) ts
 got_marked true stamp ts = ap (λ ps. Gap ∷ ps) (got_entries stamp ts)
 got_marked false stamp ts = got_entries stamp ts
 
-got_blocks : (blocks : List MadeBlock) → map piece_of (flat_map recorded_of blocks) ≡ flat_map pieces_of blocks
+-- and of several blocks
+got_blocks : (blocks : List MadeBlock)
+    → map piece_of (flat_map recorded_of blocks) ≡ flat_map pieces_of blocks
 got_blocks [] = refl
 got_blocks (block ∷ blocks) =
     map-append piece_of (recorded_of block) (flat_map recorded_of blocks)
     ∙ ap (λ ps. ps ++ map piece_of (flat_map recorded_of blocks)) (got_marked block.lost block.stamp block.transitions)
     ∙ ap (λ ps. pieces_of block ++ ps) (got_blocks blocks)
 
+-- of two numbers at most one apart
 one_behind : (m b : ℕ) → m ≤ b → b ≤ m + 1 → (m ≡ b) ⊎ (m + 1 ≡ b)
 one_behind m b low high =
     elim (cases_lt m b) as (λ _. (m ≡ b) ⊎ (m + 1 ≡ b)) [
@@ -67,6 +71,7 @@ rest_is_told settings life =
     }
 
 module _ (settings : Settings) (range : AreInRange settings) (first : ℕ) (machine : Machine) (k : IsKept settings first machine) where
+  -- the CPU has taken no more blocks than were made
   behind : machine.round ≤ length (blocks_in settings machine)
   behind = let made = k.one_life.in_life.made in omega (arith, k.always.answers.behind)
 
@@ -82,6 +87,7 @@ module _ (settings : Settings) (range : AreInRange settings) (first : ℕ) (mach
       (taken_are_pieces settings life machine.round behind) in
       record { pieces = pieces; prefix = pieces_begin_log settings life (map piece_of machine.items) _ pieces }
 
+  -- where the record stands
   stands : StandsAtTaken settings machine
   stands =
       let made : next_round machine.polls ≡ length (blocks_in settings machine) = k.one_life.in_life.made in
@@ -90,11 +96,13 @@ module _ (settings : Settings) (range : AreInRange settings) (first : ℕ) (mach
         items = taken_items;
       }
 
+  -- the times of its items
   times : HasTimes settings machine
   times =
       let blocks = blocks_in settings machine in
       subst (λ items. AllZip IsTimed items (flat_map sources_of (take machine.round blocks))) (sym k.one_life.in_life.kept)
-      (blocks_timed (take machine.round blocks) (each-take BlockTimely machine.round blocks (blocks_timely settings (life_of machine.history))))
+      (blocks_timed (take machine.round blocks)
+      (each-take BlockTimely machine.round blocks (blocks_timely settings (life_of machine.history))))
 
   -- all that is promised without restarts
   pub sound : IsSound settings first machine

@@ -27,8 +27,10 @@ use Rattle.fio_world.proofs.Spelled.{no_block_in, said, sending_back}
 use Rattle.fio_world.proofs.MadeBlocks.{FitsAnswer, blocks_fit, entries_fit}
 
 -- the answer to a command that is no poll is no block answer
-no_block_answer : (settings : Settings) (life : Life) (command : Command) → polled_number (Some command) ≡ None
-    → (answer : Answer) → answer_to settings life command ≡ Some answer → answered_block (Some answer) ≡ None
+no_block_answer : (settings : Settings) (life : Life) (command : Command)
+    → polled_number (Some command) ≡ None
+    → (answer : Answer) → answer_to settings life command ≡ Some answer
+    → answered_block (Some answer) ≡ None
 no_block_answer settings life (commands.Poll number) other answer is = absurd (cc other)
 no_block_answer settings life (commands.Other kind body) other answer is = absurd (cc is)
 no_block_answer settings life (commands.Status clear) other answer is = ap answered_block (sym is)
@@ -41,8 +43,10 @@ no_block_answer settings life (commands.Watchdog timeout) other answer is = ap a
 no_block_answer settings life commands.Identify other answer is = ap answered_block (sym is)
 
 -- the reply to octets that are no poll is not read as a block answer
-pub no_block_reply : (settings : Settings) (life : Life) (command : Option Command) → polled_number command ≡ None
-    → (answer : Answer) → answer_if settings life command ≡ Some answer → block_in (answer_octets answer) ≡ None
+pub no_block_reply : (settings : Settings) (life : Life) (command : Option Command)
+    → polled_number command ≡ None
+    → (answer : Answer) → answer_if settings life command ≡ Some answer
+    → block_in (answer_octets answer) ≡ None
 no_block_reply settings life None other answer is = absurd (cc is)
 no_block_reply settings life (Some command) other answer is =
     no_block_in answer (no_block_answer settings life command other answer is)
@@ -52,6 +56,7 @@ pub same_number : (latest : Option ℕ) (number : ℕ) → is_new latest number 
 same_number None number old = absurd (cc old)
 same_number (Some before) number old = let same : before ≡ number = grind (arith, nat_tests) in ap Some same
 
+-- after one more command, or none
 number_after : (command : Option Command) (life : Life) (numbers : List ℕ) (number : ℕ)
     → (latest_poll life ≡ Some number → (older : List ℕ) × (numbers ≡ number ∷ older))
     → latest_poll (with_command command life) ≡ Some number
@@ -76,11 +81,13 @@ pub first_carries : (settings : Settings) (life : Life) (number : ℕ)
 first_carries settings life number = record { entries = refl; more = refl; lost = refl; stamp = refl }
 
 -- a sending that is sent again carries the same block
-pub again_carries : (sending : Sending) (block : MadeBlock) → Carries sending block → Carries (sent_again sending) block
+pub again_carries : (sending : Sending) (block : MadeBlock) → Carries sending block
+    → Carries (sent_again sending) block
 again_carries sending block c = record { entries = c.entries; more = c.more; lost = c.lost; stamp = c.stamp }
 
 -- a sending of a block that fits an answer is read back
-pub carried_back : (per_block : ℕ) (sending : Sending) (block : MadeBlock) → per_block ≤ 255 → sending.number ≤ 255
+pub carried_back : (per_block : ℕ) (sending : Sending) (block : MadeBlock) → per_block ≤ 255
+    → sending.number ≤ 255
     → FitsAnswer per_block block → Carries sending block
     → block_in (answer_octets (answer_of sending)) ≡ Some (said sending)
 carried_back per_block sending block few number fits carried =
@@ -94,7 +101,8 @@ carried_back per_block sending block few number fits carried =
     (omega arith)
 
 -- and what is read carries the block
-pub carried_says : (sending : Sending) (block : MadeBlock) → Carries sending block → CarriesBlock (said sending) block
+pub carried_says : (sending : Sending) (block : MadeBlock) → Carries sending block
+    → CarriesBlock (said sending) block
 carried_says sending block carried =
     let status = status_back sending.more sending.lost sending.again sending.out_of_sequence in
     record {
@@ -104,13 +112,18 @@ carried_says sending block carried =
       stamp = carried.stamp;
     }
 
+-- what is read says that the number was asked for again where the sending does
 pub said_again : (sending : Sending) → says_again (said sending).status ≡ sending.again
 said_again sending = (status_back sending.more sending.lost sending.again sending.out_of_sequence).says_again
 
-pub said_out_of_sequence : (sending : Sending) → says_out_of_sequence (said sending).status ≡ sending.out_of_sequence
+-- and likewise that it is out of sequence
+pub said_out_of_sequence : (sending : Sending)
+    → says_out_of_sequence (said sending).status ≡ sending.out_of_sequence
 said_out_of_sequence sending = (status_back sending.more sending.lost sending.again sending.out_of_sequence).says_out_of_sequence
 
-sent_with : (latest : Option ℕ) (found : Option Sending) (number : ℕ) → latest ≡ option_map (λ sending. sending.number) found
+-- a sending is there where there is a poll
+sent_with : (latest : Option ℕ) (found : Option Sending) (number : ℕ)
+    → latest ≡ option_map (λ sending. sending.number) found
     → latest ≡ Some number → (sending : Sending) × (found ≡ Some sending) × (sending.number ≡ number)
 sent_with latest None number same is = absurd (cc (same, is))
 sent_with latest (Some sending) number same is = (sending, refl, same_Some _ _ (sym same ∙ is))
@@ -125,6 +138,7 @@ pub record IsLatestSending (settings : Settings) (life : Life) (polled : ℕ) (s
   pub made : blocks_of settings life ≡ earlier ++ block ∷ []
   pub carried : Carries sending block
 
+-- where a poll was received there is one
 pub latest_sent : (settings : Settings) (life : Life) (number : ℕ) → latest_poll life ≡ Some number
     → (sending : Sending) × IsLatestSending settings life number sending
 latest_sent settings life number is =
@@ -132,6 +146,7 @@ latest_sent settings life number is =
     let newest = sendings_carry settings life found.0 found.1 in
     (found.0, record { is = found.1; number = found.2; earlier = newest.0; block = newest.1; made = newest.2; carried = newest.3 })
 
+-- what holds of each element holds of the last
 each-last : {A : Type 0} (P : A → Type 0) (xs : List A) (x : A) → AllByRecursion P (xs ++ x ∷ []) → P x
 each-last P [] x p = p.0
 each-last P (y ∷ ys) x p = each-last P ys x p.1

@@ -26,7 +26,8 @@ use Rattle.fio_world.proofs.Makers.{makers_of, makers_after, makers-repeated, ma
 use Rattle.fio_world.proofs.RisingPieces.{rises-new}
 use Rattle.fio_world.proofs.Kept.{Invariant, HasInvariant, meets, after_poll, blocks_if, sending_if, makers_if, keeps_other, keeps_poll}
 
-module _ (settings : Settings) (range : AreInRange settings) (first : ℕ) (machine : Machine) (i : HasInvariant settings first machine) where
+module _ (settings : Settings) (range : AreInRange settings) (first : ℕ) (machine : Machine)
+    (i : HasInvariant settings first machine) where
   abbrev h : History
   h = machine.history
 
@@ -46,9 +47,12 @@ module _ (settings : Settings) (range : AreInRange settings) (first : ℕ) (mach
   makers = makers_of h machine.polls
 
   -- a new poll is received
-  new_poll : (place number : ℕ) (frame : Sent) → machine.last_to_module ≤ place + 1 → HasPoll machine.to_module place number frame.round
+  new_poll : (place number : ℕ) (frame : Sent) → machine.last_to_module ≤ place + 1
+      → HasPoll machine.to_module place number frame.round
       → is_new (latest_poll life) number ≡ true
-      → Invariant first log (past_blocks settings h ++ map (behind past) (blocks_if settings life true)) (past + end_of (blocks_if settings life true)) (Some number) (number ∷ received_numbers h) (makers ++ frame.round ∷ [])
+      → Invariant first log (past_blocks settings h ++ map (behind past) (blocks_if settings life true))
+      (past + end_of (blocks_if settings life true)) (Some number) (number ∷ received_numbers h)
+      (makers ++ frame.round ∷ [])
       (after_poll machine place frame (answered (option_map answer_of (sending_if settings life number true)) frame.round))
   new_poll place number frame le poll is =
       let bs = blocks_of settings life in
@@ -60,7 +64,8 @@ module _ (settings : Settings) (range : AreInRange settings) (first : ℕ) (mach
       let upto : machine.round ≤ next_round machine.polls = i.answers.behind in
       let named : number ≡ number_of first round = i.polls.numbers place number round poll in
       let met : is_out_of_sequence (latest_poll life) number ≡ false =
-      meets first round number (latest_poll life) machine.polls (received_numbers h) true i.numbered i.newest named (omega arith) high is in
+      meets first round number (latest_poll life) machine.polls (received_numbers h) true i.numbered i.newest
+      named (omega arith) high is in
       let fits : number ≤ 255 = omega (arith, number_of-fits first round) in
       let grown : past_blocks settings h ++ map (behind past) (bs ++ block ∷ []) ≡ all ++ behind past block ∷ [] =
       ap (λ made. past_blocks settings h ++ made) (map-append (behind past) bs (block ∷ []))
@@ -72,9 +77,16 @@ module _ (settings : Settings) (range : AreInRange settings) (first : ℕ) (mach
       (after_poll machine place frame (answered (Some (answer_of sending)) round))) (sym grown)
       (keeps_poll first log all (reached settings h) (latest_poll life) (received_numbers h) makers machine i place frame le
       number limit (all ++ behind past block ∷ []) (makers ++ round ∷ []) (said sending) (answer_octets (answer_of sending)) poll
-      (carried_back settings.per_block sending block range.few_per_block fits (next_fits settings life) (first_carries settings life number))
+      (carried_back settings.per_block sending block range.few_per_block fits
+      (next_fits settings life) (first_carries settings life number))
       (makers-new makers (next_round machine.polls) round all (behind past block) high i.makers_in_order)
-      (record { place = length makers; round = round; last = length-append makers (round ∷ []); made_by = get_push makers round; newest = refl })
+      (record {
+        place = length makers;
+        round = round;
+        last = length-append makers (round ∷ []);
+        made_by = get_push makers round;
+        newest = refl;
+      })
       (carry-new first all makers machine.to_cpu (behind past block) round i.carry)
       (record {
         number = named;
@@ -85,10 +97,12 @@ module _ (settings : Settings) (range : AreInRange settings) (first : ℕ) (mach
         made_by = ap (slice_get (makers ++ round ∷ [])) (sym i.makers_in_order.count) ∙ get_push makers round;
         carried = record { entries = carries.entries; more = carries.more; lost = carries.lost; stamp = carries.stamp };
       })
-      (rises-new log all makers (reached settings h) limit machine.round round machine.items (behind past block) (omega arith) (omega arith) i.makers_in_order.count i.rising))
+      (rises-new log all makers (reached settings h) limit machine.round round machine.items
+      (behind past block) (omega arith) (omega arith) i.makers_in_order.count i.rising))
 
   -- the newest poll is received again
-  repeated_poll : (place number : ℕ) (frame : Sent) → machine.last_to_module ≤ place + 1 → HasPoll machine.to_module place number frame.round
+  repeated_poll : (place number : ℕ) (frame : Sent) → machine.last_to_module ≤ place + 1
+      → HasPoll machine.to_module place number frame.round
       → is_new (latest_poll life) number ≡ false
       → Invariant first log all (reached settings h) (Some number) (number ∷ received_numbers h) makers
       (after_poll machine place frame (answered (option_map answer_of (sending_if settings life number false)) frame.round))
@@ -99,7 +113,8 @@ module _ (settings : Settings) (range : AreInRange settings) (first : ℕ) (mach
       let upto : machine.round ≤ next_round machine.polls = i.answers.behind in
       let named : number ≡ number_of first round = i.polls.numbers place number round poll in
       let met : round + 1 ≡ next_round machine.polls =
-      meets first round number (latest_poll life) machine.polls (received_numbers h) false i.numbered i.newest named (omega arith) high is in
+      meets first round number (latest_poll life) machine.polls (received_numbers h) false i.numbered i.newest
+      named (omega arith) high is in
       let fits : number ≤ 255 = omega (arith, number_of-fits first round) in
       let known : latest_poll life ≡ Some number = same_number (latest_poll life) number is in
       let found = latest_sent settings life number known in
@@ -125,7 +140,8 @@ module _ (settings : Settings) (range : AreInRange settings) (first : ℕ) (mach
       (after_poll machine place frame (answered (option_map answer_of (option_map sent_again latest)) round))) (sym l.is)
       (keeps_poll first log all (reached settings h) (latest_poll life) (received_numbers h) makers machine i place frame le
       number (reached settings h) all makers (said again) (answer_octets (answer_of again)) poll
-      (carried_back settings.per_block again block range.few_per_block (omega arith) (newest_fits settings life l.earlier block l.made) carried)
+      (carried_back settings.per_block again block range.few_per_block (omega arith)
+      (newest_fits settings life l.earlier block l.made) carried)
       (makers-repeated makers (next_round machine.polls) (round + 1) all high i.makers_in_order)
       (record { place = m.place; round = round; last = m.last; made_by = m.made_by ∙ ap Some this; newest = refl })
       i.carry
@@ -141,18 +157,25 @@ module _ (settings : Settings) (range : AreInRange settings) (first : ℕ) (mach
       i.rising)
 
   -- a poll is received, new or not
-  received_poll : (place number : ℕ) (frame : Sent) → machine.last_to_module ≤ place + 1 → HasPoll machine.to_module place number frame.round
+  received_poll : (place number : ℕ) (frame : Sent) → machine.last_to_module ≤ place + 1
+      → HasPoll machine.to_module place number frame.round
       → (new : Bool) → is_new (latest_poll life) number ≡ new
-      → Invariant first log (past_blocks settings h ++ map (behind past) (blocks_if settings life new)) (past + end_of (blocks_if settings life new)) (Some number) (number ∷ received_numbers h) (makers_if makers frame.round new)
+      → Invariant first log (past_blocks settings h ++ map (behind past) (blocks_if settings life new))
+      (past + end_of (blocks_if settings life new)) (Some number) (number ∷ received_numbers h)
+      (makers_if makers frame.round new)
       (after_poll machine place frame (answered (option_map answer_of (sending_if settings life number new)) frame.round))
   received_poll place number frame le poll true is = new_poll place number frame le poll is
   received_poll place number frame le poll false is = repeated_poll place number frame le poll is
 
   -- a frame is received that is read as this command, or as none
-  received_frame : (place : ℕ) (frame : Sent) → machine.last_to_module ≤ place + 1 → slice_get machine.to_module place ≡ Some frame
+  received_frame : (place : ℕ) (frame : Sent) → machine.last_to_module ≤ place + 1
+      → slice_get machine.to_module place ≡ Some frame
       → (command : Option Command) → command_in frame.octets ≡ command
-      → Invariant first log (joined settings (past_blocks settings h) past (with_command command life)) (past + newest_end settings (with_command command life)) (latest_poll (with_command command life)) (number_with (polled_number command) (received_numbers h))
-      (makers_after (polled_number command) (latest_poll life) (makers_of h) (polls_with (polled_number command) frame.round machine.polls))
+      → Invariant first log (joined settings (past_blocks settings h) past (with_command command life))
+      (past + newest_end settings (with_command command life))
+      (latest_poll (with_command command life)) (number_with (polled_number command) (received_numbers h))
+      (makers_after (polled_number command) (latest_poll life) (makers_of h)
+      (polls_with (polled_number command) frame.round machine.polls))
       (record machine {
         last_to_module = place + 1;
         history = Received frame.octets ∷ h;
@@ -160,13 +183,15 @@ module _ (settings : Settings) (range : AreInRange settings) (first : ℕ) (mach
         polls = polls_with (polled_number command) frame.round machine.polls;
       })
   received_frame place frame le at (Some (commands.Poll number)) spells =
-      let poll : HasPoll machine.to_module place number frame.round = record { frame = frame; at_place = at; spells = ap polled_number spells; of_round = refl } in
+      let poll : HasPoll machine.to_module place number frame.round =
+      record { frame = frame; at_place = at; spells = ap polled_number spells; of_round = refl } in
       received_poll place number frame le poll (is_new (latest_poll life) number) refl
   received_frame place frame le at command spells =
       keeps_other first log all (reached settings h) (latest_poll life) (received_numbers h) makers machine i place frame le
       (answer_if settings life command) (no_block_reply settings life command refl)
 
   -- the module receives a frame
-  pub keeps_received : (place : ℕ) (frame : Sent) → machine.last_to_module ≤ place + 1 → slice_get machine.to_module place ≡ Some frame
+  pub keeps_received : (place : ℕ) (frame : Sent) → machine.last_to_module ≤ place + 1
+      → slice_get machine.to_module place ≡ Some frame
       → HasInvariant settings first (received settings machine (place + 1) (Some frame))
   keeps_received place frame le at = received_frame place frame le at (command_in frame.octets) refl

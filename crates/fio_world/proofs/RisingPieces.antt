@@ -27,23 +27,29 @@ RiseFrom entries from (Got entry ∷ pieces) to =
     (place : ℕ) × (from ≤ place) × (slice_get entries place ≡ Some entry) × RiseFrom entries (place + 1) pieces to
 
 -- what rises from a later place rises from an earlier one
-rise-earlier : (entries : List Entry) (a b : ℕ) (ps : List Piece) (to : ℕ) → a ≤ b → RiseFrom entries b ps to → RiseFrom entries a ps to
+rise-earlier : (entries : List Entry) (a b : ℕ) (ps : List Piece) (to : ℕ) → a ≤ b
+    → RiseFrom entries b ps to → RiseFrom entries a ps to
 rise-earlier entries a b [] to le h = omega arith
 rise-earlier entries a b (Gap ∷ ps) to le h = rise-earlier entries a b ps to le h
 rise-earlier entries a b (Got e ∷ ps) to le h = let low : b ≤ h.0 = h.1 in (h.0, omega arith, h.2, h.3)
 
-rise-append : (entries : List Entry) (a b c : ℕ) (ps qs : List Piece) → RiseFrom entries a ps b → RiseFrom entries b qs c
+-- pieces that rise up to a place, and pieces that rise from there on
+rise-append : (entries : List Entry) (a b c : ℕ) (ps qs : List Piece) → RiseFrom entries a ps b
+    → RiseFrom entries b qs c
     → RiseFrom entries a (ps ++ qs) c
 rise-append entries a b c [] qs p q = rise-earlier entries a b qs c p q
 rise-append entries a b c (Gap ∷ ps) qs p q = rise-append entries a b c ps qs p q
 rise-append entries a b c (Got e ∷ ps) qs p q = (p.0, p.1, p.2, rise-append entries (p.0 + 1) b c ps qs p.3 q)
 
-rise-more : (entries more : List Entry) (a b : ℕ) (ps : List Piece) → RiseFrom entries a ps b → RiseFrom (entries ++ more) a ps b
+-- what rises through entries rises through more
+rise-more : (entries more : List Entry) (a b : ℕ) (ps : List Piece) → RiseFrom entries a ps b
+    → RiseFrom (entries ++ more) a ps b
 rise-more entries more a b [] p = p
 rise-more entries more a b (Gap ∷ ps) p = rise-more entries more a b ps p
 rise-more entries more a b (Got e ∷ ps) p =
     (p.0, p.1, get_before_push entries more p.0 e p.2, rise-more entries more (p.0 + 1) b ps p.3)
 
+-- entries as pieces
 abbrev got : List Entry → List Piece
 got entries = map (λ entry. Got entry) entries
 
@@ -64,18 +70,22 @@ rise_run entries from at (e ∷ es) le each =
       subst (RiseFrom entries (at + 1) (got es)) end rest,
     )
 
+-- entries in the record, without times
 got_items : (stamp : ℕ) (es : List Entry) → map piece_of (map (item_of stamp) es) ≡ got es
 got_items stamp [] = refl
 got_items stamp (e ∷ es) = ap (λ ps. Got e ∷ ps) (got_items stamp es)
 
-rise_marked : (lost : Bool) (entries : List Entry) (from to stamp : ℕ) (es : List Entry) → RiseFrom entries from (got es) to
+-- with or without a gap mark before them
+rise_marked : (lost : Bool) (entries : List Entry) (from to stamp : ℕ) (es : List Entry)
+    → RiseFrom entries from (got es) to
     → RiseFrom entries from (map piece_of ((if lost then items.Gap ∷ [] else []) ++ map (item_of stamp) es)) to
 rise_marked true entries from to stamp es p = subst (λ ps. RiseFrom entries from ps to) (sym (got_items stamp es)) p
 rise_marked false entries from to stamp es p = subst (λ ps. RiseFrom entries from ps to) (sym (got_items stamp es)) p
 
 -- a block that stands in the log behind the record rises behind it
 pub rise_taken : (log : List Transition) (to : ℕ) (record_items : List Item) (answer : Block) (block : MadeBlock)
-    → RiseFrom (map entry_of log) 0 (map piece_of record_items) to → to ≤ block.start → StandsIn log block → CarriesBlock answer block
+    → RiseFrom (map entry_of log) 0 (map piece_of record_items) to → to ≤ block.start → StandsIn log block
+    → CarriesBlock answer block
     → RiseFrom (map entry_of log) 0 (map piece_of (record_items ++ recorded answer)) block.end
 rise_taken log to record_items answer block rises low stands carries =
     let entries = map entry_of log in
@@ -96,23 +106,27 @@ rise_taken log to record_items answer block rises low stands carries =
     entry_from (t ∷ ts) (suc i) e is = entry_from ts i e is
 
     entry_stands : (log : List Transition) (block : MadeBlock) → StandsIn log block → (i : ℕ) (e : Entry)
-        → slice_get (map entry_of block.transitions) i ≡ Some e → slice_get (map entry_of log) (block.start + i) ≡ Some e
+        → slice_get (map entry_of block.transitions) i ≡ Some e
+        → slice_get (map entry_of log) (block.start + i) ≡ Some e
     entry_stands log block stands i e is =
         let found = entry_from block.transitions i e is in
         slice_get-map entry_of log (block.start + i)
         ∙ ap (option_map entry_of) (stands.places i found.0 found.1) ∙ ap Some found.2
 
 -- the record rises to a place that no block of the CPU's round or a later one starts before
-pub record RecordRises (log : List Transition) (blocks : List MadeBlock) (makers : List ℕ) (limit round : ℕ) (taken : List Item) : Type 0 where
+pub record RecordRises (log : List Transition) (blocks : List MadeBlock) (makers : List ℕ)
+    (limit round : ℕ) (taken : List Item) : Type 0 where
   pub to : ℕ
   pub rises : RiseFrom (map entry_of log) 0 (map piece_of taken) to
   pub limited : to ≤ limit
-  pub ahead : (k : ℕ) (block : MadeBlock) (r : ℕ) → slice_get blocks k ≡ Some block → slice_get makers k ≡ Some r → round ≤ r
+  pub ahead : (k : ℕ) (block : MadeBlock) (r : ℕ) → slice_get blocks k ≡ Some block
+      → slice_get makers k ≡ Some r → round ≤ r
       → to ≤ block.start
 
 -- the log grows
 pub rises-longer : (log more : List Transition) (blocks : List MadeBlock) (makers : List ℕ) (limit round : ℕ) (taken : List Item)
-    → RecordRises log blocks makers limit round taken → RecordRises (log ++ more) blocks makers limit round taken
+    → RecordRises log blocks makers limit round taken
+    → RecordRises (log ++ more) blocks makers limit round taken
 rises-longer log more blocks makers limit round taken s =
     record {
       to = s.to;
@@ -124,13 +138,15 @@ rises-longer log more blocks makers limit round taken s =
 
 -- the next block may take from a later place on
 pub rises-further : (log : List Transition) (blocks : List MadeBlock) (makers : List ℕ) (limit later round : ℕ) (taken : List Item)
-    → limit ≤ later → RecordRises log blocks makers limit round taken → RecordRises log blocks makers later round taken
+    → limit ≤ later → RecordRises log blocks makers limit round taken
+    → RecordRises log blocks makers later round taken
 rises-further log blocks makers limit later round taken le s =
     record { to = s.to; rises = s.rises; limited = omega (arith, s.limited); ahead = s.ahead }
 
 -- one more block is made
 pub rises-new : (log : List Transition) (blocks : List MadeBlock) (makers : List ℕ) (limit later round r : ℕ) (taken : List Item) (block : MadeBlock)
-    → limit ≤ block.start → limit ≤ later → length makers ≡ length blocks → RecordRises log blocks makers limit round taken
+    → limit ≤ block.start → limit ≤ later → length makers ≡ length blocks
+    → RecordRises log blocks makers limit round taken
     → RecordRises log (blocks ++ block ∷ []) (makers ++ r ∷ []) later round taken
 rises-new log blocks makers limit later round r taken block low high count s =
     record {
@@ -151,6 +167,7 @@ abbrev Increase : ℕ → List ℕ → Type 0
 Increase from [] = Unit {0}
 Increase from (place ∷ places) = (from ≤ place) × Increase (place + 1) places
 
+-- such places rise strictly
 increasing : (from : ℕ) (places : List ℕ) → Increase from places → IsStrictlyIncreasing places
 increasing from [] p k less = absurd (omega arith)
 increasing from (place ∷ []) p k less = absurd (omega arith)
@@ -161,12 +178,14 @@ increasing from (place ∷ next ∷ places) p (suc k) less =
     (increasing (place + 1) (next ∷ places) p.1 k (omega arith))
 
 -- a record that rises so rises as its promise says
-pub rises_as_promised : (log : List Transition) (pieces : List Piece) (to : ℕ) → RiseFrom (map entry_of log) 0 pieces to → Rises log pieces
+pub rises_as_promised : (log : List Transition) (pieces : List Piece) (to : ℕ)
+    → RiseFrom (map entry_of log) 0 pieces to → Rises log pieces
 rises_as_promised log pieces to h =
     let found = places_from (map entry_of log) 0 pieces to h in
     record { places = found.0; rise = increasing 0 found.0 found.1; stand = found.2 }
   where
-    places_from : (entries : List Entry) (from : ℕ) (pieces : List Piece) (to : ℕ) → RiseFrom entries from pieces to
+    places_from : (entries : List Entry) (from : ℕ) (pieces : List Piece) (to : ℕ)
+        → RiseFrom entries from pieces to
         → (places : List ℕ) × Increase from places × (map (slice_get entries) places ≡ map Some (entries_got pieces))
     places_from entries from [] to h = ([], tt, refl)
     places_from entries from (Gap ∷ pieces) to h = places_from entries from pieces to h

@@ -11,5 +11,6 @@ pub number_of-next : (first round : ℕ) → number_of first (round + 1) ≡ (nu
 number_of-next first round = omega arith
 
 -- of two rounds at most one apart, the numbers are equal only if the rounds are
-pub rounds_from_numbers : (first r m : ℕ) → r ≤ m → m ≤ r + 1 → number_of first r ≡ number_of first m → r ≡ m
+pub rounds_from_numbers : (first r m : ℕ) → r ≤ m → m ≤ r + 1 → number_of first r ≡ number_of first m
+    → r ≡ m
 rounds_from_numbers first r m low high same = omega arith

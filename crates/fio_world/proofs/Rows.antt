@@ -1,5 +1,5 @@
 -- Each row of the link machine keeps what every run keeps.
-use Rattle.std.proofs.Common.{◌≡◌, ℕ, suc, ◌+◌, ◌-◌, ◌^◌, ◌<◌, ◌≤◌, List, ◌++◌, length, Some, None, slice_get, refl, ap, sym, subst, ◌∙◌, arith, length-append, append-nil}
+use Rattle.std.proofs.Common.{◌≡◌, ℕ, suc, ◌+◌, ◌-◌, ◌^◌, ◌<◌, ◌≤◌, List, ◌∷◌, ◌++◌, length, Some, None, slice_get, refl, ap, sym, subst, ◌∙◌, arith, length-append, append-nil}
 use Rattle.std.proofs.lemmas.Bool.Decides.{nat_tests}
 use Rattle.std.proofs.lemmas.Option.{same_Some}
 use Rattle.fio_message.specs.declared.commands.Command.{Command}
@@ -10,8 +10,8 @@ use Rattle.fio_message.proofs.MessageLaws.{poll_back}
 use Rattle.fio_module.specs.Settings.{Settings, AreInRange}
 use Rattle.fio_module.specs.Life.{Received, Restart, History, Life, life_of, with_command}
 use Rattle.fio_module.specs.Life as module_events
-use Rattle.fio_module.specs.Log.{log_of, whole_log, transitions_below}
-use Rattle.fio_module.specs.Blocks.{newest_end}
+use Rattle.fio_module.specs.Log.{Transition, log_of, whole_log, transitions_below}
+use Rattle.fio_module.specs.Blocks.{MadeBlock, latest_poll, newest_end}
 use Rattle.fio_module.proofs.BlockLaws.{blocks_end_within}
 use Rattle.fio_world.specs.declared.event.Event.{Event}
 use Rattle.fio_world.specs.declared.event.Event.TheVariants as events
@@ -25,8 +25,8 @@ use Rattle.fio_world.proofs.AllLives.{past_log, all_blocks, reached, whole_log-s
 use Rattle.fio_world.proofs.PollOrder.{polls-none, polls-sent}
 use Rattle.fio_world.proofs.AnswerOrder.{answers-none}
 use Rattle.fio_world.proofs.Makers.{makers_of}
-use Rattle.fio_world.proofs.RisingPieces.{rises-longer, rises-further}
-use Rattle.fio_world.proofs.Kept.{Invariant, HasInvariant}
+use Rattle.fio_world.proofs.RisingPieces.{RecordRises, rises-longer, rises-further}
+use Rattle.fio_world.proofs.Kept.{keeps_history, Invariant, HasInvariant}
 use Rattle.fio_world.proofs.ReceivedRows.{keeps_received}
 use Rattle.fio_world.proofs.HeardRows.{keeps_heard}
 
@@ -48,7 +48,8 @@ deliverable frames last index fine =
     record { place = index - 1; numbered = omega arith; frame = found.0; found = found.1; in_order = order }
 
 -- the frame with a number stands at the place before
-pub frame_at_place : (frames : List Sent) (place : ℕ) → frame_numbered frames (place + 1) ≡ slice_get frames place
+pub frame_at_place : (frames : List Sent) (place : ℕ)
+    → frame_numbered frames (place + 1) ≡ slice_get frames place
 frame_at_place frames place = let next : place + 1 ≡ suc place = omega arith in ap (frame_numbered frames) next
 
 -- the start
@@ -66,59 +67,60 @@ keeps-start settings first =
       rising = record { to = 0; rises = omega arith; limited = omega arith; ahead = λ k b r p q le. absurd (cc p) };
     }
 
-module _ (settings : Settings) (range : AreInRange settings) (first : ℕ) (machine : Machine) (i : HasInvariant settings first machine) where
+module _ (settings : Settings) (range : AreInRange settings) (first : ℕ) (machine : Machine)
+    (i : HasInvariant settings first machine) where
+  abbrev h : History
+  h = machine.history
+
+  abbrev blocks : List MadeBlock
+  blocks = all_blocks settings h
+
+  abbrev makers : List ℕ
+  makers = makers_of h machine.polls
+
+  -- the history grows, and neither the blocks nor the latest poll change
+  keeps_more : (log : List Transition) (event : module_events.Event)
+      → RecordRises log blocks makers (reached settings h) machine.round machine.items
+      → Invariant first log blocks (reached settings h) (latest_poll (life_of h)) (received_numbers h) makers
+      (happened machine event)
+  keeps_more log event rises =
+      keeps_history first (whole_log h) log blocks (reached settings h) (reached settings h)
+      (latest_poll (life_of h)) (latest_poll (life_of h)) (received_numbers h) makers machine (event ∷ h)
+      i (λ n is. is) rises
+
   -- the module scans
   keeps_scan : (raw : ℕ) → HasInvariant settings first (happened machine (module_events.Scan raw))
   keeps_scan raw =
-      let more = transitions_below 64 raw (life_of machine.history) in
-      record {
-        polls = i.polls;
-        answers = i.answers;
-        at_most = i.at_most;
-        numbered = i.numbered;
-        newest = i.newest;
-        makers_in_order = i.makers_in_order;
-        maker = i.maker;
-        carry = i.carry;
-        rising = rises-longer (whole_log machine.history) more (all_blocks settings machine.history) (makers_of machine.history machine.polls) (reached settings machine.history) machine.round machine.items i.rising;
-      }
-
-  -- LINESYNC rises, or flags do
-  keeps_sync : HasInvariant settings first (happened machine module_events.LineSync)
-  keeps_sync =
-      record { polls = i.polls; answers = i.answers; at_most = i.at_most; numbered = i.numbered; newest = i.newest; makers_in_order = i.makers_in_order; maker = i.maker; carry = i.carry; rising = i.rising }
-
-  keeps_raise : (mask : ℕ) → HasInvariant settings first (happened machine (module_events.Raise mask))
-  keeps_raise mask =
-      record { polls = i.polls; answers = i.answers; at_most = i.at_most; numbered = i.numbered; newest = i.newest; makers_in_order = i.makers_in_order; maker = i.maker; carry = i.carry; rising = i.rising }
+      let more = transitions_below 64 raw (life_of h) in
+      keeps_more (whole_log h ++ more) (module_events.Scan raw)
+      (rises-longer (whole_log h) more blocks makers (reached settings h) machine.round machine.items i.rising)
 
   -- the module restarts
   keeps_restart : HasInvariant settings first (happened machine module_events.Restart)
   keeps_restart =
-      let h = machine.history in
-      let blocks = all_blocks settings h in
-      let within : newest_end settings (life_of h) ≤ length (log_of (life_of h)) = blocks_end_within settings (life_of h) in
-      let split : length (whole_log h) ≡ length (past_log h ++ log_of (life_of h)) = ap length (whole_log-split h) in
-      let later : reached settings h ≤ length (whole_log h) + 0 = omega (arith, length-append (past_log h) (log_of (life_of h))) in
-      subst (λ bs. Invariant first (whole_log h) bs (length (whole_log h) + 0) None (received_numbers h) (makers_of h machine.polls) (happened machine module_events.Restart)) (sym (append-nil blocks)) (record {
-        polls = i.polls;
-        answers = i.answers;
-        at_most = i.at_most;
-        numbered = i.numbered;
-        newest = λ n is. absurd (cc is);
-        makers_in_order = i.makers_in_order;
-        maker = λ n is. absurd (cc is);
-        carry = i.carry;
-        rising = rises-further (whole_log h) blocks (makers_of h machine.polls) (reached settings h) (length (whole_log h) + 0) machine.round machine.items later i.rising;
-      })
+      let log = whole_log h in
+      let after = length log + 0 in
+      let within : newest_end settings (life_of h) ≤ length (log_of (life_of h)) =
+      blocks_end_within settings (life_of h) in
+      let split : length log ≡ length (past_log h ++ log_of (life_of h)) = ap length (whole_log-split h) in
+      let later : reached settings h ≤ after =
+      omega (arith, length-append (past_log h) (log_of (life_of h))) in
+      subst (λ bs. Invariant first log bs after None (received_numbers h) makers
+      (happened machine module_events.Restart)) (sym (append-nil blocks))
+      (keeps_history first log log blocks (reached settings h) after (latest_poll (life_of h)) None
+      (received_numbers h) makers machine (module_events.Restart ∷ h) i (λ n is. absurd (cc is))
+      (rises-further log blocks makers (reached settings h) after machine.round machine.items later i.rising))
 
   -- the CPU sends a command, with its number if it is a poll
-  keeps_sent : (command : Command) → ((n : ℕ) → poll_in (command_octets command) ≡ Some n → n ≡ number_of first machine.round)
+  keeps_sent : (command : Command)
+      → ((n : ℕ) → poll_in (command_octets command) ≡ Some n → n ≡ number_of first machine.round)
       → HasInvariant settings first (sent machine command)
   keeps_sent command number =
       let f : Sent = record { octets = command_octets command; round = machine.round } in
       record {
-        polls = polls-sent first machine.to_module machine.last_to_module machine.round (next_round machine.polls) i.polls f refl i.at_most number;
+        polls =
+            polls-sent first machine.to_module machine.last_to_module machine.round
+            (next_round machine.polls) i.polls f refl i.at_most number;
         answers = i.answers;
         at_most = i.at_most;
         numbered = i.numbered;
@@ -129,17 +131,20 @@ module _ (settings : Settings) (range : AreInRange settings) (first : ℕ) (mach
         rising = i.rising;
       }
 
-  own_poll : (n : ℕ) → poll_in (command_octets (commands.Poll (number_of first machine.round))) ≡ Some n → n ≡ number_of first machine.round
+  -- the CPU's own poll has its number
+  own_poll : (n : ℕ) → poll_in (command_octets (commands.Poll (number_of first machine.round))) ≡ Some n
+      → n ≡ number_of first machine.round
   own_poll n is =
       let number = number_of first machine.round in
       let fits : number < 2 ^ 8 = omega (arith, number_of-fits first machine.round) in
       same_Some _ _ (sym is ∙ poll_back number fits)
 
   -- each row keeps it
-  pub keeps : (event : Event) → refusal machine event ≡ None → HasInvariant settings first (after settings first machine event)
+  pub keeps : (event : Event) → refusal machine event ≡ None
+      → HasInvariant settings first (after settings first machine event)
   keeps (events.Scan raw) fine = keeps_scan raw
-  keeps events.LineSync fine = keeps_sync
-  keeps (events.Raise mask) fine = keeps_raise mask
+  keeps events.LineSync fine = keeps_more (whole_log h) module_events.LineSync i.rising
+  keeps (events.Raise mask) fine = keeps_more (whole_log h) (module_events.Raise mask) i.rising
   keeps events.Restart fine = keeps_restart
   keeps events.Poll fine = keeps_sent (commands.Poll (number_of first machine.round)) own_poll
   keeps (events.Send command) fine = keeps_sent command (λ n is. absurd (cc (no_poll_in command fine, is)))
@@ -147,13 +152,15 @@ module _ (settings : Settings) (range : AreInRange settings) (first : ℕ) (mach
       let d = deliverable machine.to_module machine.last_to_module index fine in
       let at = d.numbered in
       let le : machine.last_to_module ≤ d.place + 1 = omega (arith, d.in_order) in
+      let here = sym (frame_at_place machine.to_module d.place ∙ d.found) in
       subst (λ n. HasInvariant settings first (received settings machine n (frame_numbered machine.to_module n))) (sym at)
-      (subst (λ o. HasInvariant settings first (received settings machine (d.place + 1) o)) (sym (frame_at_place machine.to_module d.place ∙ d.found))
+      (subst (λ f. HasInvariant settings first (received settings machine (d.place + 1) f)) here
       (keeps_received settings range first machine i d.place d.frame le d.found))
   keeps (events.ToCpu index) fine =
       let d = deliverable machine.to_cpu machine.last_to_cpu index fine in
       let at = d.numbered in
       let le : machine.last_to_cpu ≤ d.place + 1 = omega (arith, d.in_order) in
+      let here = sym (frame_at_place machine.to_cpu d.place ∙ d.found) in
       subst (λ n. HasInvariant settings first (heard first machine n (frame_numbered machine.to_cpu n))) (sym at)
-      (subst (λ o. HasInvariant settings first (heard first machine (d.place + 1) o)) (sym (frame_at_place machine.to_cpu d.place ∙ d.found))
+      (subst (λ f. HasInvariant settings first (heard first machine (d.place + 1) f)) here
       (keeps_heard settings range first machine i d.place d.frame le d.found))

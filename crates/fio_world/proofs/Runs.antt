@@ -3,7 +3,6 @@ use Rattle.std.proofs.Common.{◌≡◌, ◌↔◌, ℕ, ◌+◌, ◌==◌, Bool
 use Rattle.std.proofs.lemmas.Bool.Decides.{nat_tests}
 use Rattle.fio_message.specs.Blocks.{Block}
 use Rattle.fio_module.specs.Settings.{Settings, AreInRange}
-use Rattle.fio_cpu.specs.Record.{recorded}
 use Rattle.fio_world.specs.declared.event.Event.{Event}
 use Rattle.fio_world.specs.declared.event.Event.TheVariants.{ToCpu}
 use Rattle.fio_world.specs.Link.{Machine, start, number_of, refusal, with_block, heard, after, Leads, IsRun}
@@ -15,18 +14,22 @@ use Rattle.fio_world.specs.Sound.{LeadToOneMachine}
 use Rattle.fio_world.proofs.MadeBlocks.{each-append}
 use Rattle.fio_world.proofs.RisingPieces.{rises_as_promised}
 use Rattle.fio_world.proofs.Kept.{HasInvariant}
-use Rattle.fio_world.proofs.HeardRows.{same_round}
+use Rattle.fio_world.proofs.HeardRows.{after_taken, same_round}
 use Rattle.fio_world.proofs.Rows.{deliverable, frame_at_place, keeps-start, keeps}
 
-keeps_all : (settings : Settings) → AreInRange settings → (first : ℕ) (events : List Event) (machine last : Machine)
-    → Leads settings first machine events last → HasInvariant settings first machine → HasInvariant settings first last
+-- events that lead on keep it
+keeps_all : (settings : Settings) → AreInRange settings
+    → (first : ℕ) (events : List Event) (machine last : Machine)
+    → Leads settings first machine events last → HasInvariant settings first machine
+    → HasInvariant settings first last
 keeps_all settings range first [] machine last leads i = subst (HasInvariant settings first) (sym leads) i
 keeps_all settings range first (event ∷ events) machine last leads i =
     keeps_all settings range first events (after settings first machine event) last leads.1
     (keeps settings range first machine i event leads.0)
 
 -- every run keeps the invariant
-pub invariant : (settings : Settings) → AreInRange settings → (first : ℕ) (events : List Event) (machine : Machine)
+pub invariant : (settings : Settings) → AreInRange settings
+    → (first : ℕ) (events : List Event) (machine : Machine)
     → IsRun settings first events machine → HasInvariant settings first machine
 invariant settings range first events machine run =
     keeps_all settings range first events start machine run (keeps-start settings first)
@@ -62,34 +65,40 @@ pub runs_lead_to_one_machine : LeadToOneMachine
 runs_lead_to_one_machine settings first events machine other p q = lead_to_one settings first events start machine other p q
 
 -- the record rises through the logs of all lives
-pub rising : (settings : Settings) (first : ℕ) (machine : Machine) → HasInvariant settings first machine → IsRising machine
+pub rising : (settings : Settings) (first : ℕ) (machine : Machine) → HasInvariant settings first machine
+    → IsRising machine
 rising settings first machine i = rises_as_promised _ _ i.rising.to i.rising.rises
 
 -- no block answer is out of sequence
-pub in_sequence : (settings : Settings) (first : ℕ) (machine : Machine) → HasInvariant settings first machine → IsInSequence machine
+pub in_sequence : (settings : Settings) (first : ℕ) (machine : Machine)
+    → HasInvariant settings first machine → IsInSequence machine
 in_sequence settings first machine i place block round has = (i.carry place block round has).in_sequence
 
-round_taken : (first index : ℕ) (machine : Machine) (block : Block) (same : Bool)
-    → (if same then record machine { last_to_cpu = index; round = machine.round + 1; items = machine.items ++ recorded block } else record machine { last_to_cpu = index }).round
+-- the round after a block answer that is taken, or not
+round_taken : (machine : Machine) (place : ℕ) (block : Block) (same : Bool)
+    → (if same then after_taken machine place block else record machine { last_to_cpu = place + 1 }).round
     ≡ (if same then machine.round + 1 else machine.round)
-round_taken first index machine block true = refl
-round_taken first index machine block false = refl
+round_taken machine place block true = refl
+round_taken machine place block false = refl
 
 -- the CPU's round after it hears a block answer
-round_heard : (settings : Settings) (first : ℕ) (machine : Machine) (place : ℕ) (block : Block) (round : ℕ) → HasBlock machine.to_cpu place block round
+round_heard : (settings : Settings) (first : ℕ) (machine : Machine) (place : ℕ) (block : Block) (round : ℕ)
+    → HasBlock machine.to_cpu place block round
     → (after settings first machine (ToCpu (place + 1))).round
     ≡ (if block.number == number_of first machine.round then machine.round + 1 else machine.round)
 round_heard settings first machine place block round has =
     ap (λ frame. (heard first machine (place + 1) frame).round) (frame_at_place machine.to_cpu place ∙ has.at_place)
     ∙ ap (λ found. (with_block first (record machine { last_to_cpu = place + 1 }) found).round) has.spells
-    ∙ round_taken first (place + 1) machine block (block.number == number_of first machine.round)
+    ∙ round_taken machine place block (block.number == number_of first machine.round)
 
 -- a round is over exactly if the numbers are equal
-over_if_same : (number present round : ℕ) → ((if number == present then round + 1 else round) ≡ round + 1) ↔ (number ≡ present)
+over_if_same : (number present round : ℕ)
+    → ((if number == present then round + 1 else round) ≡ round + 1) ↔ (number ≡ present)
 over_if_same number present round = (λ over. grind (arith, nat_tests), λ same. grind (arith, nat_tests))
 
 -- a block answer that is delivered is taken exactly if its round is the CPU's
-pub takes : (settings : Settings) → AreInRange settings → (first : ℕ) (machine : Machine) → HasInvariant settings first machine
+pub takes : (settings : Settings) → AreInRange settings → (first : ℕ) (machine : Machine)
+    → HasInvariant settings first machine
     → TakesPresentRound settings first machine
 takes settings range first machine i place block round has fine =
     let le = (deliverable machine.to_cpu machine.last_to_cpu (place + 1) fine).in_order in

@@ -10,7 +10,8 @@ standard_in_range id fits =
     record { id_fits = fits; some_per_block = omega arith; few_per_block = omega arith; many_waiting = omega arith }
 
 -- and so are those with any limits
-pub limits_in_range : (id : ℕ) (limits : Limits) → id ≤ 255 → are_limits limits.per_block limits.waiting ≡ true
+pub limits_in_range : (id : ℕ) (limits : Limits) → id ≤ 255
+    → are_limits limits.per_block limits.waiting ≡ true
     → AreInRange (settings_with id limits)
 limits_in_range id limits fits are =
     record {

@@ -20,20 +20,23 @@ use Rattle.fio_message.proofs.MessageLaws.{block_back}
 use Rattle.fio_module.specs.Sendings.{Sending, answer_of}
 use Rattle.fio_world.specs.Link.{sending_refusal}
 
+-- a command that is no poll, whole or not
 polled-if : (whole : Bool) (command : Command) → polled_number (Some command) ≡ None
     → polled_number (if whole then Some command else None) ≡ None
 polled-if true command other = other
 polled-if false command other = refl
 
 -- octets whose command, read by their first, is no poll
-no_poll_at : (code : ℕ) (fields : List ℕ) → polled_number (Some (command_at code fields)) ≡ None → poll_in (code ∷ fields) ≡ None
+no_poll_at : (code : ℕ) (fields : List ℕ) → polled_number (Some (command_at code fields)) ≡ None
+    → poll_in (code ∷ fields) ≡ None
 unfolding message_in
 no_poll_at code fields other =
     polled-if (nat_le (length fields) 772 && is_length (command_length (code ∷ fields)) (1 + length fields))
     (command_at code fields) other
 
 -- a command that may be handed in is not read as a poll
-pub no_poll_in : (command : Command) → sending_refusal command ≡ None → poll_in (command_octets command) ≡ None
+pub no_poll_in : (command : Command) → sending_refusal command ≡ None
+    → poll_in (command_octets command) ≡ None
 no_poll_in (commands.Poll number) fine = absurd (cc fine)
 no_poll_in (commands.Status clear) fine = no_poll_at 49 (command_fields (commands.Status clear)) refl
 no_poll_in (commands.LoadCounter load) fine = no_poll_at 50 (command_fields (commands.LoadCounter load)) refl
@@ -47,20 +50,23 @@ no_poll_in (commands.Other other_commands.TrackInputs body) fine = no_poll_at 56
 no_poll_in (commands.Other other_commands.ComplexOutputs body) fine = no_poll_at 57 body.items refl
 no_poll_in (commands.Other other_commands.ControllerId body) fine = no_poll_at 59 body.items refl
 
+-- an answer that is no block answer, whole or not
 answered-if : (whole : Bool) (answer : Answer) → answered_block (Some answer) ≡ None
     → answered_block (if whole then Some answer else None) ≡ None
 answered-if true answer other = other
 answered-if false answer other = refl
 
 -- octets whose answer, read by their first, is no block answer
-no_block_at : (code : ℕ) (fields : List ℕ) → answered_block (Some (answer_at code fields)) ≡ None → block_in (code ∷ fields) ≡ None
+no_block_at : (code : ℕ) (fields : List ℕ) → answered_block (Some (answer_at code fields)) ≡ None
+    → block_in (code ∷ fields) ≡ None
 unfolding message_in
 no_block_at code fields other =
     answered-if (nat_le (length fields) 772 && is_length (answer_length (code ∷ fields)) (1 + length fields))
     (answer_at code fields) other
 
 -- an answer that is no block answer is not read as one
-pub no_block_in : (answer : Answer) → answered_block (Some answer) ≡ None → block_in (answer_octets answer) ≡ None
+pub no_block_in : (answer : Answer) → answered_block (Some answer) ≡ None
+    → block_in (answer_octets answer) ≡ None
 no_block_in (answers.Block number entries status stamp) other = absurd (cc other)
 no_block_in (answers.Status flags receive transmit stamp) other = no_block_at 177 (answer_fields (answers.Status flags receive transmit stamp)) refl
 no_block_in (answers.LoadCounter status) other = no_block_at 178 (status ∷ []) refl
@@ -75,11 +81,14 @@ no_block_in (answers.Other other_answers.ControllerId body) other = no_block_at 
 no_block_in (answers.Other other_answers.Identify body) other = no_block_at 188 body.items refl
 
 -- a command that is read as a poll is that poll
-pub poll_only : (found : Option Command) (number : ℕ) → polled_number found ≡ Some number → found ≡ Some (commands.Poll number)
+pub poll_only : (found : Option Command) (number : ℕ) → polled_number found ≡ Some number
+    → found ≡ Some (commands.Poll number)
 poll_only (Some (commands.Poll n)) number is = ap (λ (m : ℕ). Some (commands.Poll m)) (same_Some _ _ is)
 poll_only other number is = absurd cc
 
-status-fits : (more lost again out_of_sequence : Bool) → block_status more lost again out_of_sequence < 2 ^ 8
+-- a status is an octet
+status-fits : (more lost again out_of_sequence : Bool)
+    → block_status more lost again out_of_sequence < 2 ^ 8
 status-fits true true true true = omega arith
 status-fits true true true false = omega arith
 status-fits true true false true = omega arith
