@@ -30,12 +30,7 @@ fn run(rt: &HostRuntime) -> io::Result<u8> {
     let alloc = rt.alloc();
     let words: Vec<String> = words(rt)?;
     let words: Vec<&str> = words.iter().map(|word| word.as_str()).collect(alloc)?;
-    Ok(run_program(
-        alloc,
-        words.as_slice(),
-        &mut rt.stdin(),
-        &mut rt.stdout(),
-    ))
+    Ok(run_program(alloc, words.as_slice(), &mut rt.stdin(), &mut rt.stdout()))
 }
 
 /// The words of the command line, the program's name first.

@@ -27,8 +27,8 @@ told_after-append front back telling = ap (λ text. record { text = text; good =
 told_on-event : (scenario : Scenario) (text : List ℕ) (place : ℕ) (world : Ends) (event : Event) (on : TellsOn scenario text place world)
     → place < length scenario.events → event ≡ get_or scenario.events place event
     → told_after text (unless_refused (place + 1) (refusal on.machine event)
-        (outcome_line (place + 1) (outcome_of scenario.settings scenario.first on.machine event))
-        (told_from scenario.settings scenario.first (place + 1 + 1) (after scenario.settings scenario.first on.machine event) (drop (place + 1) scenario.events)))
+    (outcome_line (place + 1) (outcome_of scenario.settings scenario.first on.machine event))
+    (told_from scenario.settings scenario.first (place + 1 + 1) (after scenario.settings scenario.first on.machine event) (drop (place + 1) scenario.events)))
     ≡ report_of scenario
 told_on-event scenario text place world event on within here =
     let next : drop place scenario.events ≡ event ∷ drop (place + 1) scenario.events = rw add-one (drop-cons scenario.events place event within ∙ ap (λ e. e ∷ drop (suc place) scenario.events) (sym here)) in
@@ -44,7 +44,7 @@ TellsOn-done scenario text place world new event outcome on within here done = r
   shown = done.shown;
   told =
       rw (done.brought, told_after-append)
-          (rw done.fine at (told_on-event scenario text place world event on within here));
+      (rw done.fine at (told_on-event scenario text place world event on within here));
 }
 
 -- a refusal is the one that its fault tells of
@@ -71,7 +71,7 @@ pub TellsOn-refused : (scenario : Scenario) (text whole : List ℕ) (place : ℕ
     → report_of scenario ≡ record { text = whole; good = false }
 TellsOn-refused scenario text whole place world event fault takes on within here cause told =
     ends_refused (place + 1) text whole _ (refusal on.machine event) _ _ takes fault cause told
-        (told_on-event scenario text place world event on within here)
+    (told_on-event scenario text place world event on within here)
 
 -- below the last event the report tells how the run ended
 pub TellsOn-end : (scenario : Scenario) (text whole : List ℕ) (place : ℕ) (world : Ends) (on : TellsOn scenario text place world)

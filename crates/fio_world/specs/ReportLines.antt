@@ -78,4 +78,4 @@ ending_lines counter number waiting items =
 abbrev pub ending_text : Settings → ℕ → Machine → List ℕ
 ending_text settings first machine =
     ending_lines (counter_of (life_of machine.history)) (number_of first machine.round)
-        (length (waiting_of settings (life_of machine.history))) machine.items
+    (length (waiting_of settings (life_of machine.history))) machine.items

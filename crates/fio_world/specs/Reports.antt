@@ -26,7 +26,7 @@ abbrev pub told_from : Settings → ℕ → ℕ → Machine → List Event → T
 told_from settings first number machine [] = record { text = ending_text settings first machine; good = true }
 told_from settings first number machine (event ∷ events) =
     unless_refused number (refusal machine event) (outcome_line number (outcome_of settings first machine event))
-        (told_from settings first (number + 1) (after settings first machine event) events)
+    (told_from settings first (number + 1) (after settings first machine event) events)
 
 -- the report of a script
 abbrev pub report_of : Scenario → Telling

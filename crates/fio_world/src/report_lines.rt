@@ -87,7 +87,7 @@ pub(crate) fn push_refusal(
 pub(crate) fn push_ending(text: &mut String, world: &World) -> Result<(), AllocError>
     ensures { (settings : Settings) (first : ℕ) (machine : Machine) → Shows settings first machine world.now
         → OnOk result (string_bytes text.new
-            ≡ string_bytes text.old ++ ending_text settings first machine) }
+        ≡ string_bytes text.old ++ ending_text settings first machine) }
 {
     let counter = world.module().counter();
     let number = world.poller().number();

@@ -8,7 +8,12 @@ use std::test::Fail;
 fn tools_of_words(rt: HostRuntime) {
     let alloc = rt.alloc();
     assert!(rt; matches!(choose(alloc, &["fio2070", "show"]), Ok(Some(Tool::Show))));
-    assert!(rt; matches!(choose(alloc, &["fio2070", "simulate"]), Ok(Some(Tool::Simulate))));
+    assert!(rt;
+        matches!(
+            choose(alloc, &["fio2070", "simulate"]),
+            Ok(Some(Tool::Simulate))
+        )
+    );
     assert!(rt; matches!(choose(alloc, &["fio2070", "check"]), Ok(Some(Tool::Check))));
     assert!(rt; matches!(choose(alloc, &["fio2070"]), Ok(None)));
     let refused = [
@@ -52,9 +57,33 @@ fn statuses_of_the_program(rt: HostRuntime) {
     let alloc = rt.alloc();
     assert!(rt; runs(alloc, &["fio2070", "show"], b"3605", 0, "poll block 5\n"));
     assert!(rt; runs(alloc, &["fio2070", "show"], b"zz", 1, "line 1: bad line\n"));
-    assert!(rt; runs(alloc, &["fio2070", "simulate"], b"", 1, "line 1: bad header\n"));
-    assert!(rt; runs(alloc, &["fio2070", "check"], b"> 3605", 0, "good 1 frames\n"));
-    assert!(rt; runs(alloc, &["fio2070", "check"], b"> 33", 1, "line 1 breaks readable\n"));
+    assert!(rt;
+        runs(
+            alloc,
+            &["fio2070", "simulate"],
+            b"",
+            1,
+            "line 1: bad header\n"
+        )
+    );
+    assert!(rt;
+        runs(
+            alloc,
+            &["fio2070", "check"],
+            b"> 3605",
+            0,
+            "good 1 frames\n"
+        )
+    );
+    assert!(rt;
+        runs(
+            alloc,
+            &["fio2070", "check"],
+            b"> 33",
+            1,
+            "line 1 breaks readable\n"
+        )
+    );
     assert!(rt; runs(alloc, &["fio2070"], b"3605", 2, "fio2070: no subcommand\n"));
     let refused = [
         ("other", 2, "error: unrecognized subcommand 'other'"),

@@ -40,7 +40,10 @@ fn hexadecimal_words(rt: HostRuntime) -> Result<(), Fail> {
     ];
     for (word, wanted) in cases {
         let found = read_octets(rt.alloc(), word)?;
-        assert!(rt; found.as_ref().map(|octets| octets.as_slice()) == wanted, "{word:?}");
+        assert!(rt;
+            found.as_ref().map(|octets| octets.as_slice()) == wanted,
+            "{word:?}"
+        );
     }
     Ok(())
 }

@@ -8,4 +8,4 @@ abbrev pub invariant-loop-item : goal.invariant-loop-item
 invariant-loop-item l =
     string_bytes l.text
     ≡ (string_bytes l.fn.text ++ count_lines l.fn.counter l.fn.number l.fn.waiting (length l.items))
-        ++ flat_map item_line (take l.item-index l.items)
+    ++ flat_map item_line (take l.item-index l.items)
