@@ -27,3 +27,4 @@ pub mod Shown
 pub mod SoundWorlds
 pub mod ReadingLemmas
 pub mod ReportLemmas
+pub mod RunReports

@@ -1,8 +1,8 @@
 -- The report of a script: a line for each event of its run, and then how it ended.
-use Rattle.std.specs.Prelude.{ℕ, ◌+◌, Bool, true, false, List, [], ◌∷◌, ◌++◌, Option, Some, None}
+use Rattle.std.specs.Prelude.{◌≡◌, ℕ, ◌+◌, Bool, true, false, List, [], ◌∷◌, ◌++◌, Option, Some, None}
 use Rattle.fio_module.specs.Settings.{Settings}
 use Rattle.fio_world.specs.declared.event.Event.{Event}
-use Rattle.fio_world.specs.Link.{Machine, Refusal, start, refusal, after}
+use Rattle.fio_world.specs.Link.{Machine, Refusal, start, refusal, after, IsRun}
 use Rattle.fio_world.specs.Worlds.{outcome_of}
 use Rattle.fio_world.specs.ReportLines.{outcome_line, refused_line, ending_text}
 use Rattle.fio_world.specs.Scripts.{Scenario}
@@ -31,3 +31,22 @@ told_from settings first number machine (event ∷ events) =
 -- the report of a script
 abbrev pub report_of : Scenario → Telling
 report_of scenario = told_from scenario.settings scenario.first 1 start scenario.events
+
+-- ---- the law of reports
+
+-- the text ends with these lines
+abbrev pub EndsWith : List ℕ → List ℕ → Type 0
+EndsWith text lines = (before : List ℕ) × (text ≡ before ++ lines)
+
+-- where all events of a script are done, its report is good and ends with how the run has ended; and a
+-- report is good only there
+pub record TellsOfRun (scenario : Scenario) : Type 0 where
+  pub good :
+      (machine : Machine) → IsRun scenario.settings scenario.first scenario.events machine →
+      (report_of scenario).good ≡ true
+  pub ending :
+      (machine : Machine) → IsRun scenario.settings scenario.first scenario.events machine →
+      EndsWith (report_of scenario).text (ending_text scenario.settings scenario.first machine)
+  pub run :
+      (report_of scenario).good ≡ true →
+      (machine : Machine) × IsRun scenario.settings scenario.first scenario.events machine

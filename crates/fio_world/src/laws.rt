@@ -10,6 +10,8 @@ ghost use Rattle.fio_world.specs.Rising.{IsRising};
 ghost use Rattle.fio_world.specs.Sound.{HoldsOfRuns, HoldsWithoutRestart, IsSoundRun, LeadToOneMachine};
 ghost use Rattle.std.specs.List.{AllByRecursion};
 ghost use Rattle.fio_world.specs.Collected.{Collects};
+ghost use Rattle.fio_world.specs.Scripts.{Scenario};
+ghost use Rattle.fio_world.specs.Reports.{TellsOfRun};
 ghost use Rattle.fio_world.specs.Lines.{IsOneLine, lines_of, text_of};
 
 /// What the first m blocks of a life are in the record are pieces of its transition log from the
@@ -77,6 +79,13 @@ pub fn settings_are_in_range()
     ensures standard { (id : ℕ) → id ≤ 255 → AreInRange (standard_settings id) }
     ensures limits { (id : ℕ) (limits : Limits) → id ≤ 255
         → are_limits limits.per_block limits.waiting ≡ true → AreInRange (settings_with id limits) }
+{}
+
+/// A report is good exactly where all events of its script are done, and then ends with how the run
+/// has ended.
+#[tactic(auto, using(crate::proofs::RunReports::tells_of_run))]
+pub fn reports_tell_of_runs()
+    ensures { (scenario : Scenario) → TellsOfRun scenario }
 {}
 
 /// The lines of a text are those that it was made of, whether the last one is ended or not.

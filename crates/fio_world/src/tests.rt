@@ -9,6 +9,7 @@ mod printing;
 mod records;
 mod refusals;
 mod refused_memory;
+mod reports;
 mod restarts;
 mod rounds;
 mod scans;
