@@ -6,9 +6,28 @@ use std::alloc::Global;
 use std::process::Abort;
 use std::test::Fail;
 
-/// A world to which these events happen in order, but for those that are refused with this fault. After
-/// each of them it is the world of a run of those done, and a run of these, of a refused one and of a
-/// poll stops at the refused one.
+/// A run of these events, of a refused one and of a poll stops at the refused one.
+fn run_stops(
+    rt: &impl Abort,
+    alloc: Global,
+    done: &[Event],
+    refused: &Event,
+    fault: WorldError,
+) -> Result<(), Fail> {
+    let mut events = Vec::new(alloc);
+    for event in done {
+        events.push(event.clone()?)?;
+    }
+    events.push(refused.clone()?)?;
+    events.push(Event::Poll)?;
+    let place = done.len();
+    let stopped = World::run(alloc, ID, 0, events.as_slice()).err();
+    assert_eq!(rt; stopped, Some(RunError { place, fault }));
+    Ok(())
+}
+
+/// A world to which these events happen in order, but for those that are refused with this fault, and
+/// that is the world of a run of those done.
 fn refuses(
     rt: &impl Abort,
     alloc: Global,
@@ -18,16 +37,12 @@ fn refuses(
     let mut done = Vec::new(alloc);
     for (event, refusal) in events {
         assert_eq!(rt; world.step(event).err(), *refusal);
-        done.push(event.clone()?)?;
-        if let Some(fault) = *refusal {
-            done.push(Event::Poll)?;
-            let stopped = World::run(alloc, ID, 0, done.as_slice()).err();
-            done.truncate(done.len().saturating_sub(2));
-            let place = done.len();
-            assert_eq!(rt; stopped, Some(RunError { place, fault }));
+        match *refusal {
+            Some(fault) => run_stops(rt, alloc, done.as_slice(), event, fault)?,
+            None => done.push(event.clone()?)?,
         }
-        are_same(rt, &world, &World::run(alloc, ID, 0, done.as_slice())?);
     }
+    are_same(rt, &world, &World::run(alloc, ID, 0, done.as_slice())?);
     Ok(world)
 }
 
