@@ -1,15 +1,13 @@
 //! The numbers of polls.
-ghost use Rattle.std.specs.Prelude.{◌≡◌, Some, IfSome};
-ghost use Rattle.fio_message.specs.Decoding.{command_in};
+ghost use Rattle.std.specs.Prelude.{◌≡◌};
+ghost use Rattle.fio_message.specs.Decoding.{poll_in};
 ghost use Rattle.fio_module.specs.Blocks.{is_new};
 ghost use Rattle.fio_module.specs.Sendings.{is_out_of_sequence};
-
-use fio_message::Command;
 
 /// The number of the poll that these octets spell, if they spell one.
 #[tactic(auto, unfolding(fio_message::specs::Decoding::message_in))]
 pub fn polled_number(octets: &[u8]) -> Option<u8>
-    ensures { IfSome result (λ number. command_in octets.now ≡ Some (Command.Poll number)) }
+    ensures { result ≡ poll_in octets.now }
 {
     match octets {
         [54, number] => Some(*number),
