@@ -17,6 +17,3 @@ mod recording;
 pub use hearing::Heard;
 pub use items::Item;
 pub use poller::Poller;
-
-#[cfg(test)]
-mod tests;

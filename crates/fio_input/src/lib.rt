@@ -18,8 +18,6 @@ mod counter;
 mod filters;
 mod lanes;
 pub mod laws;
-#[cfg(test)]
-mod tests;
 mod widening;
 
 pub use counter::Counter;

@@ -23,8 +23,6 @@ mod module;
 mod numbers;
 mod outputs;
 mod sent;
-#[cfg(test)]
-mod tests;
 mod waiting;
 
 pub use limits::Limits;

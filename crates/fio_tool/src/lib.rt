@@ -36,6 +36,3 @@ pub use showing::show_text;
 pub use simulation::simulate_text;
 pub use tools::{Tool, check, show, simulate};
 pub use transcript::{Line, Rule, TraceError, Verdict, check_text, check_trace, read_trace};
-
-#[cfg(test)]
-mod tests;

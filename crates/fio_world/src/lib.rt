@@ -35,6 +35,3 @@ pub use reports::{Report, push_fault};
 pub use script::{Script, ScriptError};
 pub use scripts::read_script;
 pub use world::World;
-
-#[cfg(test)]
-mod tests;

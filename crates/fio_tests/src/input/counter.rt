@@ -1,0 +1,43 @@
+use fio_input::Counter;
+
+/// One call of a counter.
+enum Call {
+    Tick,
+    AskLoad(u32),
+    LineSync,
+}
+
+fn counted(calls: &[Call]) -> u32 {
+    let mut counter = Counter::new();
+    for call in calls {
+        match call {
+            Call::Tick => counter.tick(),
+            Call::AskLoad(number) => counter.ask_load(*number),
+            Call::LineSync => counter.line_sync(),
+        }
+    }
+    counter.now()
+}
+
+#[test]
+fn counts_ticks_from_the_latest_load(rt: HostRuntime) {
+    use Call::*;
+    let cases: [(&[Call], u32); 9] = [
+        (&[], 0),
+        (&[Tick, Tick], 2),
+        // A line sync with nothing asked changes nothing.
+        (&[Tick, LineSync], 1),
+        // A load happens at the line sync, and not when it is asked for.
+        (&[AskLoad(0xffff)], 0),
+        (&[AskLoad(0xffff), AskLoad(5), LineSync], 5),
+        (&[AskLoad(0xffff), AskLoad(5), LineSync, Tick], 6),
+        (&[AskLoad(0xffff), AskLoad(5), LineSync, Tick, LineSync], 6),
+        // The later of two loads asked for counts.
+        (&[AskLoad(5), AskLoad(9), LineSync, Tick], 10),
+        // After the greatest number comes 0.
+        (&[AskLoad(u32::MAX), LineSync, Tick], 0),
+    ];
+    for (case, (calls, wanted)) in cases.iter().enumerate() {
+        assert_eq!(rt; counted(calls), *wanted, "at {case}");
+    }
+}

@@ -1,0 +1,2 @@
+//! Worked examples of messages, whose octets, values and texts stand in the profile and not in this code.
+mod values;

@@ -1,0 +1,4 @@
+mod command_line;
+mod ends;
+mod streams;
+mod transcripts;

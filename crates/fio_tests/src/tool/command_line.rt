@@ -1,0 +1,107 @@
+use super::ends::{Feed, Sink};
+use fio_tool::{Ending, Tool, ToolFault, choose, run_program};
+use std::alloc::Global;
+use std::test::Fail;
+
+#[test]
+fn tools_of_words(rt: HostRuntime) {
+    let alloc = rt.alloc();
+    assert!(rt; matches!(choose(alloc, &["fio2070", "show"]), Ok(Some(Tool::Show))));
+    assert!(rt;
+        matches!(
+            choose(alloc, &["fio2070", "simulate"]),
+            Ok(Some(Tool::Simulate))
+        )
+    );
+    assert!(rt; matches!(choose(alloc, &["fio2070", "check"]), Ok(Some(Tool::Check))));
+    assert!(rt; matches!(choose(alloc, &["fio2070"]), Ok(None)));
+    let refused = [
+        ["fio2070", "other"],
+        ["fio2070", "help"],
+        ["fio2070", "Show"],
+        ["fio2070", "--help"],
+        ["fio2070", "--version"],
+        ["fio2070", "-x"],
+    ];
+    for words in refused {
+        assert!(rt; choose(alloc, &words).is_err(), "{}", words[1]);
+    }
+    assert!(rt; choose(alloc, &["fio2070", "show", "x"]).is_err());
+}
+
+/// Whether the program, given these words and this input, ends with this status and a text that
+/// begins so.
+fn runs(alloc: Global, words: &[&str], input: &[u8], status: u8, text: &str) -> bool {
+    let mut sink = Sink::new(alloc, 1000);
+    let ended = run_program(alloc, words, &mut Feed::new(input, 100), &mut sink);
+    ended == status && sink.flushes == 1 && sink.octets.as_slice().starts_with(text.as_bytes())
+}
+
+#[test]
+fn statuses_of_the_program(rt: HostRuntime) {
+    let alloc = rt.alloc();
+    assert!(rt; runs(alloc, &["fio2070", "show"], b"3605", 0, "poll block 5\n"));
+    assert!(rt; runs(alloc, &["fio2070", "show"], b"zz", 1, "line 1: bad line\n"));
+    assert!(rt;
+        runs(
+            alloc,
+            &["fio2070", "simulate"],
+            b"",
+            1,
+            "line 1: bad header\n"
+        )
+    );
+    assert!(rt;
+        runs(
+            alloc,
+            &["fio2070", "check"],
+            b"> 3605",
+            0,
+            "good 1 frames\n"
+        )
+    );
+    assert!(rt;
+        runs(
+            alloc,
+            &["fio2070", "check"],
+            b"> 33",
+            1,
+            "line 1 breaks readable\n"
+        )
+    );
+    assert!(rt; runs(alloc, &["fio2070"], b"3605", 2, "fio2070: no subcommand\n"));
+    let refused = [
+        ("other", 2, "error: unrecognized subcommand 'other'"),
+        ("help", 2, "error: unrecognized subcommand 'help'"),
+        ("--help", 0, "Reads the messages"),
+        ("--version", 0, "fio2070 1.0.0\n"),
+    ];
+    for (word, status, text) in refused {
+        assert!(rt;
+            runs(alloc, &["fio2070", word], b"3605", status, text),
+            "{word}"
+        );
+    }
+}
+
+#[test]
+fn faults_are_told(rt: HostRuntime) -> Result<(), Fail> {
+    let alloc = rt.alloc();
+    let words = ["fio2070", "show"];
+    let mut feed = Feed::new(b"3605", 100);
+    feed.failing = 1;
+    let mut sink = Sink::new(alloc, 100);
+    assert_eq!(rt; run_program(alloc, &words, &mut feed, &mut sink), 3);
+    assert_eq!(rt; sink.octets.as_slice(), b"fio2070: read fault\n".as_slice());
+    let mut sink = Sink::new(alloc, 100);
+    sink.failing = 1;
+    assert_eq!(rt;
+        run_program(alloc, &words, &mut Feed::new(b"3605", 100), &mut sink),
+        3
+    );
+    assert_eq!(rt;
+        sink.octets.as_slice(),
+        b"fio2070: write fault\n".as_slice()
+    );
+    Ok(())
+}

@@ -1,0 +1,44 @@
+//! Transcripts as lines.
+use fio_tool::{Line, Rule, TraceError, Verdict, check_trace, read_trace};
+use std::test::*;
+
+#[test]
+fn lines_that_are_read(rt: HostRuntime) -> Result<(), Fail> {
+    let lines = read_trace(rt.alloc(), b"> 3605\n# a remark\n< B605")?;
+    let read = [
+        (1, true, [0x36, 5].as_slice()),
+        (3, false, [0xb6, 5].as_slice()),
+    ];
+    assert_eq!(rt; lines.len(), read.len());
+    for (line, (number, from_cpu, octets)) in lines.iter().zip(read) {
+        assert_eq!(rt; line.number, number);
+        assert_eq!(rt; line.from_cpu, from_cpu);
+        assert_eq!(rt; line.octets.as_slice(), octets);
+    }
+    let faulty = read_trace(rt.alloc(), b"> 3605\n\n3605\n?");
+    assert!(rt; matches!(faulty, Err(TraceError::BadLine { line: 3 })));
+    Ok(())
+}
+
+#[test]
+fn lines_that_are_checked(rt: HostRuntime) -> Result<(), Fail> {
+    let poll = Line {
+        number: 7,
+        from_cpu: true,
+        octets: Vec::from_slice(rt.alloc(), &[0x36, 5])?,
+    };
+    let block = Line {
+        number: 3,
+        from_cpu: false,
+        octets: Vec::from_slice(rt.alloc(), &[0xb6, 6, 0, 0, 0, 0, 0, 0])?,
+    };
+    let lines = [poll, block];
+    let verdict = Verdict::Broken {
+        number: 3,
+        rule: Rule::Number,
+    };
+    assert_eq!(rt; check_trace(&lines), verdict);
+    assert_eq!(rt; check_trace(&lines[..1]), Verdict::Good { frames: 1 });
+    assert_eq!(rt; check_trace(&[]), Verdict::Good { frames: 0 });
+    Ok(())
+}

@@ -1,5 +1,0 @@
-mod command_line;
-mod ends;
-mod shows;
-mod streams;
-mod transcripts;
