@@ -18,6 +18,22 @@ const VERSION: &str = "1.0.0";
 const ABOUT: &str =
     "Reads the messages between the CPU and the field I/O module of a Model 2070 controller";
 
+/// What stands below that: what all tools read and write, the statuses, an example.
+const AFTER: &str = "\
+Each subcommand reads standard input and writes its text to standard output. What it
+reads and writes, its statuses and an example: fio2070 show --help, and so on.
+
+Exit status:
+  0  the text tells of no fault; help and version
+  1  the text tells of a fault: a faulty line, a refused event, a broken rule, an input
+     of more than 1048576 octets
+  2  the words name no subcommand, or have another fault
+  3  a read or a write failed, or there was no memory
+
+Example:
+  $ echo 3605 | fio2070 show
+  poll block 5";
+
 /// The tool that the words of a command line name, the program's name first: `None` where they name
 /// no subcommand.
 ///
@@ -46,6 +62,7 @@ fn command_line<'a>(alloc: Global) -> Result<Command<'a>, AllocError>
 {
     let mut command = Command::new(alloc, "fio2070")
         .about(ABOUT)
+        .after_help(AFTER)
         .version(VERSION)
         .disable_help_subcommand(true);
     'tools: for tool in Tool::ALL {
@@ -61,7 +78,8 @@ fn subcommand<'a>(alloc: Global, tool: Tool) -> Command<'a>
 {
     let name: &'a str = tool.name();
     let about: &'a str = tool.about();
-    Command::new(alloc, name).about(about)
+    let after: &'a str = tool.after_help();
+    Command::new(alloc, name).about(about).after_help(after)
 }
 
 /// The tool of a subcommand.
