@@ -1,17 +1,14 @@
-//! Worked examples: both ends and the bus, each run at once and event by event; scripts and their texts.
+//! Both ends and the bus, run at once and event by event; scripts and their texts. Longer runs stand in
+//! `tests/records` and `tests/scripts`, over the built program.
 
+mod beginnings;
 mod examples;
 mod limits;
 mod lines;
 mod losses;
-mod overflows;
 mod printing;
-mod records;
 mod refusals;
 mod refused_memory;
 mod reports;
-mod restarts;
-mod rounds;
-mod scans;
 mod scripts;
 mod words;

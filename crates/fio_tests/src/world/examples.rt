@@ -1,6 +1,6 @@
 //! Examples as rows, an event and what it brings, and their two runs.
-use fio_cpu::Heard;
-use fio_message::{Frame, decode_command};
+use fio_cpu::{Heard, Item};
+use fio_message::{Frame, InputNumber, decode_command};
 use fio_module::Limits;
 use fio_world::{Event, Outcome, World};
 use std::alloc::{AllocError, Global};
@@ -33,6 +33,16 @@ pub(super) fn taken(entries: usize, status: u8) -> Outcome {
 /// The CPU ignores a block with this number.
 pub(super) fn stale(block: u8) -> Outcome {
     Outcome::Heard(Heard::Stale { block })
+}
+
+/// A transition as the record keeps it, with its counter as its time.
+pub(super) fn entry(rt: &impl Abort, input: u8, level: bool, counter: u16) -> Item {
+    Item::Entry {
+        input: InputNumber::new(input).expect(rt, "an input below 128"),
+        level,
+        stamp: counter,
+        wide: u32::from(counter),
+    }
 }
 
 /// The world to which these rows lead, run at once and event by event, with one result.

@@ -1,8 +1,5 @@
 //! Worlds with limits of their own.
-use super::examples::{both_with_limits, send, sent, taken};
-use super::overflows::begins_behind_a_loss;
-use super::records::{check_record, transitions};
-use super::scans::polls_take;
+use super::examples::{both_with_limits, entry, send, sent, taken};
 use fio_module::Limits;
 use fio_world::{Event, Outcome};
 use std::test::Fail;
@@ -28,16 +25,7 @@ fn one_entry_a_block(rt: HostRuntime) -> Result<(), Fail> {
     assert_eq!(rt; world.module().counter(), 1);
     assert_eq!(rt; world.module().waiting(), 0);
     assert_eq!(rt; world.poller().number(), 2);
-    let log = transitions(&rt, rt.alloc(), &rows, 0x1001)?;
-    check_record(&rt, &world, log.as_slice(), &[(0, 2)]);
-    Ok(())
-}
-
-#[test]
-fn the_most_that_may_ever_wait(rt: HostRuntime) -> Result<(), Fail> {
-    let limits = Limits::new(255, 8192).ok_or("in range")?;
-    polls_take(&rt, rt.alloc(), limits, &[(128, 0, 255, 8, 7937)])?;
-    let world = polls_take(&rt, rt.alloc(), limits, &[(129, 64, 319, 0x0c, 7937)])?;
-    begins_behind_a_loss(&rt, &world);
+    let entries = [entry(&rt, 0, false, 1), entry(&rt, 12, false, 1)];
+    assert_eq!(rt; world.poller().items(), entries.as_slice());
     Ok(())
 }

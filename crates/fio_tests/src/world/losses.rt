@@ -1,26 +1,8 @@
-//! Frames that are lost, repeated or under way together.
-use super::examples::{Row, both, send, sent, stale, taken};
-use super::records::{check_record, transitions};
+//! A frame that is lost, and one that is repeated.
+use super::examples::{Row, both, entry, send, sent, stale, taken};
 use fio_world::{Event, Outcome};
 use std::process::Abort;
 use std::test::Fail;
-
-#[test]
-fn a_lost_poll(rt: HostRuntime) -> Result<(), Fail> {
-    let rows = [
-        (Event::Poll, sent(&rt, 1, &[0x36, 0])),
-        (Event::Poll, sent(&rt, 2, &[0x36, 0])),
-        (
-            Event::ToModule(2),
-            sent(&rt, 1, &[0xb6, 0, 0, 0, 0, 0, 0, 0]),
-        ),
-        (Event::ToCpu(1), taken(0, 0)),
-    ];
-    let world = both(&rt, rt.alloc(), 0, &rows)?;
-    assert_eq!(rt; world.poller().number(), 1);
-    assert_eq!(rt; world.poller().items().len(), 0);
-    Ok(())
-}
 
 /// The first answer to poll 255 is lost and the second is delivered twice; 0 follows 255 in sequence.
 pub(super) fn lost_and_repeated(rt: &impl Abort) -> [Row; 13] {
@@ -52,29 +34,7 @@ fn a_lost_and_a_repeated_answer(rt: HostRuntime) -> Result<(), Fail> {
     assert_eq!(rt; world.module().counter(), 2);
     assert_eq!(rt; world.module().waiting(), 0);
     assert_eq!(rt; world.poller().number(), 1);
-    let log = transitions(&rt, rt.alloc(), &rows, 1)?;
-    check_record(&rt, &world, log.as_slice(), &[(0, 2)]);
-    Ok(())
-}
-
-#[test]
-fn two_polls_of_one_number_under_way(rt: HostRuntime) -> Result<(), Fail> {
-    let rows = [
-        (Event::Poll, sent(&rt, 1, &[0x36, 0])),
-        (Event::Poll, sent(&rt, 2, &[0x36, 0])),
-        (
-            Event::ToModule(1),
-            sent(&rt, 1, &[0xb6, 0, 0, 0, 0, 0, 0, 0]),
-        ),
-        (
-            Event::ToModule(2),
-            sent(&rt, 2, &[0xb6, 0, 0, 2, 0, 0, 0, 0]),
-        ),
-        (Event::ToCpu(1), taken(0, 0)),
-        (Event::ToCpu(2), stale(0)),
-    ];
-    let world = both(&rt, rt.alloc(), 0, &rows)?;
-    assert_eq!(rt; world.poller().number(), 1);
-    assert_eq!(rt; world.poller().items().len(), 0);
+    let entries = [entry(&rt, 0, false, 1), entry(&rt, 0, true, 2)];
+    assert_eq!(rt; world.poller().items(), entries.as_slice());
     Ok(())
 }
