@@ -8,7 +8,6 @@ mod overflows;
 mod printing;
 mod records;
 mod refusals;
-mod refused_memory;
 mod reports;
 mod restarts;
 mod rounds;
