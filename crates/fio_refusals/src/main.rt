@@ -15,6 +15,7 @@ mod worlds;
 use answers::Answer;
 use fio_message::Memory;
 use fio_tool::Tool;
+use samples::{LOST_ANSWER, NINE_ROUNDS, ONE_ENTRY};
 use std::alloc::Global;
 use std::process::ExitCode;
 
@@ -22,23 +23,25 @@ use std::process::ExitCode;
 type Row = (&'static str, Result<Answer, Memory>);
 
 fn main(rt: HostRuntime) -> ExitCode {
+    let parts = are_right(&rt, &rows_of_parts(rt.alloc()));
+    let ends = are_right(&rt, &rows_of_ends(rt.alloc()));
+    let tools = are_right(&rt, &rows_of_tools(rt.alloc()));
+    ExitCode::from(u8::from(!(parts && ends && tools)))
+}
+
+/// Tells of each row, and whether none is wrong.
+fn are_right(rt: &HostRuntime, rows: &[Row]) -> bool {
     let mut is_right = true;
-    for rows in [
-        rows_of_parts(rt.alloc()),
-        rows_of_ends(rt.alloc()),
-        rows_of_tools(rt.alloc()),
-    ] {
-        for (name, answer) in rows {
-            let told = match answer {
-                Ok(Answer::Right) => println!(rt; "{name}: right"),
-                Ok(Answer::Refused(place)) => println!(rt; "{name}: refused at {place}"),
-                Ok(Answer::Wrong) => println!(rt; "{name}: wrong"),
-                Err(Memory) => println!(rt; "{name}: not begun"),
-            };
-            is_right = is_right && told.is_ok() && answer != Ok(Answer::Wrong);
-        }
+    for (name, answer) in rows {
+        let told = match answer {
+            Ok(Answer::Right) => println!(rt; "{name}: right"),
+            Ok(Answer::Refused(place)) => println!(rt; "{name}: refused at {place}"),
+            Ok(Answer::Wrong) => println!(rt; "{name}: wrong"),
+            Err(Memory) => println!(rt; "{name}: not begun"),
+        };
+        is_right = is_right && told.is_ok() && !matches!(answer, Ok(Answer::Wrong));
     }
-    ExitCode::from(u8::from(!is_right))
+    is_right
 }
 
 /// The calls of the module and of the CPU's end, and of the words of texts.
@@ -60,17 +63,25 @@ fn rows_of_parts(alloc: Global) -> [Row; 9] {
 }
 
 /// The calls of both ends together, and of their texts.
-fn rows_of_ends(alloc: Global) -> [Row; 9] {
+fn rows_of_ends(alloc: Global) -> [Row; 11] {
     [
         ("World::new", Ok(worlds::new(alloc))),
         ("World::with_limits", Ok(worlds::with_limits(alloc))),
-        ("World::step", worlds::step(alloc, &samples::LOST_ANSWER)),
+        ("World::step", worlds::step(alloc, &LOST_ANSWER)),
         (
-            "World::step with limits",
-            worlds::step(alloc, &samples::ONE_ENTRY),
+            "World::step of nine rounds",
+            worlds::step(alloc, &NINE_ROUNDS),
         ),
-        ("World::run", worlds::run(alloc)),
-        ("World::run_with_limits", worlds::run_with_limits(alloc)),
+        ("World::step with limits", worlds::step(alloc, &ONE_ENTRY)),
+        ("World::run", worlds::run(alloc, &LOST_ANSWER)),
+        (
+            "World::run of nine rounds",
+            worlds::run(alloc, &NINE_ROUNDS),
+        ),
+        (
+            "World::run_with_limits",
+            worlds::run_with_limits(alloc, &ONE_ENTRY),
+        ),
         ("read_script", Ok(texts::script(alloc))),
         ("report", texts::told(alloc)),
         ("read_trace", Ok(texts::transcript(alloc))),

@@ -1,6 +1,6 @@
 //! Texts that are read and made.
 use crate::answers::Answer;
-use crate::samples::{LOST_ANSWER, TRANSCRIPT};
+use crate::samples::{LOST_ANSWER, LOST_ANSWER_REPORT, TRANSCRIPT};
 use fio_message::{DecodeError, Memory};
 use fio_tool::{TraceError, read_trace};
 use fio_world::text::read_octets;
@@ -46,7 +46,7 @@ pub(crate) fn told(alloc: Global) -> Result<Answer, Memory> {
     };
     Ok(match report(alloc, &script) {
         Ok(report) => {
-            Answer::right_if(report.good && report.text.as_slice() == LOST_ANSWER.report)
+            Answer::right_if(report.good && report.text.as_slice() == LOST_ANSWER_REPORT)
         }
         Err(Memory) => Answer::Refused(0),
     })

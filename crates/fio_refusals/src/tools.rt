@@ -1,6 +1,6 @@
 //! The three tools, over texts, over a reader and a writer, and as the program runs them.
 use crate::answers::Answer;
-use crate::samples::{FRAMES, LOST_ANSWER, SHOWN, TRANSCRIPT, VERDICT};
+use crate::samples::{FRAMES, LOST_ANSWER, LOST_ANSWER_REPORT, SHOWN, TRANSCRIPT, VERDICT};
 use fio_message::Memory;
 use fio_tool::{
     Ending, Tool, ToolFault, check, check_text, run_program, show, show_text, simulate,
@@ -15,7 +15,7 @@ const ROOM: usize = 1000;
 fn sample(tool: Tool) -> (&'static [u8], &'static [u8]) {
     match tool {
         Tool::Show => (FRAMES, SHOWN),
-        Tool::Simulate => (LOST_ANSWER.script, LOST_ANSWER.report),
+        Tool::Simulate => (LOST_ANSWER.script, LOST_ANSWER_REPORT),
         Tool::Check => (TRANSCRIPT, VERDICT),
     }
 }

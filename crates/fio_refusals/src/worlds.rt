@@ -1,6 +1,6 @@
 //! Both ends and the bus.
 use crate::answers::Answer;
-use crate::samples::{LOST_ANSWER, ONE_ENTRY, Sample};
+use crate::samples::Sample;
 use fio_message::Memory;
 use fio_module::Limits;
 use fio_world::{RunError, Script, World, WorldError, read_script};
@@ -27,15 +27,15 @@ fn made(world: Result<World, Memory>) -> Answer {
 }
 
 /// The events of a sample, run at once with the limits of TEES 2009.
-pub(crate) fn run(alloc: Global) -> Result<Answer, Memory> {
-    let script = script_of(alloc, &LOST_ANSWER)?;
+pub(crate) fn run(alloc: Global, sample: &Sample) -> Result<Answer, Memory> {
+    let script = script_of(alloc, sample)?;
     let ran = World::run(alloc, script.id, script.first, script.events.as_slice());
-    Ok(ended(&ran, &script, &LOST_ANSWER))
+    Ok(ended(&ran, &script, sample))
 }
 
 /// The events of a sample, run at once with its limits.
-pub(crate) fn run_with_limits(alloc: Global) -> Result<Answer, Memory> {
-    let script = script_of(alloc, &ONE_ENTRY)?;
+pub(crate) fn run_with_limits(alloc: Global, sample: &Sample) -> Result<Answer, Memory> {
+    let script = script_of(alloc, sample)?;
     let ran = World::run_with_limits(
         alloc,
         script.id,
@@ -43,7 +43,7 @@ pub(crate) fn run_with_limits(alloc: Global) -> Result<Answer, Memory> {
         script.limits,
         script.events.as_slice(),
     );
-    Ok(ended(&ran, &script, &ONE_ENTRY))
+    Ok(ended(&ran, &script, sample))
 }
 
 /// A run comes to the end of its sample, or tells after how many events memory was refused.
