@@ -1,5 +1,5 @@
 use fio_cpu::*;
-use fio_message::{DecodeError, InputNumber, Memory};
+use fio_message::{DecodeError, InputNumber};
 use std::process::Abort;
 
 /// Block 5 with one entry, input 12 to 1 at 999, status 0, stamp 1000.
@@ -37,19 +37,9 @@ fn entry(rt: &impl Abort, input: u8, level: bool, stamp: u16, wide: u32) -> Item
     }
 }
 
-/// What is heard in octets. Where the record could not grow, nothing has changed and the same
-/// octets are heard again.
-fn hear_at_last(rt: &impl Abort, poller: &mut Poller, octets: &[u8]) -> Heard {
-    let number = poller.number();
-    let items = poller.items().len();
-    match poller.hear(octets) {
-        Ok(heard) => heard,
-        Err(Memory) => {
-            assert_eq!(rt; poller.number(), number);
-            assert_eq!(rt; poller.items().len(), items);
-            poller.hear(octets).expect(rt, "room the second time")
-        }
-    }
+/// What is heard in octets.
+fn hear(rt: &impl Abort, poller: &mut Poller, octets: &[u8]) -> Heard {
+    poller.hear(octets).expect(rt, "room for the record")
 }
 
 #[test]
@@ -67,7 +57,7 @@ fn hears_octets(rt: HostRuntime) {
     ];
     for (first, octets, heard, number, items) in cases {
         let mut poller = Poller::new(rt.alloc(), first);
-        assert_eq!(rt; hear_at_last(&rt, &mut poller, octets), heard);
+        assert_eq!(rt; hear(&rt, &mut poller, octets), heard);
         assert_eq!(rt; poller.number(), number);
         assert_eq!(rt; poller.items().len(), items);
     }
@@ -82,7 +72,7 @@ fn records_items(rt: HostRuntime) {
     ];
     for (first, octets, item) in cases {
         let mut poller = Poller::new(rt.alloc(), first);
-        hear_at_last(&rt, &mut poller, octets);
+        hear(&rt, &mut poller, octets);
         assert_eq!(rt; poller.items(), [item].as_slice());
     }
 }
@@ -90,11 +80,8 @@ fn records_items(rt: HostRuntime) {
 #[test]
 fn repeated_block_is_stale(rt: HostRuntime) {
     let mut poller = Poller::new(rt.alloc(), 0);
-    hear_at_last(&rt, &mut poller, &LOSS);
-    assert_eq!(rt;
-        hear_at_last(&rt, &mut poller, &LOSS),
-        Heard::Stale { block: 0 }
-    );
+    hear(&rt, &mut poller, &LOSS);
+    assert_eq!(rt; hear(&rt, &mut poller, &LOSS), Heard::Stale { block: 0 });
     assert_eq!(rt; poller.number(), 1);
     assert_eq!(rt; poller.items(), [Item::Gap].as_slice());
 }
@@ -104,15 +91,6 @@ fn poll_has_the_present_number(rt: HostRuntime) {
     let mut poller = Poller::new(rt.alloc(), 5);
     assert_eq!(rt; poller.poll().as_slice(), [0x36, 5].as_slice());
     assert_eq!(rt; poller.poll().as_slice(), [0x36, 5].as_slice());
-    hear_at_last(&rt, &mut poller, &ONE_ENTRY);
+    hear(&rt, &mut poller, &ONE_ENTRY);
     assert_eq!(rt; poller.poll().as_slice(), [0x36, 6].as_slice());
-}
-
-#[test]
-fn blocks_are_taken_at_once_in_ample_memory(rt: HostRuntime) {
-    let full = full_block();
-    for octets in [ONE_ENTRY.as_slice(), full.as_slice()] {
-        let mut poller = Poller::new(rt.alloc(), 5);
-        assert!(rt; poller.hear(octets).is_ok());
-    }
 }

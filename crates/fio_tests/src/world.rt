@@ -8,7 +8,6 @@ mod lines;
 mod losses;
 mod printing;
 mod refusals;
-mod refused_memory;
 mod reports;
 mod scripts;
 mod words;

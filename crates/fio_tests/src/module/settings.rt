@@ -1,6 +1,5 @@
-//! Limits, restarts, and memory that is refused.
+//! Limits and restarts.
 use super::{full_scans, gets, open_all, poll_gets};
-use fio_message::Memory;
 use fio_module::{Limits, Module};
 use std::test::Fail;
 
@@ -84,12 +83,4 @@ fn a_restart_forgets_all_but_the_identification(rt: HostRuntime) -> Result<(), F
     gets(&rt, &mut module, &[0x3a, 5], &[0xba, 0]);
     gets(&rt, &mut module, &[0x3c], &[0xbc, 2]);
     Ok(())
-}
-
-#[test]
-fn a_refused_growth_is_told(rt: HostRuntime) {
-    match Module::new(rt.alloc(), 2) {
-        Ok(module) => assert_eq!(rt; module.waiting(), 0),
-        Err(fault) => assert_eq!(rt; fault, Memory),
-    }
 }

@@ -1,7 +1,6 @@
 use super::ends::{Feed, Sink};
-use fio_tool::{Ending, Tool, ToolFault, choose, run_program};
+use fio_tool::{Tool, choose, run_program};
 use std::alloc::Global;
-use std::test::Fail;
 
 #[test]
 fn tools_of_words(rt: HostRuntime) {
@@ -84,24 +83,25 @@ fn statuses_of_the_program(rt: HostRuntime) {
     }
 }
 
+/// The tools read and write at their first call here.
 #[test]
-fn faults_are_told(rt: HostRuntime) -> Result<(), Fail> {
+fn faults_are_told(rt: HostRuntime) {
     let alloc = rt.alloc();
-    let words = ["fio2070", "show"];
-    let mut feed = Feed::new(b"3605", 100);
-    feed.failing = 1;
-    let mut sink = Sink::new(alloc, 100);
-    assert_eq!(rt; run_program(alloc, &words, &mut feed, &mut sink), 3);
-    assert_eq!(rt; sink.octets.as_slice(), b"fio2070: read fault\n".as_slice());
-    let mut sink = Sink::new(alloc, 100);
-    sink.failing = 1;
-    assert_eq!(rt;
-        run_program(alloc, &words, &mut Feed::new(b"3605", 100), &mut sink),
-        3
-    );
-    assert_eq!(rt;
-        sink.octets.as_slice(),
-        b"fio2070: write fault\n".as_slice()
-    );
-    Ok(())
+    for word in ["show", "simulate", "check"] {
+        let words = ["fio2070", word];
+        let mut feed = Feed::new(b"3605", 100);
+        feed.failing = 1;
+        let mut sink = Sink::new(alloc, 100);
+        let status = run_program(alloc, &words, &mut feed, &mut sink);
+        assert_eq!(rt; status, 3, "{word}");
+        assert_eq!(rt; sink.octets.as_slice(), b"fio2070: read fault\n".as_slice());
+        let mut sink = Sink::new(alloc, 100);
+        sink.failing = 1;
+        let status = run_program(alloc, &words, &mut Feed::new(b"3605", 100), &mut sink);
+        assert_eq!(rt; status, 3, "{word}");
+        assert_eq!(rt;
+            sink.octets.as_slice(),
+            b"fio2070: write fault\n".as_slice()
+        );
+    }
 }

@@ -1,4 +1,4 @@
-use fio_message::{DecodeError, Memory};
+use fio_message::DecodeError;
 use fio_world::push_fault;
 use fio_world::text::{FaultWords, Hexadecimal};
 use std::test::Fail;
@@ -28,19 +28,6 @@ fn words_of_refusals(rt: HostRuntime) -> Result<(), Fail> {
         assert_eq!(rt; &text.as_slice()[8..], wanted.as_bytes());
     }
     Ok(())
-}
-
-/// Holds also where memory is refused.
-#[test]
-fn refused_words_leave_the_text(rt: HostRuntime) {
-    let Ok(mut text) = Vec::from_slice(rt.alloc(), b"line 3: ") else {
-        return;
-    };
-    let wanted: &[u8] = match push_fault(&mut text, &DecodeError::Empty) {
-        Ok(()) => b"line 3: empty",
-        Err(Memory) => b"line 3: ",
-    };
-    assert_eq!(rt; text.as_slice(), wanted);
 }
 
 #[test]

@@ -43,19 +43,10 @@ const LOST_BLOCK_REPORT: &[u8] = b"1 sent 1 3301000101\n\
     input 0 state 0 stamp 1 wide 1\n\
     input 0 state 1 stamp 2 wide 2\n";
 
-/// Holds also where a request for memory is refused.
 #[test]
 fn a_lost_answer(rt: HostRuntime) {
-    let report = match report_of(rt.alloc(), LOST_BLOCK) {
-        Err(ScriptError::Memory) => report_of(rt.alloc(), LOST_BLOCK),
-        told => told,
-    };
+    let report = report_of(rt.alloc(), LOST_BLOCK);
     let report = report.expect(&rt, "a script, and memory for its report");
     assert_eq!(rt; report.text.as_slice(), LOST_BLOCK_REPORT);
     assert!(rt; report.good);
-}
-
-#[test]
-fn reports_in_ample_memory(rt: HostRuntime) {
-    assert!(rt; report_of(rt.alloc(), LOST_BLOCK).is_ok());
 }

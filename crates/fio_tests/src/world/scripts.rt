@@ -1,16 +1,6 @@
 use fio_message::Command;
 use fio_module::Limits;
-use fio_world::{Event, Script, ScriptError, read_script};
-use std::alloc::Global;
-use std::process::Abort;
-
-/// Reads a script, and once more where there was no memory the first time.
-fn read_at_last(alloc: Global, text: &[u8]) -> Result<Script, ScriptError> {
-    match read_script(alloc, text) {
-        Err(ScriptError::Memory) => read_script(alloc, text),
-        read => read,
-    }
-}
+use fio_world::{Event, read_script};
 
 #[test]
 fn headers(rt: HostRuntime) {
@@ -35,7 +25,7 @@ fn headers(rt: HostRuntime) {
         ),
     ];
     for (text, id, first, limits) in cases {
-        let script = read_at_last(rt.alloc(), text).expect(&rt, "a script");
+        let script = read_script(rt.alloc(), text).expect(&rt, "a script");
         assert_eq!(rt; script.id, id);
         assert_eq!(rt; script.first, first);
         assert_eq!(rt; Some(script.limits), limits);
@@ -47,7 +37,7 @@ fn headers(rt: HostRuntime) {
 fn events(rt: HostRuntime) {
     let text =
         b"fio2070 script 2 2 0\nscan FEffffffffffff7f\nsync\nraise 0a\n\npoll\n#\nsend 3C\nto-module 0\nto-cpu 012\nrestart";
-    let script = read_at_last(rt.alloc(), text).expect(&rt, "a script");
+    let script = read_script(rt.alloc(), text).expect(&rt, "a script");
     let events = [
         Event::Scan(0x7fff_ffff_ffff_fffe),
         Event::LineSync,

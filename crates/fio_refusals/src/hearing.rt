@@ -1,0 +1,68 @@
+//! Blocks that the CPU hears.
+use crate::answers::Answer;
+use fio_cpu::{Heard, Poller};
+use fio_message::Memory;
+use std::alloc::Global;
+
+/// Block 5 with one entry, input 12 to 1 at 999, status 0, stamp 1000.
+pub(crate) fn one_entry(alloc: Global) -> Answer {
+    let octets = [0xb6, 5, 1, 0x8c, 3, 0xe7, 0, 0, 0, 3, 0xe8];
+    hear(
+        alloc,
+        &octets,
+        1,
+        Heard::Block {
+            entries: 1,
+            status: 0,
+        },
+    )
+}
+
+/// Block 5 with 255 entries, each input 0 to 0 at 0, with C, stamp 0.
+pub(crate) fn most_entries(alloc: Global) -> Answer {
+    let mut octets = [0; 773];
+    octets[0] = 0xb6;
+    octets[1] = 5;
+    octets[2] = 255;
+    octets[768] = 8;
+    hear(
+        alloc,
+        &octets,
+        255,
+        Heard::Block {
+            entries: 255,
+            status: 8,
+        },
+    )
+}
+
+/// Block 5 without entries, with F.
+pub(crate) fn gap(alloc: Global) -> Answer {
+    let octets = [0xb6, 5, 0, 4, 0, 0, 0, 0];
+    hear(
+        alloc,
+        &octets,
+        1,
+        Heard::Block {
+            entries: 0,
+            status: 4,
+        },
+    )
+}
+
+/// The octets are taken, at last the second time, and so many items are recorded. Where memory was
+/// refused, the record was empty then and the number was as before.
+fn hear(alloc: Global, octets: &[u8], items: usize, wanted: Heard) -> Answer {
+    let mut poller = Poller::new(alloc, 5);
+    let mut heard = poller.hear(octets);
+    let mut answer = Answer::Right;
+    if heard == Err(Memory) {
+        answer = Answer::refused_if(poller.number() == 5 && poller.items().is_empty());
+        heard = poller.hear(octets);
+    }
+    if heard == Ok(wanted) && poller.number() == 6 && poller.items().len() == items {
+        answer
+    } else {
+        Answer::Wrong
+    }
+}

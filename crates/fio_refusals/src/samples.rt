@@ -1,0 +1,97 @@
+//! Scripts with their ends, and the texts of the tools with what they write.
+
+/// A script, and what can be counted of both ends when it is done.
+#[derive(Drop)]
+pub(crate) struct Sample {
+    pub(crate) script: &'static [u8],
+    /// The frames sent to the module and to the CPU, the numbers delivered last to each, the items of
+    /// the record, the CPU's block number, the module's counter, and the waiting entries.
+    pub(crate) end: [usize; 8],
+}
+
+/// The answer to a poll is lost, the next one comes twice, and the block number goes from 255 to 0.
+pub(crate) const LOST_ANSWER: Sample = Sample {
+    script: b"fio2070 script 1 2 255\n\
+        send 3301000101\n\
+        to-module 1\n\
+        scan feffffffffffffff\n\
+        poll\n\
+        to-module 2\n\
+        scan ffffffffffffffff\n\
+        poll\n\
+        to-module 3\n\
+        to-cpu 3\n\
+        to-cpu 3\n\
+        poll\n\
+        to-module 4\n\
+        to-cpu 4\n",
+    end: [4, 4, 4, 4, 2, 1, 2, 0],
+};
+
+/// Its report.
+pub(crate) const LOST_ANSWER_REPORT: &[u8] = b"1 sent 1 3301000101\n\
+    2 sent 1 b300\n\
+    3 quiet\n\
+    4 sent 2 36ff\n\
+    5 sent 2 b6ff010000010000000001\n\
+    6 quiet\n\
+    7 sent 3 36ff\n\
+    8 sent 3 b6ff010000010200000001\n\
+    9 block entries 1 status 02\n\
+    10 stale 255\n\
+    11 sent 4 3600\n\
+    12 sent 4 b600018000020000000002\n\
+    13 block entries 1 status 00\n\
+    counter 2\n\
+    number 1\n\
+    waiting 0\n\
+    record 2\n\
+    input 0 state 0 stamp 1 wide 1\n\
+    input 0 state 1 stamp 2 wide 2\n";
+
+/// Blocks of one entry.
+pub(crate) const ONE_ENTRY: Sample = Sample {
+    script: b"fio2070 script 3 2 0 1 1024\n\
+        send 33020001010c0101\n\
+        to-module 1\n\
+        scan feefffffffffffff\n\
+        poll\n\
+        to-module 2\n\
+        to-cpu 2\n\
+        poll\n\
+        to-module 3\n\
+        to-cpu 3\n",
+    end: [3, 3, 3, 3, 2, 2, 1, 0],
+};
+
+/// Nine rounds, each with a transition, so that the frames and the record grow more than once.
+pub(crate) const NINE_ROUNDS: Sample = Sample {
+    script: b"fio2070 script 1 2 0\nsend 3301000101\nto-module 1\n\
+        scan feffffffffffffff\npoll\nto-module 2\nto-cpu 2\n\
+        scan ffffffffffffffff\npoll\nto-module 3\nto-cpu 3\n\
+        scan feffffffffffffff\npoll\nto-module 4\nto-cpu 4\n\
+        scan ffffffffffffffff\npoll\nto-module 5\nto-cpu 5\n\
+        scan feffffffffffffff\npoll\nto-module 6\nto-cpu 6\n\
+        scan ffffffffffffffff\npoll\nto-module 7\nto-cpu 7\n\
+        scan feffffffffffffff\npoll\nto-module 8\nto-cpu 8\n\
+        scan ffffffffffffffff\npoll\nto-module 9\nto-cpu 9\n\
+        scan feffffffffffffff\npoll\nto-module 10\nto-cpu 10\n",
+    end: [10, 10, 10, 10, 9, 9, 9, 0],
+};
+
+/// Captured frames.
+pub(crate) const FRAMES: &[u8] = b"3605\nb605018c03e700000003e8\n";
+
+/// What `show` tells of them.
+pub(crate) const SHOWN: &[u8] = b"poll block 5\n\
+    block 5 entries 1 status 00 stamp 1000\n  input 12 state 1 stamp 999 wide 999\n";
+
+/// A transcript of five frames that keeps the rules.
+pub(crate) const TRANSCRIPT: &[u8] = b"> 3605\n\
+    < b605018c03e700000003e8\n\
+    > 3606\n\
+    > 3606\n\
+    < b6060002000003e9\n";
+
+/// What `check` tells of it.
+pub(crate) const VERDICT: &[u8] = b"good 5 frames\n";

@@ -1,0 +1,69 @@
+//! The three tools, over texts, over a reader and a writer, and as the program runs them.
+use crate::answers::Answer;
+use crate::samples::{FRAMES, LOST_ANSWER, LOST_ANSWER_REPORT, SHOWN, TRANSCRIPT, VERDICT};
+use fio_message::Memory;
+use fio_tool::{
+    Ending, Tool, ToolFault, check, check_text, run_program, show, show_text, simulate,
+    simulate_text,
+};
+use std::alloc::Global;
+
+/// More octets than a tool writes here, so that the writer never grows.
+const ROOM: usize = 1000;
+
+/// What a tool reads, and what it writes then.
+fn sample(tool: Tool) -> (&'static [u8], &'static [u8]) {
+    match tool {
+        Tool::Show => (FRAMES, SHOWN),
+        Tool::Simulate => (LOST_ANSWER.script, LOST_ANSWER_REPORT),
+        Tool::Check => (TRANSCRIPT, VERDICT),
+    }
+}
+
+/// The text of what is read.
+pub(crate) fn text(alloc: Global, tool: Tool) -> Answer {
+    let (input, wanted) = sample(tool);
+    let told = match tool {
+        Tool::Show => show_text(alloc, input),
+        Tool::Simulate => simulate_text(alloc, input),
+        Tool::Check => check_text(alloc, input),
+    };
+    match told {
+        Ok(report) => Answer::right_if(report.good && report.text.as_slice() == wanted),
+        Err(Memory) => Answer::Refused(0),
+    }
+}
+
+/// The text of what is read is written, or nothing is.
+pub(crate) fn streams(alloc: Global, tool: Tool) -> Result<Answer, Memory> {
+    let (mut input, wanted) = sample(tool);
+    let mut written = Vec::with_capacity(alloc, ROOM)?;
+    let ending = match tool {
+        Tool::Show => show(alloc, &mut input, &mut written),
+        Tool::Simulate => simulate(alloc, &mut input, &mut written),
+        Tool::Check => check(alloc, &mut input, &mut written),
+    };
+    Ok(match ending {
+        Ok(Ending::Good) => Answer::right_if(written.as_slice() == wanted),
+        Err(ToolFault::Memory) => Answer::refused_if(written.is_empty()),
+        _ => Answer::Wrong,
+    })
+}
+
+/// The text of what is read and status 0, or what the program says of want of memory and status 3.
+pub(crate) fn program(alloc: Global, tool: Tool) -> Result<Answer, Memory> {
+    let (mut input, wanted) = sample(tool);
+    let word = match tool {
+        Tool::Show => "show",
+        Tool::Simulate => "simulate",
+        Tool::Check => "check",
+    };
+    let mut written = Vec::with_capacity(alloc, ROOM)?;
+    let words = ["fio2070", word];
+    let status = run_program(alloc, &words, &mut input, &mut written);
+    Ok(match status {
+        0 => Answer::right_if(written.as_slice() == wanted),
+        3 => Answer::refused_if(written.as_slice() == b"fio2070: out of memory\n".as_slice()),
+        _ => Answer::Wrong,
+    })
+}
