@@ -317,8 +317,8 @@ impl Module {
         self.outputs
     }
 
-    /// The timeout of the watchdog in milliseconds, 10 to 100 (own profile), or `None` before the
-    /// first command that sets it.
+    /// The timeout of the watchdog in milliseconds, 10 to 100, or `None` before the first command that
+    /// sets it.
     pub fn watchdog_ms(&self) -> Option<u8>
         ensures { (settings : Settings) (history : History) → StandsFor settings self.now history
             → result ≡ watchdog_of (life_of history) }
