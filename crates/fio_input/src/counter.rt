@@ -48,8 +48,8 @@ impl Counter {
         self.asked = Some(number);
     }
 
-    /// LINESYNC goes from 0 to 1: a load that was asked for happens now (TEES 2009), and with none
-    /// nothing changes (own profile).
+    /// LINESYNC goes from 0 to 1: a load that was asked for happens now, and with none nothing
+    /// changes (TEES 2009).
     pub fn line_sync(&mut self)
         ensures { (history : List CounterEvent) → StandsFor self.old history
             → StandsFor self.new (LineSync ∷ history) }

@@ -19,7 +19,9 @@ pub fn counter_between_loads()
 pub fn one_more_sample()
     ensures { (setting : Setting) (base sample : Bool) (older : List Bool)
         → filtered_state setting base (sample ∷ older)
-        ≡ (if ends_run setting (sample ∷ older) then sample else filtered_state setting base older) }
+        ≡ (if ends_run setting (sample ∷ older)
+        then sample
+        else filtered_state setting base older) }
 {}
 
 /// The state is the sample at the latest place that ends such a run, and the base where there is

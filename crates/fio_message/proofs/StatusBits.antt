@@ -1,9 +1,9 @@
--- The named bits of a block answer's status.
+-- The named bits of the statuses.
 use Rattle.std.proofs.Common.{◌≡◌, ℕ, ◌≤◌, ◌==◌, Bool, true, false, refl, ap, ◌∙◌, arith}
 use Rattle.std.specs.Int.{bit_at}
 use Rattle.fio_message.specs.Bits.{is_set, bit_of}
-use Rattle.fio_message.specs.Status.{block_status}
-use Rattle.fio_message.specs.Laws.{StatusReadsBack}
+use Rattle.fio_message.specs.Status.{error_status, set_before_status, block_status}
+use Rattle.fio_message.specs.Laws.{ErrorReadsBack, SetBeforeReadsBack, StatusReadsBack}
 
 -- a flag as a bit is 0 or 1
 bit_of_small : (flag : Bool) → bit_of flag ≤ 1
@@ -20,7 +20,14 @@ set_by : (word place : ℕ) (flag : Bool) → bit_at word place ≡ bit_of flag 
 unfolding is_set
 set_by word place flag same = ap (λ (n : ℕ). n == 1) same ∙ bit_of_set flag
 
--- each named bit says what was put there
+-- S says what was put there, and so does Y
+pub error_back : ErrorReadsBack
+error_back error = set_by (error_status error) 0 error (omega (arith, bit_of_small error))
+
+pub set_before_back : SetBeforeReadsBack
+set_before_back before = set_by (set_before_status before) 0 before (omega (arith, bit_of_small before))
+
+-- each named bit of a block's status says what was put there
 pub status_back : (more lost again out_of_sequence : Bool) → StatusReadsBack more lost again out_of_sequence
 status_back more lost again out_of_sequence =
     let status = block_status more lost again out_of_sequence in

@@ -36,11 +36,10 @@ abbrev pub answer_code : Answer → ℕ
 answer_code answer = answered_code answer + 128
 
 -- The octets after the type: numbers most significant octet first, a stamp in four octets, a count
--- before its entries, a body as it stands. The bits of a flag or status octet stand as they are, also
--- those that have no name (own profile). Named are: of the flags, from bit 7 down, P (the module was
--- reset), E, K, R, T, M, L and W; of the status of a load or a configuration, bit 0, S (0 done, 1
--- error); of the status of a watchdog, bit 0, Y (1 where it had been set before); of the status of a
--- block, those of the file `Status`. Letters and order of the flags and all places are own profile.
+-- before its entries, a body as it stands. The bits of a flag or status octet stand as they are,
+-- also those that have no name (own profile). Named are: of the flags, from bit 7 down, P (the
+-- module was reset), E, K, R, T, M, L and W; of a status, those of the file `Status`. Letters and
+-- order of the flags and all places are own profile.
 abbrev pub answer_fields : Answer → List ℕ
 answer_fields (Status flags receive_errors transmit_errors stamp) =
     flags ∷ receive_errors ∷ transmit_errors ∷ to_be_bytes w32 stamp

@@ -29,8 +29,8 @@ command_code Identify = 60
 command_code (Other kind _) = other_command_code kind
 
 -- The octets after the type: a number most significant octet first, a count before its items, the
--- data octets of the outputs before the control octets, a body as it stands. Flags to clear stand in
--- the places of the flags of an answer: from bit 7 down P, E, K, R, T, M, L and W (own profile).
+-- data octets of the outputs before the control octets, a body as it stands. Flags to clear stand
+-- in the places of the flags of an answer: from bit 7 down P, E, K, R, T, M, L and W (own profile).
 abbrev pub command_fields : Command → List ℕ
 command_fields (Status clear) = clear ∷ []
 command_fields (LoadCounter load) = to_be_bytes w32 load

@@ -6,7 +6,7 @@ use Rattle.fio_message.specs.Octets.{IsOctets, IsFrameLength, inputs_octets}
 use Rattle.fio_message.specs.Commands.{SpellsCommand}
 use Rattle.fio_message.specs.Answers.{SpellsAnswer, answer_length, block_length}
 use Rattle.fio_message.specs.Status as status
-use Rattle.fio_message.specs.Status.{block_status}
+use Rattle.fio_message.specs.Status.{error_status, set_before_status, block_status}
 use Rattle.fio_message.specs.Refusals.{Refuses}
 use Rattle.fio_message.specs.declared.faults.DecodeError.{DecodeError}
 use Rattle.fio_message.specs.declared.commands.Command.{Command}
@@ -70,13 +70,20 @@ NeedsTheSame =
     (octets : List ℕ) (needed : ℕ)
     → block_length octets ≡ Some needed → answer_length octets ≡ Some needed
 
--- each named bit of a block answer's status says what was put there
+-- each named bit of a block's status says what was put there
 pub record StatusReadsBack (more lost again out_of_sequence : Bool) : Type 0 where
   pub says_more : status.says_more (block_status more lost again out_of_sequence) ≡ more
   pub says_lost : status.says_lost (block_status more lost again out_of_sequence) ≡ lost
   pub says_again : status.says_again (block_status more lost again out_of_sequence) ≡ again
   pub says_out_of_sequence :
       status.says_out_of_sequence (block_status more lost again out_of_sequence) ≡ out_of_sequence
+
+-- and so do S and Y
+abbrev pub ErrorReadsBack : Type 0
+ErrorReadsBack = (error : Bool) → status.says_error (error_status error) ≡ error
+
+abbrev pub SetBeforeReadsBack : Type 0
+SetBeforeReadsBack = (before : Bool) → status.says_set_before (set_before_status before) ≡ before
 
 -- no list is both a command and an answer
 abbrev pub IsNeverBoth : Type 0

@@ -1,10 +1,27 @@
--- The status octet of a block answer. Its named bits, from bit 3 down, are C, F, E and G: the
--- letters are those of TEES 2009, the places are own profile. Bits 7 to 4 have no name: they are
--- kept as they come.
+-- The status octets of answers. Named are: of a load's and of a configuration's S, bit 0; of a
+-- watchdog's Y, bit 0; of a block's C, F, E and G, from bit 3 down. The letters are those of TEES
+-- 2009, the places are own profile. The other bits have no name: they are kept as they come.
 use Rattle.std.specs.Prelude.{ℕ, ◌+◌, ◌*◌, Bool}
 use Rattle.fio_message.specs.Bits.{bit_of, is_set}
 
--- C, bit 3: more entries waited than the block takes, so more follow in the next block
+-- S, bit 0 of the status of a load or a configuration: 0 done, 1 error
+abbrev pub says_error : ℕ → Bool
+says_error status = is_set status 0
+
+-- the status with S as it is given here, and no other bit
+abbrev pub error_status : Bool → ℕ
+error_status error = bit_of error
+
+-- Y, bit 0 of the status of a watchdog: it had been set before
+abbrev pub says_set_before : ℕ → Bool
+says_set_before status = is_set status 0
+
+-- the status with Y as it is given here, and no other bit
+abbrev pub set_before_status : Bool → ℕ
+set_before_status before = bit_of before
+
+-- C, bit 3 of the status of a block: more entries waited than the block takes, so more follow in
+-- the next block
 abbrev pub says_more : ℕ → Bool
 says_more status = is_set status 3
 
@@ -20,7 +37,7 @@ says_again status = is_set status 1
 abbrev pub says_out_of_sequence : ℕ → Bool
 says_out_of_sequence status = is_set status 0
 
--- the status with these named bits, and no other
+-- the status of a block with these named bits, and no other
 abbrev pub block_status : Bool → Bool → Bool → Bool → ℕ
 block_status more lost again out_of_sequence =
     8 * bit_of more + (4 * bit_of lost + (2 * bit_of again + bit_of out_of_sequence))

@@ -7,8 +7,7 @@ use Rattle.std.proofs.lemmas.List.{length-set}
 use Rattle.std.proofs.Math.Seq.{take-append_seam}
 use Rattle.fio_message.specs.Bits.{bit_of}
 use Rattle.fio_message.specs.Status.{block_status}
-use Rattle.fio_message.specs.Octets.{IsOctet, IsEntry, entry_octets}
-use Rattle.fio_message.specs.Reading.{entry_at}
+use Rattle.fio_message.specs.Octets.{IsOctet, entry_octets}
 use Rattle.fio_message.specs.Answers.{SpellsAnswer, answer_octets}
 use Rattle.fio_message.proofs.Parts.{length-parts}
 use Rattle.fio_message.proofs.PartKinds.{entry_is_part}

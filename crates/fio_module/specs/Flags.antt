@@ -5,12 +5,14 @@ use Rattle.fio_message.specs.declared.commands.Command.TheVariants.{Status, Watc
 use Rattle.fio_module.specs.declared.outputs.Outputs.{Outputs}
 use Rattle.fio_module.specs.Life.{Raised, Commanded, Life}
 
--- whether the flag in this bit is up: of the start, the raises and the clearings that hold the bit, the latest is
--- no clearing. The start raises P alone, bit 7
+-- whether the flag in this bit is up: of the start, the raises and the clearings that hold the bit,
+-- the latest is no clearing. The start raises P alone, bit 7
 abbrev pub is_flag_up : ℕ → Life → Bool
 is_flag_up place [] = place == 7
-is_flag_up place (Raised mask ∷ life) = if is_set mask place then true else is_flag_up place life
-is_flag_up place (Commanded (Status clear) ∷ life) = if is_set clear place then false else is_flag_up place life
+is_flag_up place (Raised mask ∷ life) =
+    if is_set mask place then true else is_flag_up place life
+is_flag_up place (Commanded (Status clear) ∷ life) =
+    if is_set clear place then false else is_flag_up place life
 is_flag_up place (other ∷ life) = is_flag_up place life
 
 -- the word with these bits below a place, and none above
@@ -22,7 +24,8 @@ word_of (suc place) bit = bit_of (bit place) * 2 ^ place + word_of place bit
 abbrev pub flags_of : Life → ℕ
 flags_of life = word_of 8 (λ place. is_flag_up place life)
 
--- the latest timeout of the watchdog in milliseconds, at least 10 and at most 100; None before the first
+-- the latest timeout of the watchdog in milliseconds, at least 10 and at most 100; None before the
+-- first
 abbrev pub watchdog_of : Life → Option ℕ
 watchdog_of [] = None
 watchdog_of (Commanded (Watchdog timeout) ∷ life) = Some (min 100 (max 10 timeout))
@@ -31,5 +34,6 @@ watchdog_of (other ∷ life) = watchdog_of life
 -- what the latest command to set outputs set, all 0 before the first
 abbrev pub outputs_of : Life → Outputs
 outputs_of [] = record { levels = replicate 8 0; controls = replicate 8 0 }
-outputs_of (Commanded (SetOutputs levels controls) ∷ life) = record { levels = levels; controls = controls }
+outputs_of (Commanded (SetOutputs levels controls) ∷ life) =
+    record { levels = levels; controls = controls }
 outputs_of (other ∷ life) = outputs_of life

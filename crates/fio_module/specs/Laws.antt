@@ -16,12 +16,19 @@ with_waiting limit waiting transition =
 
 -- the waiting entries gain each new transition at the end, one after another
 abbrev pub ScansAddWaiting : Type 0
-ScansAddWaiting = (settings : Settings) (life : Life) (raw : ℕ) → waiting_of settings (Scanned raw ∷ life)
-    ≡ fold (with_waiting settings.waiting) (waiting_of settings life) (transitions_below 64 raw life)
+ScansAddWaiting =
+    (settings : Settings) (life : Life) (raw : ℕ) →
+    waiting_of settings (Scanned raw ∷ life)
+    ≡ fold
+    (with_waiting settings.waiting)
+    (waiting_of settings life)
+    (transitions_below 64 raw life)
 
 -- a new poll takes the first of them
 abbrev pub NewPollsTakeWaiting : Type 0
-NewPollsTakeWaiting = (settings : Settings) (life : Life) (number : ℕ) → is_new (latest_poll life) number ≡ true →
+NewPollsTakeWaiting =
+    (settings : Settings) (life : Life) (number : ℕ) →
+    is_new (latest_poll life) number ≡ true →
     waiting_of settings life
     ≡ (next_block settings life).transitions ++ waiting_of settings (Commanded (Poll number) ∷ life)
 
@@ -33,8 +40,10 @@ changes_waiting life other = false
 
 -- all else leaves the waiting entries alone
 abbrev pub OthersLeaveWaiting : Type 0
-OthersLeaveWaiting = (settings : Settings) (life : Life) (occurrence : Occurrence) →
-    changes_waiting life occurrence ≡ false → waiting_of settings (occurrence ∷ life) ≡ waiting_of settings life
+OthersLeaveWaiting =
+    (settings : Settings) (life : Life) (occurrence : Occurrence) →
+    changes_waiting life occurrence ≡ false →
+    waiting_of settings (occurrence ∷ life) ≡ waiting_of settings life
 
 -- the block has a part of the transition log, and says whether something was left out before it
 pub record IsPartOf (log : List Transition) (per_block : ℕ) (block : MadeBlock) : Type 0 where
@@ -49,16 +58,19 @@ pub record IsPartOf (log : List Transition) (per_block : ℕ) (block : MadeBlock
 abbrev pub FollowOneAnother : List Transition → ℕ → ℕ → List MadeBlock → Type 0
 FollowOneAnother log per_block before [] = Unit {0}
 FollowOneAnother log per_block before (block ∷ blocks) =
-    (block.before ≡ before) × IsPartOf log per_block block × FollowOneAnother log per_block block.end blocks
+    (block.before ≡ before) × IsPartOf log per_block block
+    × FollowOneAnother log per_block block.end blocks
 
 -- the blocks follow one another through the present transition log
 abbrev pub BlocksFollow : Type 0
-BlocksFollow = (settings : Settings) (life : Life) →
+BlocksFollow =
+    (settings : Settings) (life : Life) →
     FollowOneAnother (log_of life) settings.per_block 0 (blocks_of settings life)
 
 -- blocks lie within the transition log
 abbrev pub BlocksEndWithin : Type 0
-BlocksEndWithin = (settings : Settings) (life : Life) → newest_end settings life ≤ length (log_of life)
+BlocksEndWithin =
+    (settings : Settings) (life : Life) → newest_end settings life ≤ length (log_of life)
 
 -- what the sending says is the block
 pub record Carries (sending : Sending) (block : MadeBlock) : Type 0 where
@@ -69,21 +81,26 @@ pub record Carries (sending : Sending) (block : MadeBlock) : Type 0 where
 
 -- the answer to the latest poll, repeated or not, carries the newest block
 abbrev pub SendingsCarry : Type 0
-SendingsCarry = (settings : Settings) (life : Life) (sending : Sending) → latest_sending settings life ≡ Some sending →
+SendingsCarry =
+    (settings : Settings) (life : Life) (sending : Sending) →
+    latest_sending settings life ≡ Some sending →
     (earlier : List MadeBlock) × (block : MadeBlock)
     × (blocks_of settings life ≡ earlier ++ block ∷ []) × Carries sending block
 
 -- after a poll there is a sending, with its number
 abbrev pub SendingsAnswerPolls : Type 0
-SendingsAnswerPolls = (settings : Settings) (life : Life) →
+SendingsAnswerPolls =
+    (settings : Settings) (life : Life) →
     latest_poll life ≡ option_map (λ sending. sending.number) (latest_sending settings life)
 
 -- the transition log of the present life ends that of all lives
 abbrev pub LifeEndsLog : Type 0
-LifeEndsLog = (history : History) →
+LifeEndsLog =
+    (history : History) →
     (earlier : List Transition) × (whole_log history ≡ earlier ++ log_of (life_of history))
 
 -- where more may wait than a block takes, F implies C: a block after a loss leaves some waiting
 abbrev pub LossesLeaveMore : Type 0
-LossesLeaveMore = (settings : Settings) (life : Life) → settings.per_block < settings.waiting →
+LossesLeaveMore =
+    (settings : Settings) (life : Life) → settings.per_block < settings.waiting →
     (next_block settings life).lost ≡ true → (next_block settings life).more ≡ true

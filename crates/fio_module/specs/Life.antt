@@ -6,8 +6,8 @@ use Rattle.fio_message.specs.Decoding.{command_in}
 use Rattle.fio_input.specs.Counter as counting
 use Rattle.fio_input.specs.FilterHistory as filtering
 
--- what reaches a module from outside: a scan with the raw levels of all inputs, LINESYNC going from 0 to 1,
--- status flags that are raised, the octets of a frame, a restart
+-- what reaches a module from outside: a scan with the raw levels of all inputs, LINESYNC going from
+-- 0 to 1, status flags that are raised, the octets of a frame, a restart
 pub data Event : Type 0 where
   Scan : (raw : ℕ) → Event
   LineSync : Event
@@ -66,5 +66,6 @@ loads_of life = counting.loads_in (counter_events life)
 abbrev pub filter_events : Life → List filtering.FilterEvent
 filter_events [] = []
 filter_events (Scanned raw ∷ life) = filtering.Scan raw ∷ filter_events life
-filter_events (Commanded (ConfigureInputs items) ∷ life) = filtering.Configure items.items ∷ filter_events life
+filter_events (Commanded (ConfigureInputs items) ∷ life) =
+    filtering.Configure items.items ∷ filter_events life
 filter_events (other ∷ life) = filter_events life

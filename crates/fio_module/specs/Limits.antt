@@ -6,6 +6,10 @@ pub record Limits : Type 0 where
   pub per_block : ℕ
   pub waiting : ℕ
 
+-- those of TEES 2009
+abbrev pub standard_limits : Limits
+standard_limits = record { per_block = 255; waiting = 1024 }
+
 -- a block takes 1 to 255 entries, and 1,024 to 8,192 may wait
 abbrev pub are_limits : ℕ → ℕ → Bool
 are_limits per_block waiting =

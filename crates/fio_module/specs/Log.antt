@@ -4,8 +4,9 @@ use Rattle.fio_message.specs.declared.fields.Entry.{Entry}
 use Rattle.fio_input.specs.FilterHistory.{is_reported, state}
 use Rattle.fio_module.specs.Life.{Scan, History, Scanned, Life, life_of, counter_of, scans_of, loads_of, filter_events}
 
--- a change of an input's filtered state: the state after it, the counter at its scan, already stepped, and how many
--- scans, this one among them, and how many loads of the counter there had been
+-- a change of an input's filtered state: the state after it, the counter at its scan, already
+-- stepped, and how many scans, this one among them, and how many loads of the counter there had
+-- been
 pub record Transition : Type 0 where
   pub input : ℕ
   pub level : Bool
@@ -16,7 +17,11 @@ pub record Transition : Type 0 where
 -- a transition as a block carries it
 abbrev pub entry_of : Transition → Entry
 entry_of transition =
-    record { input = transition.input; level = transition.level; stamp = transition.counter % 2 ^ 16 }
+    record {
+      input = transition.input;
+      level = transition.level;
+      stamp = transition.counter % 2 ^ 16;
+    }
 
 -- the transition of an input at a scan that ends this life
 abbrev pub transition_at : Life → ℕ → Transition
@@ -34,7 +39,9 @@ unfoldable pub transitions_below : ℕ → ℕ → Life → List Transition
 transitions_below zero raw life = []
 transitions_below (suc input) raw life =
     transitions_below input raw life
-    ++ (if is_reported input raw (filter_events life) then transition_at (Scanned raw ∷ life) input ∷ [] else [])
+    ++ (if is_reported input raw (filter_events life)
+    then transition_at (Scanned raw ∷ life) input ∷ []
+    else [])
 
 -- the transition log of a life
 abbrev pub log_of : Life → List Transition

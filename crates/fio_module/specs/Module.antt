@@ -29,7 +29,8 @@ pub record IsAfter (settings : Settings) (value : Module) (life : Life) : Type 0
   pub flags : value.flags ≡ flags_of life
   pub watchdog : value.watchdog ≡ watchdog_of life
   pub outputs : value.outputs ≡ outputs_of life
-  pub waiting : Holds value.waiting settings.waiting (map octets_of (log_of life)) (newest_end settings life)
+  pub waiting :
+      Holds value.waiting settings.waiting (map octets_of (log_of life)) (newest_end settings life)
   pub sent : Keeps value.sent (latest_sending settings life)
 
 -- the module was made with these settings, and has been through this history
@@ -40,7 +41,8 @@ StandsFor settings value history = IsAfter settings value (life_of history)
 abbrev pub Obeys : Module → Module → Command → Option (ArrayVec ℕ) → Type 0
 Obeys old new command frame =
     (settings : Settings) (life : Life) → IsAfter settings old life →
-    IsAfter settings new (Commanded command ∷ life) × Encodes (answer_to settings life command) frame
+    IsAfter settings new (Commanded command ∷ life)
+    × Encodes (answer_to settings life command) frame
 
 -- a frame into which an answer was written, or none
 abbrev pub frame_if : Bool → ArrayVec ℕ → Option (ArrayVec ℕ)

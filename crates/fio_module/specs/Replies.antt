@@ -1,5 +1,5 @@
 -- The reply that octets get after a history.
-use Rattle.std.specs.Prelude.{◌≡◌, ℕ, List, [], ◌∷◌, Option, Some, None, option_map, is_some, if◌then◌else◌}
+use Rattle.std.specs.Prelude.{◌≡◌, ℕ, false, not, List, [], ◌∷◌, Option, Some, None, option_map, is_some}
 use Rattle.std.specs.Int.{w32, to_be_bytes}
 use Rattle.arrayvec.specs.ArrayVec.{ArrayVec}
 use Rattle.fio_message.specs.declared.answers.Answer.{Answer}
@@ -8,6 +8,7 @@ use Rattle.fio_message.specs.declared.answers.OtherAnswer.TheVariants as other_a
 use Rattle.fio_message.specs.declared.commands.Command.{Command}
 use Rattle.fio_message.specs.declared.commands.Command.TheVariants.{Status, LoadCounter, ConfigureInputs, Poll, Watchdog, RawInputs, FilteredInputs, SetOutputs, Identify, Other}
 use Rattle.fio_message.specs.Answers.{SpellsAnswer}
+use Rattle.fio_message.specs.Status.{error_status, set_before_status}
 use Rattle.fio_message.specs.Decoding.{command_in}
 use Rattle.fio_input.specs.FilterHistory.{all_present, raw_levels, state}
 use Rattle.fio_module.specs.Settings.{Settings}
@@ -20,21 +21,25 @@ abbrev pub answer_to : Settings → Life → Command → Option Answer
 -- the flags that are left after the clearing; both error counts stay 0
 answer_to settings life (Status clear) =
     Some (answers.Status (flags_of (Commanded (Status clear) ∷ life)) 0 0 (counter_of life))
-answer_to settings life (LoadCounter load) = Some (answers.LoadCounter 0)
--- 0 where the configuration is applied, 1 where an item names an input above 63
+-- S is clear: a load is never refused
+answer_to settings life (LoadCounter load) = Some (answers.LoadCounter (error_status false))
+-- S is set where an item names an input above 63, so that the configuration is not applied
 answer_to settings life (ConfigureInputs items) =
-    Some (answers.ConfigureInputs (if all_present items.items then 0 else 1))
+    Some (answers.ConfigureInputs (error_status (not (all_present items.items))))
 answer_to settings life RawInputs =
     Some (answers.RawInputs (raw_levels (filter_events life)) (counter_of life))
 answer_to settings life FilteredInputs =
-    Some (answers.FilteredInputs (word_of 64 (λ input. state input (filter_events life))) (counter_of life))
+    let inputs = word_of 64 (λ input. state input (filter_events life)) in
+    Some (answers.FilteredInputs inputs (counter_of life))
 answer_to settings life (Poll number) =
     option_map answer_of (latest_sending settings (Commanded (Poll number) ∷ life))
 -- the octet 0 and the four octets of the stamp
 answer_to settings life (SetOutputs levels controls) =
-    Some (answers.Other other_answers.SetOutputs (record { items = 0 ∷ to_be_bytes w32 (counter_of life) }))
--- 1 where the watchdog had been set before
-answer_to settings life (Watchdog timeout) = Some (answers.Watchdog (if is_some (watchdog_of life) then 1 else 0))
+    let octets = 0 ∷ to_be_bytes w32 (counter_of life) in
+    Some (answers.Other other_answers.SetOutputs (record { items = octets }))
+-- Y is set where the watchdog had been set before
+answer_to settings life (Watchdog timeout) =
+    Some (answers.Watchdog (set_before_status (is_some (watchdog_of life))))
 answer_to settings life Identify =
     Some (answers.Other other_answers.Identify (record { items = settings.id ∷ [] }))
 -- 56, 57 and 59 get none

@@ -29,7 +29,8 @@ answer_of sending =
     (block_status sending.more sending.lost sending.again sending.out_of_sequence)
     sending.stamp
 
--- whether a number is out of sequence after the poll received before it: not that one plus one, 0 after 255
+-- whether a number is out of sequence after the poll received before it: not that one plus one,
+-- 0 after 255
 abbrev pub is_out_of_sequence : Option ℕ → ℕ → Bool
 is_out_of_sequence None number = false
 is_out_of_sequence (Some before) number = not (number == (before + 1) % 256)

@@ -14,7 +14,8 @@ Keeps sent (Some sending) = SpellsAnswer (answer_of sending) sent.octets.items
 -- the octets of a block of entries that are given by their octets
 abbrev pub block_octets : ℕ → List (List ℕ) → ℕ → ℕ → List ℕ
 block_octets number entries status stamp =
-    182 ∷ number ∷ length entries ∷ (flat_map (λ entry. entry) entries ++ (status ∷ to_be_bytes w32 stamp))
+    182 ∷ number ∷ length entries
+    ∷ (flat_map (λ entry. entry) entries ++ (status ∷ to_be_bytes w32 stamp))
 
 -- the status stands after as many entries as the octet at place 2 counts
 abbrev pub status_place : List ℕ → ℕ
@@ -23,4 +24,5 @@ status_place octets = 3 + 3 * slice_index_or octets 2 0
 -- the same octets with bit 1 of the status, E, set and bit 0, G, clear
 abbrev pub marked_again : List ℕ → List ℕ
 marked_again octets =
-    slice_set octets (status_place octets) (bit_and (bit_or (slice_index_or octets (status_place octets) 0) 2) 254)
+    let place = status_place octets in
+    slice_set octets place (bit_and (bit_or (slice_index_or octets place 0) 2) 254)

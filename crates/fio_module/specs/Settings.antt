@@ -1,6 +1,6 @@
 -- What a module is made with.
 use Rattle.std.specs.Prelude.{ℕ, ◌≤◌}
-use Rattle.fio_module.specs.Limits.{Limits}
+use Rattle.fio_module.specs.Limits.{Limits, standard_limits}
 
 -- its identification octet, the most entries of one block, and the most that wait
 pub record Settings : Type 0 where
@@ -14,7 +14,7 @@ settings_with id limits =
 
 -- where no limits are handed in
 abbrev pub standard_settings : ℕ → Settings
-standard_settings id = record { id = id; per_block = 255; waiting = 1024 }
+standard_settings id = settings_with id standard_limits
 
 -- what holds of the standard settings and of those with any limits that there are
 pub record AreInRange (settings : Settings) : Type 0 where

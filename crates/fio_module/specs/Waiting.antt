@@ -4,8 +4,8 @@ use Rattle.fio_message.specs.Bits.{is_set}
 use Rattle.fio_message.specs.Octets.{entry_octets}
 use Rattle.fio_module.specs.declared.waiting.Waiting.{Waiting}
 
--- Of all the entries there were, the latest wait that no block has, no more than the limit. The mark says that some
--- were pushed out since the newest block, which ended at `before`.
+-- Of all the entries there were, the latest wait that no block has, no more than the limit. The
+-- mark says that some were pushed out since the newest block, which ended at `before`.
 pub record Holds (waiting : Waiting) (limit : ℕ) (all : List (List ℕ)) (before : ℕ) : Type 0 where
   pub capacity : waiting.entries.capacity ≡ limit
   pub entries : waiting.entries.items ≡ drop (max before (length all - limit)) all

@@ -1,4 +1,5 @@
-//! Laws of the definitions that the contracts cite: each function states some in its contract, and does nothing.
+//! Laws of the definitions that the contracts cite: each function states some in its contract, and
+//! does nothing.
 ghost use Rattle.fio_module.specs.Laws.{ScansAddWaiting, NewPollsTakeWaiting, OthersLeaveWaiting, BlocksFollow, BlocksEndWithin, SendingsCarry, SendingsAnswerPolls, LifeEndsLog, LossesLeaveMore};
 
 /// The waiting entries gain each new one at the end, and lose their first exactly if as many waited

@@ -17,7 +17,8 @@ impl Model for Limits {
 
     ghost view = { λ limits. record { per_block = limits.per_block; waiting = limits.waiting } };
 
-    ghost invariant = { λ limits. (1 ≤ limits.per_block) × (1024 ≤ limits.waiting) × (limits.waiting ≤ 8192) };
+    ghost invariant = { λ limits.
+        (1 ≤ limits.per_block) × (1024 ≤ limits.waiting) × (limits.waiting ≤ 8192) };
 
     ghost inverse = { λ values. record { per_block = values.per_block; waiting = values.waiting } };
 }
@@ -32,11 +33,13 @@ impl Limits {
         waiting: 1024,
     };
 
-    /// The limits with these numbers, or `None` where one is out of its range: `per_block` 1 to 255,
-    /// `waiting` 1,024 to 8,192.
+    /// The limits with these numbers, or `None` where one is out of its range: `per_block` 1 to
+    /// 255, `waiting` 1,024 to 8,192.
     pub fn new(per_block: u8, waiting: u16) -> Option<Limits>
         ensures { result
-            ≡ (if are_limits per_block waiting then Some (record { per_block = per_block; waiting = waiting }) else None) }
+            ≡ (if are_limits per_block waiting
+            then Some (record { per_block = per_block; waiting = waiting })
+            else None) }
     {
         if per_block >= 1 && waiting >= 1024 && waiting <= 8192 {
             Some(Limits { per_block, waiting })

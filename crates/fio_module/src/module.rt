@@ -43,9 +43,9 @@ impl Module {
     ghost use Rattle.fio_module.specs.Replies.{reply_to, Encodes};
     ghost use Rattle.fio_module.specs.Module.{IsAfter, StandsFor, Obeys, frame_if};
 
-    /// A module that answers `id` where it is asked for its identification (own profile: one octet),
-    /// with the limits of TEES 2009: 255 entries a block, 1,024 waiting. All the memory that it will
-    /// ever need is taken here.
+    /// A module that answers `id` where it is asked for its identification (own profile: one
+    /// octet), with the limits of TEES 2009: 255 entries a block, 1,024 waiting. All the memory
+    /// that it will ever need is taken here.
     ///
     /// # Errors
     /// `Memory` where there is none for the waiting entries.
@@ -81,7 +81,8 @@ impl Module {
     /// (own profile).
     #[tactic(auto, unfolding(crate::specs::Flags::word_of))]
     pub fn restart(&mut self)
-        ensures { (settings : Settings) (history : History) → StandsFor settings self.old history
+        ensures { (settings : Settings) (history : History)
+            → StandsFor settings self.old history
             → StandsFor settings self.new (Restart ∷ history) }
     {
         self.counter = Counter::new();
@@ -93,13 +94,14 @@ impl Module {
         self.sent = SentBlock::new();
     }
 
-    /// Steps the counter by one millisecond, then takes a sample of each input (own profile: one scan a
-    /// step). Bit i of `raw` is the level of input i.
+    /// Steps the counter by one millisecond, then takes a sample of each input (own profile: one
+    /// scan a step). Bit i of `raw` is the level of input i.
     ///
-    /// Each reported change of a filtered state joins the waiting entries, in ascending order of the
-    /// inputs. Where as many wait as may, it pushes out the oldest one (own profile).
+    /// Each reported change of a filtered state joins the waiting entries, in ascending order of
+    /// the inputs. Where as many wait as may, it pushes out the oldest one (own profile).
     pub fn scan(&mut self, raw: u64)
-        ensures { (settings : Settings) (history : History) → StandsFor settings self.old history
+        ensures { (settings : Settings) (history : History)
+            → StandsFor settings self.old history
             → StandsFor settings self.new (Scan raw ∷ history) }
     {
         self.counter.tick();
@@ -111,16 +113,18 @@ impl Module {
 
     /// LINESYNC goes from 0 to 1: a load of the counter that was asked for happens now (TEES 2009).
     pub fn line_sync(&mut self)
-        ensures { (settings : Settings) (history : History) → StandsFor settings self.old history
+        ensures { (settings : Settings) (history : History)
+            → StandsFor settings self.old history
             → StandsFor settings self.new (LineSync ∷ history) }
     {
         self.counter.line_sync();
     }
 
-    /// Sets the status flags whose bits are one in `mask`: from bit 7 down P, E, K, R, T, M, L and W
-    /// (own profile: their places).
+    /// Sets the status flags whose bits are one in `mask`: from bit 7 down P, E, K, R, T, M, L and
+    /// W (own profile: their places).
     pub fn raise(&mut self, mask: u8)
-        ensures { (settings : Settings) (history : History) → StandsFor settings self.old history
+        ensures { (settings : Settings) (history : History)
+            → StandsFor settings self.old history
             → StandsFor settings self.new (Raise mask ∷ history) }
     {
         self.flags |= mask;
@@ -129,9 +133,11 @@ impl Module {
     /// Takes the octets of a frame, and gives those of the answer, 1 to 773. Octets that spell no
     /// command, and commands 56, 57 and 59, get no answer and change nothing (own profile).
     pub fn receive(&mut self, octets: &[u8]) -> Option<Frame>
-        ensures stands { (settings : Settings) (history : History) → StandsFor settings self.old history
+        ensures stands { (settings : Settings) (history : History)
+            → StandsFor settings self.old history
             → StandsFor settings self.new (Received octets.now ∷ history) }
-        ensures reply { (settings : Settings) (history : History) → StandsFor settings self.old history
+        ensures reply { (settings : Settings) (history : History)
+            → StandsFor settings self.old history
             → Encodes (reply_to settings history octets.now) result }
     {
         let mut frame = Frame::new();
@@ -145,9 +151,11 @@ impl Module {
     /// Writes the answer to the octets of a frame, if there is one. Polls come far more often than
     /// other commands, so they are read in place.
     fn answer(&mut self, octets: &[u8], frame: &mut Frame) -> bool
-        ensures stands { (settings : Settings) (history : History) → StandsFor settings self.old history
+        ensures stands { (settings : Settings) (history : History)
+            → StandsFor settings self.old history
             → StandsFor settings self.new (Received octets.now ∷ history) }
-        ensures reply { (settings : Settings) (history : History) → StandsFor settings self.old history
+        ensures reply { (settings : Settings) (history : History)
+            → StandsFor settings self.old history
             → Encodes (reply_to settings history octets.now) (frame_if result frame.new) }
     {
         match polled_number(octets) {
@@ -161,9 +169,11 @@ impl Module {
 
     #[inline(never)]
     fn answer_decoded(&mut self, octets: &[u8], frame: &mut Frame) -> bool
-        ensures stands { (settings : Settings) (history : History) → StandsFor settings self.old history
+        ensures stands { (settings : Settings) (history : History)
+            → StandsFor settings self.old history
             → StandsFor settings self.new (Received octets.now ∷ history) }
-        ensures reply { (settings : Settings) (history : History) → StandsFor settings self.old history
+        ensures reply { (settings : Settings) (history : History)
+            → StandsFor settings self.old history
             → Encodes (reply_to settings history octets.now) (frame_if result frame.new) }
     {
         match decode_command(octets) {
@@ -215,7 +225,8 @@ impl Module {
 
     #[inline(never)]
     fn configure(&mut self, items: &[InputItem], frame: &mut Frame)
-        ensures { Obeys self.old self.new (Command.ConfigureInputs (record { items = items.now })) (Some frame.new) }
+        ensures { Obeys self.old self.new
+            (Command.ConfigureInputs (record { items = items.now })) (Some frame.new) }
     {
         let status = match self.filters.configure(items) {
             Ok(()) => 0,
@@ -256,7 +267,8 @@ impl Module {
     }
 
     fn send_new(&mut self, number: u8, frame: &mut Frame)
-        ensures after { (settings : Settings) (life : Life) → IsAfter settings self.old life
+        ensures after { (settings : Settings) (life : Life)
+            → IsAfter settings self.old life
             → is_new (latest_poll life) number ≡ true
             → IsAfter settings self.new (Commanded (Command.Poll number) ∷ life) }
         ensures kept { frame.new.items ≡ self.new.sent.octets.items }
@@ -275,7 +287,8 @@ impl Module {
     }
 
     fn send_again(&mut self, number: u8, frame: &mut Frame)
-        ensures after { (settings : Settings) (life : Life) → IsAfter settings self.old life
+        ensures after { (settings : Settings) (life : Life)
+            → IsAfter settings self.old life
             → is_new (latest_poll life) number ≡ false
             → IsAfter settings self.new (Commanded (Command.Poll number) ∷ life) }
         ensures kept { frame.new.items ≡ self.new.sent.octets.items }
@@ -311,16 +324,18 @@ impl Module {
 
     /// What the outputs are set to, all 0 before the first command that sets them (own profile).
     pub fn outputs(&self) -> Outputs
-        ensures { (settings : Settings) (history : History) → StandsFor settings self.now history
+        ensures { (settings : Settings) (history : History)
+            → StandsFor settings self.now history
             → result ≡ outputs_of (life_of history) }
     {
         self.outputs
     }
 
-    /// The timeout of the watchdog in milliseconds, 10 to 100 (own profile), or `None` before the
-    /// first command that sets it.
+    /// The timeout of the watchdog in milliseconds, 10 to 100, or `None` before the first command
+    /// that sets it.
     pub fn watchdog_ms(&self) -> Option<u8>
-        ensures { (settings : Settings) (history : History) → StandsFor settings self.now history
+        ensures { (settings : Settings) (history : History)
+            → StandsFor settings self.now history
             → result ≡ watchdog_of (life_of history) }
     {
         self.watchdog
@@ -328,7 +343,8 @@ impl Module {
 
     /// The milliseconds counted, modulo 2^32 (TEES 2009).
     pub fn counter(&self) -> u32
-        ensures { (settings : Settings) (history : History) → StandsFor settings self.now history
+        ensures { (settings : Settings) (history : History)
+            → StandsFor settings self.now history
             → result ≡ counter_of (life_of history) }
     {
         self.counter.now()
@@ -336,15 +352,18 @@ impl Module {
 
     /// The filtered states: bit i is input i, ignored or not.
     pub fn filtered(&self) -> u64
-        ensures { (settings : Settings) (history : History) → StandsFor settings self.now history
-            → (input : ℕ) → input < 64 → is_set result input ≡ state input (filter_events (life_of history)) }
+        ensures { (settings : Settings) (history : History)
+            → StandsFor settings self.now history
+            → (input : ℕ) → input < 64
+            → is_set result input ≡ state input (filter_events (life_of history)) }
     {
         self.filters.filtered()
     }
 
     /// How many entries wait for a poll, at most as many as may.
     pub fn waiting(&self) -> usize
-        ensures { (settings : Settings) (history : History) → StandsFor settings self.now history
+        ensures { (settings : Settings) (history : History)
+            → StandsFor settings self.now history
             → result ≡ min settings.waiting
             (length (log_of (life_of history)) - newest_end settings (life_of history)) }
     {

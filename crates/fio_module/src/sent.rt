@@ -50,7 +50,8 @@ impl SentBlock {
         stamp: u32,
     )
         requires { length first.now + length second.now ≤ 255 }
-        ensures { self.new.octets.items ≡ block_octets number (first.now ++ second.now) status stamp }
+        ensures { self.new.octets.items
+            ≡ block_octets number (first.now ++ second.now) status stamp }
     {
         let count = (first.len() + second.len()) as u8;
         let [a, b, c, d] = stamp.to_be_bytes();

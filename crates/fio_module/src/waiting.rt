@@ -98,7 +98,8 @@ impl Waiting {
 
     /// Forgets the oldest entries, no more than this many: a block has them now.
     pub fn remove_front(&mut self, count: u8)
-        ensures rest { self.new.entries ≡ buffer (drop count self.old.entries.items) self.old.entries.capacity }
+        ensures rest { self.new.entries
+            ≡ buffer (drop count self.old.entries.items) self.old.entries.capacity }
         ensures unmarked { self.new.pushed_out ≡ false }
     {
         let left = self.entries.len().saturating_sub(usize::from(count));

@@ -1,13 +1,9 @@
 -- A script's first line, in three versions.
 use Rattle.std.specs.Prelude.{ℕ, Bool, true, false, List, Option, Some, None, option_map, option_and_then, codes, if◌then◌else◌}
-use Rattle.fio_module.specs.Limits.{Limits, are_limits}
+use Rattle.fio_module.specs.Limits.{Limits, standard_limits, are_limits}
 use Rattle.fio_world.specs.declared.headers.Header.{Header}
 use Rattle.fio_world.specs.Forms.{begins, both}
 use Rattle.fio_world.specs.Words.{number_of, small_number_of}
-
--- those of TEES 2009
-abbrev pub standard_limits : Limits
-standard_limits = record { per_block = 255; waiting = 1024 }
 
 -- the limits with these two numbers, where they are limits
 abbrev pub limits_with : ℕ × ℕ → Option Limits
