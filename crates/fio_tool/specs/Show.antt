@@ -4,7 +4,7 @@ use Rattle.std.specs.List.{flat_map, list_all}
 use Rattle.fio_message.specs.Decoding.{decoded_command, decoded_answer}
 use Rattle.fio_message.specs.Texts.{fault_text}
 use Rattle.fio_message.specs.declared.faults.DecodeError.{DecodeError}
-use Rattle.fio_world.specs.Hexadecimal.{octets_of}
+use Rattle.fio_world.specs.Hexadecimal.{octets_in}
 use Rattle.fio_world.specs.Lines.{lines_of, numbered}
 use Rattle.fio_tool.specs.ShowAnswers.{answer_text}
 use Rattle.fio_tool.specs.ShowCommands.{command_text}
@@ -27,7 +27,7 @@ shown_octets (Some octets) = shown_frame octets
 
 -- the lines for a line that is read, or the words of its fault
 abbrev pub shown_line : List ℕ → Result (List ℕ) (List ℕ)
-shown_line line = shown_octets (octets_of line)
+shown_line line = shown_octets (octets_in line)
 
 -- these lines, or the one line that tells of the fault at this number
 abbrev pub told_at : ℕ → Result (List ℕ) (List ℕ) → List ℕ

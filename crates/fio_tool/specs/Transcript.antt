@@ -8,7 +8,7 @@ use Rattle.fio_message.specs.declared.commands.Command.TheVariants as commands
 use Rattle.fio_message.specs.declared.answers.Answer.{Answer}
 use Rattle.fio_message.specs.declared.answers.Answer.TheVariants as answers
 use Rattle.fio_world.specs.Collected.{collected}
-use Rattle.fio_world.specs.Hexadecimal.{octets_of}
+use Rattle.fio_world.specs.Hexadecimal.{octets_in}
 use Rattle.fio_world.specs.Lines.{lines_of, numbered}
 use Rattle.fio_world.specs.Words.{after_prefix}
 use Rattle.fio_tool.specs.declared.transcript.reading.TraceError.{TraceError}
@@ -24,7 +24,7 @@ pub record TraceLine : Type 0 where
 
 -- a word of hexadecimal digits as the octets of a frame, behind whether the CPU sent it
 abbrev pub frame_with : Bool → List ℕ → Option (Bool × List ℕ)
-frame_with from_cpu word = option_map (λ octets. (from_cpu, octets)) (octets_of word)
+frame_with from_cpu word = option_map (λ octets. (from_cpu, octets)) (octets_in word)
 
 -- the frame of a line, and whether the CPU sent it: `> HEX` was sent, `< HEX` was heard
 abbrev pub frame_in : List ℕ → Option (Bool × List ℕ)
