@@ -28,8 +28,8 @@ use std::io::{Read, Write};
 /// | 3 | a read or a write failed, or there was no memory |
 ///
 /// For 3 and for no subcommand the program prints one line, `fio2070: read fault` or the like; for
-/// every other fault of the words it prints `clap`'s text. A failure to print these is passed over, and
-/// so is want of memory for `clap`'s text.
+/// every other fault of the words it prints `clap`'s text. A failure to print these is passed over,
+/// and so is want of memory for `clap`'s text.
 pub fn run_program<'a, R: Read, W: Write>(
     alloc: Global,
     words: &'a [&'a str],

@@ -1,5 +1,5 @@
 -- The lines of a report.
-use Rattle.std.specs.Prelude.{ℕ, List, [], ◌∷◌, ◌++◌, length, codes, decimal, Option, Some, None}
+use Rattle.std.specs.Prelude.{ℕ, Bool, List, [], ◌∷◌, ◌++◌, length, codes, decimal, Option, Some, None}
 use Rattle.std.specs.List.{flat_map}
 use Rattle.hex.specs.Hex.{encode_lower}
 use Rattle.fio_message.specs.Bits.{bit_of}
@@ -61,12 +61,18 @@ refused_line number PollIsOurs = decimal number ++ codes " refused poll is ours\
 
 -- ---- the end of a run
 
+-- an entry, with its wide time
+abbrev pub entry_line : ℕ → Bool → ℕ → ℕ → List ℕ
+entry_line input level stamp wide =
+    codes "input " ++ (decimal input
+    ++ (codes " state " ++ (decimal (bit_of level)
+    ++ (codes " stamp " ++ (decimal stamp
+    ++ (codes " wide " ++ (decimal wide ++ codes "\n")))))))
+
 -- an item of the record
 abbrev pub item_line : Item → List ℕ
 item_line Gap = codes "gap\n"
-item_line (Entry input level stamp wide) =
-    codes "input " ++ (decimal input ++ (codes " state " ++ (decimal (bit_of level)
-    ++ (codes " stamp " ++ (decimal stamp ++ (codes " wide " ++ (decimal wide ++ codes "\n")))))))
+item_line (Entry input level stamp wide) = entry_line input level stamp wide
 
 -- the module's counter, the CPU's number, how many entries wait, and how many items the record has
 abbrev pub count_lines : ℕ → ℕ → ℕ → ℕ → List ℕ

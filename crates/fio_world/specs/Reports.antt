@@ -41,8 +41,8 @@ report_of scenario = told_from scenario.settings scenario.first 1 start scenario
 abbrev pub EndsWith : List ℕ → List ℕ → Type 0
 EndsWith text lines = (before : List ℕ) × (text ≡ before ++ lines)
 
--- where all events of a script are done, its report is good and ends with how the run has ended; and
--- a report is good only there
+-- where all events of a script are done, its report is good and ends with how the run has ended;
+-- and a report is good only there
 pub record TellsOfRun (scenario : Scenario) : Type 0 where
   pub good :
       (machine : Machine) → IsRun scenario.settings scenario.first scenario.events machine →
