@@ -4,7 +4,7 @@ use Rattle.std.specs.Prelude.{List, length, ◌==◌, ◌&&◌, if◌then◌else
 use Rattle.std.proofs.lemmas.Bool.{le-ltb, lt-ltb, not-false}
 use Rattle.fio_message.specs.Answers.{answer_code}
 use Rattle.fio_message.specs.Blocks.{Block}
-use Rattle.fio_message.specs.Decoding.{command_in, answer_in}
+use Rattle.fio_message.specs.Decoding.{command_in, answer_in, polled_number, answered_block}
 use Rattle.fio_message.specs.Commands.{command_code}
 use Rattle.fio_message.specs.Status.{says_more}
 use Rattle.fio_message.specs.declared.commands.Command.{Command}
@@ -12,7 +12,7 @@ use Rattle.fio_message.specs.declared.commands.Command.TheVariants as commands
 use Rattle.fio_message.specs.declared.commands.OtherCommand.TheVariants as others
 use Rattle.fio_message.specs.declared.answers.Answer.{Answer}
 use Rattle.fio_message.specs.declared.answers.Answer.TheVariants as answers
-use Rattle.fio_tool.specs.Transcript.{TraceLine, Placed, command_on, answer_on, command_sent, answer_heard, poll_sent, block_heard, number_polled, block_answered, command_above, poll_above, earlier_poll, earlier_block, is_some_and}
+use Rattle.fio_tool.specs.Transcript.{TraceLine, Placed, command_on, answer_on, command_sent, answer_heard, poll_sent, block_heard, command_above, poll_above, earlier_poll, earlier_block, is_some_and}
 use Rattle.fio_tool.specs.TranscriptRules.{is_broken, rule_broken, rules, number_due}
 use Rattle.fio_tool.specs.TranscriptFacts.{facts_at, is_answered_above, number_due_by, with_command, with_answer, with_line, rule_broken_by, is_broken_by_answer, is_broken_by_command, is_broken_by_block}
 use Rattle.fio_tool.specs.declared.transcript.facts.Facts.{Facts}
@@ -20,13 +20,13 @@ use Rattle.fio_tool.specs.declared.transcript.rules.Rule.{Rule}
 use Rattle.fio_tool.specs.declared.transcript.rules.Rule.TheVariants.{Readable, Pair, Number, Advance, Same, Sequence, Limits, Rest, Refusal}
 use Rattle.fio_tool.proofs.PlacesAbove.{is_some_and-map, is_some-map, latest_above-below, answered-above, answered-below}
 
--- ---- a block below a poll
+-- ---- a block answer below a poll
 
 -- an answer of this type answers the command above
 abbrev is_answered_as : Option Command → ℕ → Bool
 is_answered_as above code = is_some_and above (λ command. command_code command + 128 == code)
 
--- a block answers a poll
+-- a block answer answers a poll
 poll-answered : (above : Option Command) → is_answered_as above 182 ≡ true
     → (number : ℕ) × (above ≡ Some (commands.Poll number))
 poll-answered None e = absurd (cc)
@@ -43,7 +43,7 @@ poll-answered (Some (commands.Other others.TrackInputs body)) e = absurd (cc)
 poll-answered (Some (commands.Other others.ComplexOutputs body)) e = absurd (cc)
 poll-answered (Some (commands.Other others.ControllerId body)) e = absurd (cc)
 
--- what the rule on pairs says of a block at a place
+-- what the rule on pairs says of a block answer at a place
 abbrev HoldsPair : List TraceLine → ℕ → Type 0
 HoldsPair lines place = not (is_answered_as (command_above lines place) 182) ≡ false
 
@@ -63,8 +63,8 @@ pair-answers lines (suc place) pair block =
     let poll = poll-answered (command_sent lines place) (not-false _ pair) in
     rw (poll.1, lt-ltb (suc place) (suc (suc place)) (omega arith)) block
 
--- the answer with a block is that to a poll
-block-code : (answer : Answer) (block : Block) → block_answered answer ≡ Some block → answer_code answer ≡ 182
+-- a block answer is the answer to a poll
+block-code : (answer : Answer) (block : Block) → answered_block (Some answer) ≡ Some block → answer_code answer ≡ 182
 block-code (answers.Block number entries status stamp) block e = refl
 block-code answer block e = absurd (cc)
 
@@ -72,7 +72,7 @@ none-fails : {A : Type 0} (o : Option A) → false ≡ is_some_and o (λ _. fals
 none-fails None = refl
 none-fails (Some x) = refl
 
--- the rules that a block alone may break, but for Pair
+-- the rules that a block answer alone may break, but for Pair
 abbrev is_on_block : Rule → Bool
 is_on_block Number = true
 is_on_block Same = true
@@ -135,7 +135,7 @@ module _ (lines : List TraceLine) (place : ℕ) where
   command-kept : (command : Command) → command_sent lines place ≡ Some command → answer_heard lines place ≡ None
       → rule_broken lines place ≡ find (is_broken_by_command kept command) rules
   command-kept command sent heard =
-      rw (sent, heard) (ap (λ broken. cond broken (Some Advance) None) (advance-kept (number_polled command) (rw heard refl)))
+      rw (sent, heard) (ap (λ broken. cond broken (Some Advance) None) (advance-kept (polled_number (Some command)) (rw heard refl)))
 
   -- ---- an answer
 
@@ -143,7 +143,7 @@ module _ (lines : List TraceLine) (place : ℕ) where
       → is_broken lines place Pair ≡ is_broken_by_answer kept answer Pair
   pair-kept answer heard = rw heard (ap not (sym (is_some_and-map _ (λ code. code == answer_code answer) (command_above lines place))))
 
-  -- each rule on a block
+  -- each rule on a block answer
   block-kept : (block : Block) → poll_above lines place ≡ earlier_poll lines place → block_heard lines place ≡ Some block
       → (rule : Rule) → is_on_block rule ≡ true → is_broken lines place rule ≡ is_broken_by_block kept block rule
   block-kept block latest heard Number on =
@@ -156,7 +156,7 @@ module _ (lines : List TraceLine) (place : ℕ) where
       rw heard (ap (λ full. (length block.entries == 0) && full) (sym (is_some_and-map _ (λ more. more) (earlier_block lines place))))
   block-kept block latest heard rule on = absurd (cc)
 
-  -- the same where there may be no block
+  -- the same where there may be no block answer
   maybe-kept : (o : Option Block) → ((block : Block) → o ≡ Some block → HoldsPair lines place) → block_heard lines place ≡ o
       → (rule : Rule) → is_on_block rule ≡ true
       → is_broken lines place rule ≡ is_some_and o (λ block. is_broken_by_block kept block rule)
@@ -169,19 +169,19 @@ module _ (lines : List TraceLine) (place : ℕ) where
   maybe-kept None pair heard rule on = absurd (cc)
 
   module _ (answer : Answer) (sent : command_sent lines place ≡ None) (heard : answer_heard lines place ≡ Some answer) where
-    pair-holds : (block : Block) → block_answered answer ≡ Some block → is_broken lines place Pair ≡ false → HoldsPair lines place
+    pair-holds : (block : Block) → answered_block (Some answer) ≡ Some block → is_broken lines place Pair ≡ false → HoldsPair lines place
     pair-holds block is pair = rw (← block-code answer block is) (rw heard at pair)
 
     rule-kept : is_broken lines place Pair ≡ false → (rule : Rule) → is_broken lines place rule ≡ is_broken_by_answer kept answer rule
-    rule-kept pair = by-rule (maybe-kept (block_answered answer) (λ block is. pair-holds block is pair) (rw heard refl))
+    rule-kept pair = by-rule (maybe-kept (answered_block (Some answer)) (λ block is. pair-holds block is pair) (rw heard refl))
       where
         by-rule : ((rule : Rule) → is_on_block rule ≡ true
-            → is_broken lines place rule ≡ is_some_and (block_answered answer) (λ block. is_broken_by_block kept block rule))
+            → is_broken lines place rule ≡ is_some_and (answered_block (Some answer)) (λ block. is_broken_by_block kept block rule))
             → (rule : Rule) → is_broken lines place rule ≡ is_broken_by_answer kept answer rule
-        by-rule by_block Readable = rw (sent, heard) (none-fails (block_answered answer))
+        by-rule by_block Readable = rw (sent, heard) (none-fails (answered_block (Some answer)))
         by-rule by_block Pair = pair-kept answer heard
         by-rule by_block Number = by_block Number refl
-        by-rule by_block Advance = rw sent (none-fails (block_answered answer))
+        by-rule by_block Advance = rw sent (none-fails (answered_block (Some answer)))
         by-rule by_block Same = by_block Same refl
         by-rule by_block Sequence = by_block Sequence refl
         by-rule by_block Limits = by_block Limits refl
@@ -191,7 +191,7 @@ module _ (lines : List TraceLine) (place : ℕ) where
     answer-kept : rule_broken lines place ≡ find (is_broken_by_answer kept answer) rules
     answer-kept =
         searches-agree (is_broken lines place) (is_broken_by_answer kept answer) (is_broken_by_answer kept answer Pair)
-        (rw (sent, heard) refl) (sym (none-fails (block_answered answer))) (pair-kept answer heard) refl rule-kept
+        (rw (sent, heard) refl) (sym (none-fails (answered_block (Some answer)))) (pair-kept answer heard) refl rule-kept
 
   -- ---- one line more
 
@@ -204,14 +204,14 @@ module _ (lines : List TraceLine) (place : ℕ) where
       → FactsOf a b c d e f ≡ FactsOf a' b' c' d' e' f'
   facts-same a a' b b' c c' d d' e e' f f' p q r s t u = rw (p, q, r, s, t, u) refl
 
-  -- where no block stands here, the latest poll above is answered below this place exactly if it is above it
+  -- where no block answer stands here, the latest poll above is answered below this place exactly if it is above it
   answered-kept : (o : Option (Placed ℕ)) → AreAbove o → HasNoBlock
       → is_some_and o (is_answered_above lines (suc place)) ≡ is_some_and o (is_answered_above lines place)
   answered-kept None above none = refl
   answered-kept (Some poll) above none = answered-below lines place poll (above poll refl) none
 
   -- the facts with a command more
-  command-added : (command : Command) (o : Option ℕ) → number_polled command ≡ o
+  command-added : (command : Command) (o : Option ℕ) → polled_number (Some command) ≡ o
       → command_sent lines place ≡ Some command → answer_heard lines place ≡ None
       → facts_at lines (suc place) ≡ with_command kept command
   command-added command None polls sent heard =
@@ -223,7 +223,7 @@ module _ (lines : List TraceLine) (place : ℕ) where
       refl refl refl (rw (le-ltb (suc place) (suc place) (omega arith)) refl) advanced refl)
 
   -- the facts with an answer more
-  answer-added : (answer : Answer) (o : Option Block) → block_answered answer ≡ o
+  answer-added : (answer : Answer) (o : Option Block) → answered_block (Some answer) ≡ o
       → command_sent lines place ≡ None → answer_heard lines place ≡ Some answer → is_broken lines place Pair ≡ false
       → facts_at lines (suc place) ≡ with_answer kept answer
   answer-added answer None is sent heard pair =
@@ -253,9 +253,9 @@ module _ (lines : List TraceLine) (place : ℕ) where
   added-by : (command : Option Command) (answer : Option Answer) → (command ≡ None) ⊎ (answer ≡ None)
       → command_sent lines place ≡ command → answer_heard lines place ≡ answer → rule_broken lines place ≡ None
       → facts_at lines (suc place) ≡ with_line kept command answer
-  added-by (Some command) None one sent heard holds = command-added command (number_polled command) refl sent heard
+  added-by (Some command) None one sent heard holds = command-added command (polled_number (Some command)) refl sent heard
   added-by None (Some answer) one sent heard holds =
-      answer-added answer (block_answered answer) refl sent heard (second-fails _ _ Readable Pair _ holds)
+      answer-added answer (answered_block (Some answer)) refl sent heard (second-fails _ _ Readable Pair _ holds)
   added-by None None one sent heard holds = absurd (let broken = rw (sent, heard) at holds in cc)
   added-by (Some command) (Some answer) (inl e) sent heard holds = absurd (cc)
   added-by (Some command) (Some answer) (inr e) sent heard holds = absurd (cc)

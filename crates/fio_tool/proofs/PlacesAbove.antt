@@ -34,7 +34,7 @@ latest_above-below said zero found e = absurd (cc)
 latest_above-below said (suc n) found e =
     said_here-below n (said n) (latest_above said n) (suc n) (omega arith) (λ f h. let less : f.place < n = latest_above-below said n f h in omega arith) found e
 
--- where no block stands at a place, one stands directly below a poll above it exactly if it is above the place too
+-- where no block answer stands at a place, one stands directly below a poll above it exactly if it is above the place too
 answered-step : (lines : List TraceLine) (place : ℕ) (poll : Placed ℕ) → (suc poll.place < place) ⊎ (place ≡ suc poll.place) → is_some (block_heard lines place) ≡ false
     → is_answered_above lines place poll ≡ is_some (block_heard lines (suc poll.place))
 answered-step lines place poll (inl less) none = rw (lt-ltb (suc poll.place) place less) refl

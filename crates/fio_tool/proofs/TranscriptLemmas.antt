@@ -5,7 +5,7 @@ use Rattle.std.specs.Option.{option_or}
 use Rattle.std.proofs.lemmas.Bool.{cases_order}
 use Rattle.std.proofs.lemmas.Bool.Decides.{eqb_tells}
 use Rattle.std.proofs.lemmas.Option.{slice_get_within}
-use Rattle.fio_tool.specs.Show.{is_too_long}
+use Rattle.fio_tool.specs.Inputs.{is_too_long}
 use Rattle.fio_tool.specs.Transcript.{TraceLine, Placed, latest_above, trace_in}
 use Rattle.fio_tool.specs.TranscriptLaws.{IsLatestAbove, TellsTheLatest, HasOneVerdict, HasOneCheckText}
 use Rattle.fio_tool.specs.TranscriptRules.{IsFirstBreach, KeepsRulesAbove, rule_broken}

@@ -1,3 +1,4 @@
+pub mod Inputs
 pub mod ShowCommands
 pub mod ShowAnswers
 pub mod Show

@@ -1,11 +1,12 @@
 -- What `show` tells of a text: each line that says something is octets in hexadecimal digits.
-use Rattle.std.specs.Prelude.{ℕ, Bool, List, ◌++◌, ◌&&◌, length, codes, decimal, nat_le, nat_lt, not, if◌then◌else◌, slice_index_or, Option, Some, None, Result, Ok, Err, is_ok}
+use Rattle.std.specs.Prelude.{ℕ, Bool, List, ◌&&◌, codes, nat_le, not, if◌then◌else◌, slice_index_or, Option, Some, None, Result, Ok, Err, is_ok}
 use Rattle.std.specs.List.{flat_map, list_all}
 use Rattle.fio_message.specs.Decoding.{decoded_command, decoded_answer}
 use Rattle.fio_message.specs.Texts.{fault_text}
 use Rattle.fio_message.specs.declared.faults.DecodeError.{DecodeError}
-use Rattle.fio_world.specs.Hexadecimal.{octets_of}
+use Rattle.fio_world.specs.Hexadecimal.{octets_in}
 use Rattle.fio_world.specs.Lines.{lines_of, numbered}
+use Rattle.fio_tool.specs.Inputs.{is_too_long, too_long_text, line_fault_text}
 use Rattle.fio_tool.specs.ShowAnswers.{answer_text}
 use Rattle.fio_tool.specs.ShowCommands.{command_text}
 
@@ -27,13 +28,12 @@ shown_octets (Some octets) = shown_frame octets
 
 -- the lines for a line that is read, or the words of its fault
 abbrev pub shown_line : List ℕ → Result (List ℕ) (List ℕ)
-shown_line line = shown_octets (octets_of line)
+shown_line line = shown_octets (octets_in line)
 
 -- these lines, or the one line that tells of the fault at this number
 abbrev pub told_at : ℕ → Result (List ℕ) (List ℕ) → List ℕ
 told_at number (Ok lines) = lines
-told_at number (Err fault) =
-    codes "line " ++ (decimal number ++ (codes ": " ++ (fault ++ codes "\n")))
+told_at number (Err fault) = line_fault_text number fault
 
 -- the text for a numbered line
 abbrev pub line_text : ℕ × List ℕ → List ℕ
@@ -42,14 +42,10 @@ line_text line = told_at line.0 (shown_line line.1)
 abbrev pub is_line_good : ℕ × List ℕ → Bool
 is_line_good line = is_ok (shown_line line.1)
 
--- more octets than an input may have
-abbrev pub is_too_long : List ℕ → Bool
-is_too_long input = nat_lt 1048576 (length input)
-
 -- the text that `show` writes for an input
 abbrev pub show_text : List ℕ → List ℕ
 show_text input =
-    if is_too_long input then codes "input too long\n"
+    if is_too_long input then too_long_text
     else flat_map line_text (numbered 1 (lines_of input))
 
 -- whether it tells of no fault

@@ -2,13 +2,13 @@
 use Rattle.std.specs.Prelude.{ℕ, List, [], ◌∷◌, ◌++◌, length, codes, decimal}
 use Rattle.std.specs.List.{flat_map}
 use Rattle.hex.specs.Hex.{encode_lower}
-use Rattle.fio_message.specs.Bits.{bit_of}
 use Rattle.fio_message.specs.Octets.{inputs_octets}
 use Rattle.fio_message.specs.Answers.{other_answer_code}
 use Rattle.fio_message.specs.declared.fields.Entry.{Entry}
 use Rattle.fio_message.specs.declared.answers.Answer.{Answer}
 use Rattle.fio_message.specs.declared.answers.Answer.TheVariants.{Status, LoadCounter, ConfigureInputs, RawInputs, FilteredInputs, Block, Watchdog, Other}
 use Rattle.fio_input.specs.Widening.{widened}
+use Rattle.fio_world.specs.ReportLines.{entry_line}
 use Rattle.fio_tool.specs.ShowCommands.{other_text}
 
 abbrev pub flags_text : ℕ → ℕ → ℕ → ℕ → List ℕ
@@ -28,13 +28,11 @@ levels_text name inputs stamp =
     name ++ (codes " inputs " ++ (encode_lower (inputs_octets inputs)
     ++ (codes " stamp " ++ (decimal stamp ++ codes "\n"))))
 
--- an entry of a block with this stamp
+-- an entry of a block answer with this stamp: as the record tells it, behind two blanks
 abbrev pub entry_text : ℕ → Entry → List ℕ
 entry_text stamp entry =
-    codes "  input " ++ (decimal entry.input
-    ++ (codes " state " ++ (decimal (bit_of entry.level)
-    ++ (codes " stamp " ++ (decimal entry.stamp
-    ++ (codes " wide " ++ (decimal (widened stamp entry.stamp) ++ codes "\n")))))))
+    codes "  "
+    ++ entry_line entry.input entry.level entry.stamp (widened stamp entry.stamp)
 
 abbrev pub block_head_text : ℕ → ℕ → ℕ → ℕ → List ℕ
 block_head_text block count status stamp =

@@ -30,8 +30,8 @@ abbrev pub ending_of : Bool → Ending
 ending_of true = Good
 ending_of false = Bad
 
--- The tool read an input and wrote the text for it. A reader has octets left before and after, and a
--- writer holds octets before and after, as far as they tell.
+-- The tool read an input and wrote the text for it. A reader has octets left before and after, and
+-- a writer holds octets before and after, as far as they tell.
 pub record HasTold
     (tool : Tool) (left left' held held' : Option (List ℕ)) (ending : Ending) : Type 0 where
   pub input : List ℕ

@@ -2,19 +2,18 @@
 use Rattle.std.specs.Prelude.{ℕ, zero, suc, Bool, true, false, List, map, codes, Option, Some, None, Result, slice_get, option_map, option_and_then, if◌then◌else◌}
 use Rattle.std.specs.Option.{ok_or, option_map_or, option_or}
 use Rattle.fio_message.specs.Blocks.{Block}
-use Rattle.fio_message.specs.Decoding.{command_in, answer_in}
+use Rattle.fio_message.specs.Decoding.{command_in, answer_in, polled_number, answered_block}
 use Rattle.fio_message.specs.declared.commands.Command.{Command}
-use Rattle.fio_message.specs.declared.commands.Command.TheVariants as commands
 use Rattle.fio_message.specs.declared.answers.Answer.{Answer}
-use Rattle.fio_message.specs.declared.answers.Answer.TheVariants as answers
 use Rattle.fio_world.specs.Collected.{collected}
-use Rattle.fio_world.specs.Hexadecimal.{octets_of}
+use Rattle.fio_world.specs.Hexadecimal.{octets_in}
 use Rattle.fio_world.specs.Lines.{lines_of, numbered}
 use Rattle.fio_world.specs.Words.{after_prefix}
 use Rattle.fio_tool.specs.declared.transcript.reading.TraceError.{TraceError}
 use Rattle.fio_tool.specs.declared.transcript.reading.TraceError.TheVariants as faults
 
--- a line: its number in the text, whether the CPU sent the frame or heard it, and the frame's octets
+-- a line: its number in the text, whether the CPU sent the frame or heard it, and the frame's
+-- octets
 pub record TraceLine : Type 0 where
   pub number : ℕ
   pub from_cpu : Bool
@@ -24,7 +23,7 @@ pub record TraceLine : Type 0 where
 
 -- a word of hexadecimal digits as the octets of a frame, behind whether the CPU sent it
 abbrev pub frame_with : Bool → List ℕ → Option (Bool × List ℕ)
-frame_with from_cpu word = option_map (λ octets. (from_cpu, octets)) (octets_of word)
+frame_with from_cpu word = option_map (λ octets. (from_cpu, octets)) (octets_in word)
 
 -- the frame of a line, and whether the CPU sent it: `> HEX` was sent, `< HEX` was heard
 abbrev pub frame_in : List ℕ → Option (Bool × List ℕ)
@@ -62,21 +61,12 @@ abbrev pub answer_heard : List TraceLine → ℕ → Option Answer
 answer_heard lines place = option_and_then answer_on (slice_get lines place)
 
 -- the block number that a poll asks for
-abbrev pub number_polled : Command → Option ℕ
-number_polled (commands.Poll number) = Some number
-number_polled _ = None
+abbrev pub poll_sent : List TraceLine → ℕ → Option ℕ
+poll_sent lines place = polled_number (command_sent lines place)
 
 -- the block of a block answer
-abbrev pub block_answered : Answer → Option Block
-block_answered (answers.Block number entries status stamp) =
-    Some (record { number = number; entries = entries.items; status = status; stamp = stamp })
-block_answered _ = None
-
-abbrev pub poll_sent : List TraceLine → ℕ → Option ℕ
-poll_sent lines place = option_and_then number_polled (command_sent lines place)
-
 abbrev pub block_heard : List TraceLine → ℕ → Option Block
-block_heard lines place = option_and_then block_answered (answer_heard lines place)
+block_heard lines place = answered_block (answer_heard lines place)
 
 -- ---- what the lines above a place say
 
@@ -110,7 +100,7 @@ poll_above lines place = option_and_then (said_at (poll_sent lines)) (place_abov
 abbrev pub earlier_poll : List TraceLine → ℕ → Option (Placed ℕ)
 earlier_poll lines place = latest_above (poll_sent lines) place
 
--- the latest block above
+-- the latest block answer above
 abbrev pub earlier_block : List TraceLine → ℕ → Option (Placed Block)
 earlier_block lines place = latest_above (block_heard lines) place
 

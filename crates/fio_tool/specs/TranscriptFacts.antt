@@ -1,19 +1,20 @@
--- What is kept of the lines above a place while a transcript is checked, and the rules by it. Only the
--- contracts of private functions speak of it.
+-- What is kept of the lines above a place while a transcript is checked, and the rules by it. Only
+-- the contracts of private functions speak of it.
 use Rattle.std.specs.Prelude.{ℕ, suc, ◌+◌, ◌%◌, Bool, true, false, List, Option, Some, None, length, find, ◌==◌, ◌&&◌, ◌||◌, nat_lt, not, is_some, option_map, if◌then◌else◌}
 use Rattle.fio_message.specs.Answers.{answer_code}
 use Rattle.fio_message.specs.Blocks.{Block}
 use Rattle.fio_message.specs.Commands.{command_code}
+use Rattle.fio_message.specs.Decoding.{polled_number, answered_block}
 use Rattle.fio_message.specs.Status.{says_more, says_again, says_out_of_sequence}
 use Rattle.fio_message.specs.declared.answers.Answer.{Answer}
 use Rattle.fio_message.specs.declared.commands.Command.{Command}
-use Rattle.fio_tool.specs.Transcript.{TraceLine, Placed, number_polled, block_answered, block_heard, command_above, earlier_poll, earlier_block, is_some_and}
+use Rattle.fio_tool.specs.Transcript.{TraceLine, Placed, block_heard, command_above, earlier_poll, earlier_block, is_some_and}
 use Rattle.fio_tool.specs.TranscriptRules.{is_beyond_limits, accepts, names_absent, rules}
 use Rattle.fio_tool.specs.declared.transcript.facts.Facts.{Facts}
 use Rattle.fio_tool.specs.declared.transcript.rules.Rule.{Rule}
 use Rattle.fio_tool.specs.declared.transcript.rules.Rule.TheVariants.{Readable, Pair, Number, Advance, Same, Sequence, Limits, Rest, Refusal}
 
--- a block stands directly below a poll, and above a place
+-- a block answer stands directly below a poll, and above a place
 abbrev pub is_answered_above : List TraceLine → ℕ → Placed ℕ → Bool
 is_answered_above lines place poll =
     nat_lt (suc poll.place) place && is_some (block_heard lines (suc poll.place))
@@ -45,20 +46,24 @@ with_poll facts (Some number) = record facts {
   advanced = is_some_and facts.polled (λ polled. not (number == polled));
 }
 
--- the facts with a block more, where there is one
+-- the facts with a block answer more, where there is one
 abbrev pub with_block : Facts → Option Block → Facts
 with_block facts None = facts
-with_block facts (Some block) = record facts { answered = true; more = Some (says_more block.status) }
+with_block facts (Some block) =
+    record facts { answered = true; more = Some (says_more block.status) }
 
 abbrev pub with_command : Facts → Command → Facts
-with_command facts command = record (with_poll facts (number_polled command)) {
+with_command facts command = record (with_poll facts (polled_number (Some command))) {
   awaited = Some (command_code command + 128);
   absent_named = names_absent command;
 }
 
 abbrev pub with_answer : Facts → Answer → Facts
 with_answer facts answer =
-    record (with_block facts (block_answered answer)) { awaited = None; absent_named = false }
+    record (with_block facts (answered_block (Some answer))) {
+      awaited = None;
+      absent_named = false;
+    }
 
 -- the facts with one line more: the command that it sends or the answer that it tells
 abbrev pub with_line : Facts → Option Command → Option Answer → Facts
@@ -75,11 +80,11 @@ number_due_by facts =
 
 -- a command breaks a rule
 abbrev pub is_broken_by_command : Facts → Command → Rule → Bool
-is_broken_by_command facts command Advance = is_some_and (number_polled command) (λ number.
+is_broken_by_command facts command Advance = is_some_and (polled_number (Some command)) (λ number.
     is_some_and (number_due_by facts) (λ due. not (number == due)))
 is_broken_by_command facts command rule = false
 
--- a block breaks a rule, but for those on all answers
+-- a block answer breaks a rule, but for those on all answers
 abbrev pub is_broken_by_block : Facts → Block → Rule → Bool
 is_broken_by_block facts block Number =
     is_some_and facts.polled (λ polled. not (block.number == polled))
@@ -97,7 +102,7 @@ is_broken_by_answer facts answer Pair =
     not (is_some_and facts.awaited (λ code. code == answer_code answer))
 is_broken_by_answer facts answer Refusal = accepts answer && facts.absent_named
 is_broken_by_answer facts answer rule =
-    is_some_and (block_answered answer) (λ block. is_broken_by_block facts block rule)
+    is_some_and (answered_block (Some answer)) (λ block. is_broken_by_block facts block rule)
 
 -- the first rule that a line breaks
 abbrev pub rule_broken_by : Facts → Option Command → Option Answer → Option Rule

@@ -1,6 +1,6 @@
 -- The rules of a transcript. It is what the CPU's end logs on a bus that doubles nothing and brings
 -- an answer before the CPU's next command or never. The module is not restarted, and has the limits
--- of 255 entries in a block and 1,024 waiting.
+-- of 255 entries in a block and 1,024 waiting, and the CPU's end meets no want of memory.
 use Rattle.std.specs.Prelude.{◌≡◌, ℕ, suc, ◌+◌, ◌%◌, ◌<◌, Bool, false, List, [], ◌∷◌, Option, Some, None, length, find, slice_get, ◌==◌, ◌&&◌, ◌||◌, nat_lt, not, is_some, if◌then◌else◌}
 use Rattle.std.specs.List.{list_any}
 use Rattle.fio_message.specs.Answers.{answer_code}
@@ -31,13 +31,13 @@ breaks_pair lines place = is_some_and (answer_heard lines place) (λ answer.
     not (is_some_and (command_above lines place) (λ command.
     command_code command + 128 == answer_code answer)))
 
--- Number: a block whose number is not that of the poll directly above.
+-- Number: a block answer whose number is not that of the poll directly above.
 abbrev pub breaks_number : List TraceLine → ℕ → Bool
 breaks_number lines place = is_some_and (block_heard lines place) (λ block.
     is_some_and (poll_above lines place) (λ poll. not (block.number == poll.value)))
 
--- the number of the poll after this one: the next number where a block stands directly below this
--- one, else the same number
+-- the number of the poll after this one: the next number where a block answer stands directly below
+-- this one, else the same number
 abbrev pub number_due : List TraceLine → Placed ℕ → ℕ
 number_due lines poll =
     if is_some (block_heard lines (suc poll.place)) then (poll.value + 1) % 256 else poll.value
@@ -47,13 +47,13 @@ abbrev pub breaks_advance : List TraceLine → ℕ → Bool
 breaks_advance lines place = is_some_and (poll_sent lines place) (λ number.
     is_some_and (earlier_poll lines place) (λ earlier. not (number == number_due lines earlier)))
 
--- Same: a block with E, whose poll has another number than the poll before it.
+-- Same: a block answer with E, whose poll has another number than the poll before it.
 abbrev pub breaks_same : List TraceLine → ℕ → Bool
 breaks_same lines place = is_some_and (block_heard lines place) (λ block. says_again block.status
     && is_some_and (poll_above lines place) (λ poll.
     is_some_and (earlier_poll lines poll.place) (λ earlier. not (poll.value == earlier.value))))
 
--- Sequence: a block with G that also has E, or that has another block above it.
+-- Sequence: a block answer with G that also has E, or that has another block answer above it.
 abbrev pub breaks_sequence : List TraceLine → ℕ → Bool
 breaks_sequence lines place = is_some_and (block_heard lines place) (λ block.
     says_out_of_sequence block.status
@@ -70,11 +70,11 @@ is_beyond_limits block =
     || ((says_more block.status && not (length block.entries == 255))
     || list_any (λ entry. is_absent entry.input) block.entries)
 
--- Limits: a block beyond what the module's limits allow.
+-- Limits: a block answer beyond what the module's limits allow.
 abbrev pub breaks_limits : List TraceLine → ℕ → Bool
 breaks_limits lines place = is_some_and (block_heard lines place) is_beyond_limits
 
--- Rest: a block without entries, where the latest block above has C.
+-- Rest: a block answer without entries, where the latest block answer above has C.
 abbrev pub breaks_rest : List TraceLine → ℕ → Bool
 breaks_rest lines place = is_some_and (block_heard lines place) (λ block. length block.entries == 0
     && is_some_and (earlier_block lines place) (λ earlier. says_more earlier.value.status))
@@ -89,8 +89,8 @@ abbrev pub names_absent : Command → Bool
 names_absent (commands.ConfigureInputs items) = list_any (λ item. is_absent item.input) items.items
 names_absent _ = false
 
--- Refusal: an answer that a configuration was taken, where the command directly above names an input
--- above 63.
+-- Refusal: an answer that a configuration was taken, where the command directly above names an
+-- input above 63.
 abbrev pub breaks_refusal : List TraceLine → ℕ → Bool
 breaks_refusal lines place =
     is_some_and (answer_heard lines place) accepts

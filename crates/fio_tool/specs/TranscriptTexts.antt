@@ -1,6 +1,6 @@
 -- What `check` tells of a text.
 use Rattle.std.specs.Prelude.{◌≡◌, ℕ, Bool, true, false, List, ◌++◌, codes, decimal, Result, Ok, Err, MatchBool}
-use Rattle.fio_tool.specs.Show.{is_too_long}
+use Rattle.fio_tool.specs.Inputs.{is_too_long, too_long_text, line_fault_text}
 use Rattle.fio_tool.specs.Transcript.{TraceLine, trace_in}
 use Rattle.fio_tool.specs.TranscriptRules.{IsVerdict}
 use Rattle.fio_tool.specs.declared.transcript.reading.TraceError.{TraceError}
@@ -36,10 +36,10 @@ TellsOf (Ok lines) text good =
     (verdict : Verdict) × IsVerdict lines verdict
     × (text ≡ verdict_text verdict) × (good ≡ is_good verdict)
 TellsOf (Err (BadLine line)) text good =
-    (text ≡ codes "line " ++ (decimal line ++ codes ": bad line\n")) × (good ≡ false)
+    (text ≡ line_fault_text line (codes "bad line")) × (good ≡ false)
 TellsOf (Err Memory) text good = ⊥
 
 -- the text that `check` writes for an input, and whether it tells of no fault
 abbrev pub IsCheckText : List ℕ → List ℕ → Bool → Type 0
 IsCheckText input text good = MatchBool (is_too_long input)
-    ((text ≡ codes "input too long\n") × (good ≡ false)) (TellsOf (trace_in input) text good)
+    ((text ≡ too_long_text) × (good ≡ false)) (TellsOf (trace_in input) text good)

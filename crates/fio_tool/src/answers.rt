@@ -110,7 +110,7 @@ fn push_block_head(
     )
 }
 
-/// Appends the line for an entry of a block with this stamp.
+/// Appends the line for an entry of a block answer with this stamp.
 fn push_entry(text: &mut String, entry: Entry, stamp: u32) -> Result<(), AllocError>
     ensures { OnOk result (string_bytes text.new
         ≡ string_bytes text.old ++ entry_text stamp entry) }

@@ -1,14 +1,16 @@
 //! The program, but for what it is given by `main`.
-ghost use Rattle.std.specs.Prelude.{◌≡◌, ◌≤◌, ◌==◌, map};
+ghost use Rattle.std.specs.Prelude.{◌≡◌, ◌≢◌, ◌⊎◌, ◌≤◌, ◌==◌, [], None, map};
+ghost use Rattle.clap.specs.Faults.{fault_of};
 ghost use Rattle.clap.specs.Values.{kind_of};
-ghost use Rattle.fio_tool.specs.CommandLine.{NamesTool};
-ghost use Rattle.fio_tool.specs.Running.{fault_line, status_of};
+ghost use Rattle.fio_tool.specs.CommandLine.{NamesTool, chosen_name, command_line};
+ghost use Rattle.fio_tool.specs.Running.{IsRefusalStatus, fault_line, no_subcommand_line, refusal_status, status_of};
 ghost use Rattle.fio_tool.specs.Streams.{TakesAtMost};
 ghost use Rattle.fio_tool.specs.Tools.{HasTold, ending_of};
 ghost use Rattle.fio_tool.specs.declared.tools.Tool.{Tool};
 
 use crate::choosing::choose;
 use crate::endings::{Ending, ToolFault};
+use crate::streams::write_text;
 use crate::tools::{Tool, check, show, simulate};
 use clap::Error;
 use clap::error::ErrorKind;
@@ -26,7 +28,8 @@ use std::io::{Read, Write};
 /// | 3 | a read or a write failed, or there was no memory |
 ///
 /// For 3 and for no subcommand the program prints one line, `fio2070: read fault` or the like; for
-/// every other fault of the words it prints `clap`'s text. A failure to print these is passed over.
+/// every other fault of the words it prints `clap`'s text. A failure to print these is passed over,
+/// and so is want of memory for `clap`'s text.
 pub fn run_program<'a, R: Read, W: Write>(
     alloc: Global,
     words: &'a [&'a str],
@@ -43,20 +46,35 @@ pub fn run_program<'a, R: Read, W: Write>(
         → result ≤ 1
         → HasTold tool (R.remaining reader.old) (R.remaining reader.new)
         (W.contents writer.old) (W.contents writer.new) (ending_of (result == 0)) }
+    // 2 says that the words are wrong: not where they name a tool.
+    ensures named { (tool : Tool) → NamesTool (map (λ word. word.now) words.entry.now) tool
+        → result ≢ 2 }
+    // Words without a fault that name no tool give 2, or 3 for want of memory.
+    ensures no_subcommand { fault_of command_line (map (λ word. word.now) words.entry.now) ≡ []
+        → chosen_name (map (λ word. word.now) words.entry.now) ≡ None
+        → (result ≡ 2) ⊎ (result ≡ 3) }
+    // Words with a fault give the status of that fault, or 3 for want of memory.
+    ensures refused { fault_of command_line (map (λ word. word.now) words.entry.now) ≢ []
+        → IsRefusalStatus
+        (fault_of command_line (map (λ word. word.now) words.entry.now)) result }
+    // 1 tells of the text of a tool: words with a fault never give it.
+    ensures never_one { fault_of command_line (map (λ word. word.now) words.entry.now) ≢ []
+        → result ≢ 1 }
 {
     match choose(alloc, words) {
         Ok(Some(tool)) => run_tool(alloc, tool, reader, writer),
         Ok(None) => {
-            say(writer, "fio2070: no subcommand\n");
+            say(writer, no_subcommand_line());
             2
         }
-        Err(error) => refuse(&error, writer),
+        Err(error) => refuse(alloc, &error, writer),
     }
 }
 
 /// Runs a tool, whose fault is told, and gives the exit status.
 fn run_tool<R: Read, W: Write>(alloc: Global, tool: Tool, reader: &mut R, writer: &mut W) -> u8
     ensures known { result ≤ 3 }
+    ensures never_two { result ≢ 2 }
     ensures taken { TakesAtMost 1048577 (R.remaining reader.old) (R.remaining reader.new) }
     ensures told { result ≤ 1
         → HasTold tool (R.remaining reader.old) (R.remaining reader.new)
@@ -95,22 +113,40 @@ fn fault_line(fault: ToolFault) -> &'static str
     }
 }
 
-/// Tells why a command line gave no tool, and gives the exit status.
-fn refuse<W: Write>(error: &Error, writer: &mut W) -> u8
-    ensures known { result ≤ 3 }
-    ensures memory { kind_of error.now ≡ ErrorKind.OutOfMemory → result ≡ 3 }
+/// The line that tells of words that name no subcommand.
+fn no_subcommand_line() -> &'static str
+    ensures { result.now ≡ no_subcommand_line }
 {
-    if error.kind() == ErrorKind::OutOfMemory {
-        say(writer, fault_line(ToolFault::Memory));
-        return 3;
-    }
-    let _ = write!(writer, "{error}");
-    let _ = writer.flush();
-    if error.use_stderr() { 2 } else { 0 }
+    "fio2070: no subcommand\n"
 }
 
-/// Writes a line of the program's own, as far as the writer takes it.
-fn say<W: Write>(writer: &mut W, line: &str) {
-    let _ = writer.write_all(line.as_bytes());
-    let _ = writer.flush();
+/// Tells why a command line gave no tool, and gives the exit status.
+fn refuse<W: Write>(alloc: Global, error: &Error, writer: &mut W) -> u8
+    ensures { result ≡ refusal_status (kind_of error.now) }
+{
+    let kind = error.kind();
+    if kind == ErrorKind::OutOfMemory {
+        say(writer, fault_line(ToolFault::Memory));
+    } else if let Ok(text) = format!(in alloc; "{error}") {
+        say(writer, text.as_str());
+    }
+    refusal_status(kind)
+}
+
+/// The exit status where `clap` gives an error of this kind.
+fn refusal_status(kind: ErrorKind) -> u8
+    ensures status { result ≡ refusal_status kind }
+    ensures known { result ≤ 3 }
+    ensures never_one { result ≢ 1 }
+{
+    match kind {
+        ErrorKind::DisplayHelp | ErrorKind::DisplayVersion => 0,
+        ErrorKind::OutOfMemory => 3,
+        _ => 2,
+    }
+}
+
+/// Writes a text of the program's own, as far as the writer takes it.
+fn say<W: Write>(writer: &mut W, text: &str) {
+    let _ = write_text(writer, text.as_bytes());
 }

@@ -5,13 +5,11 @@ ghost use Rattle.fio_tool.specs.Show.{is_line_good, is_show_good, line_text, sho
 
 use crate::answers::push_answer;
 use crate::commands::push_command;
+use crate::inputs::{is_too_long, report_too_long};
 use fio_message::{DecodeError, Memory, decode_answer, decode_command};
 use fio_world::Report;
 use fio_world::text::{FaultWords, numbered_lines, read_octets};
 use std::alloc::{AllocError, Global};
-
-/// The greatest number of octets of an input (own profile).
-pub(crate) const MAX_INPUT: usize = 1_048_576;
 
 /// The text that tells of each line of the input: a line of octets in hexadecimal digits is told as
 /// the message that they spell, an answer where the first is 128 or more and else a command. A line
@@ -24,14 +22,10 @@ pub fn show_text(alloc: Global, input: &[u8]) -> Result<Report, Memory>
     ensures text { IfOk result (λ report. report.text.items ≡ show_text input.now) }
     ensures good { IfOk result (λ report. report.good ≡ is_show_good input.now) }
 {
-    let mut text = String::new(alloc);
-    if input.len() > MAX_INPUT {
-        text.push_str("input too long\n")?;
-        return Ok(Report {
-            text: text.into_bytes(),
-            good: false,
-        });
+    if is_too_long(input) {
+        return report_too_long(alloc);
     }
+    let mut text = String::new(alloc);
     let mut good = true;
     'lines: for (number, line) in numbered_lines(input, 1) {
         good &= push_line(&mut text, number, line)?;

@@ -3,28 +3,26 @@ ghost use Rattle.std.specs.Prelude.{◌≡◌, ◌≢◌, Err, IfOk, OnOk, strin
 ghost use Rattle.fio_tool.specs.Simulation.{IsSimulateText, TellsOfScript};
 ghost use Rattle.fio_world.specs.declared.script.ScriptError.TheVariants as errors;
 
-use crate::showing::MAX_INPUT;
+use crate::inputs::{is_too_long, report_too_long};
 use fio_message::Memory;
 use fio_world::text::FaultWords;
 use fio_world::{Report, ScriptError, read_script, report};
 use std::alloc::{AllocError, Global};
 
-/// The text that tells what the script in the input brings: its report, which is good unless an event is
-/// refused. A script with a fault is not run: it gives the one line that tells of its first faulty line,
-/// and an input of more than 1,048,576 octets the one line `input too long`.
+/// The number of the line that is a script's header.
+const HEADER: usize = 1;
+
+/// The text that tells what the script in the input brings: its report, which is good unless an event
+/// is refused. A script with a fault is not run: it gives the one line that tells of its first faulty
+/// line, and an input of more than 1,048,576 octets the one line `input too long`.
 ///
 /// # Errors
 /// `Memory` where there is none for the script, for its run or for the text.
 pub fn simulate_text(alloc: Global, input: &[u8]) -> Result<Report, Memory>
     ensures { IfOk result (λ report. IsSimulateText input.now report.text.items report.good) }
 {
-    if input.len() > MAX_INPUT {
-        let mut text = String::new(alloc);
-        text.push_str("input too long\n")?;
-        return Ok(Report {
-            text: text.into_bytes(),
-            good: false,
-        });
+    if is_too_long(input) {
+        return report_too_long(alloc);
     }
     match read_script(alloc, input) {
         Ok(script) => report(alloc, &script),
@@ -40,7 +38,7 @@ fn refused_script(alloc: Global, fault: ScriptError) -> Result<Report, Memory>
 {
     let mut text = String::new(alloc);
     match fault {
-        ScriptError::BadHeader => text.push_str("line 1: bad header\n")?,
+        ScriptError::BadHeader => write!(text, "line {HEADER}: bad header\n")?,
         ScriptError::TooManyEvents { line } => write!(text, "line {line}: too many events\n")?,
         ScriptError::BadLine { line } => write!(text, "line {line}: bad line\n")?,
         ScriptError::BadFrame { line, fault } => {

@@ -49,7 +49,8 @@ pub(crate) fn write_report<W: Write>(writer: &mut W, report: &Report) -> Result<
     }
 }
 
-fn write_text<W: Write>(writer: &mut W, text: &[u8]) -> Result<(), ToolFault>
+/// Writes a text whole, and then flushes.
+pub(crate) fn write_text<W: Write>(writer: &mut W, text: &[u8]) -> Result<(), ToolFault>
     ensures ok { OnOk result (Appends (W.contents writer.old) (W.contents writer.new) text.now) }
     ensures err { IfErr result (λ fault. fault ≡ ToolFault.Write) }
 {

@@ -4,7 +4,8 @@ ghost use Rattle.std.specs.Prelude.{ℕ, List};
 ghost use Rattle.fio_tool.specs.Transcript.{TraceLine, poll_sent, block_heard};
 ghost use Rattle.fio_tool.specs.TranscriptLaws.{HasOneCheckText, HasOneVerdict, TellsTheLatest};
 
-/// The earlier poll of a line is the latest poll above it, and so is the earlier block among blocks.
+/// The earlier poll of a line is the latest poll above it, and so is the earlier block answer among
+/// block answers.
 pub fn earlier_is_latest_above()
     ensures polls { (lines : List TraceLine) → TellsTheLatest (poll_sent lines) }
     ensures blocks { (lines : List TraceLine) → TellsTheLatest (block_heard lines) }

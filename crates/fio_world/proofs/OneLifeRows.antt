@@ -14,7 +14,7 @@ use Rattle.fio_module.specs.Sendings.{Sending, answer_of, first_sending, sent_ag
 use Rattle.fio_module.specs.Replies.{answer_if}
 use Rattle.fio_world.specs.declared.event.Event.{Event}
 use Rattle.fio_world.specs.declared.event.Event.TheVariants as events
-use Rattle.fio_world.specs.Link.{Sent, Machine, start, number_of, frame_numbered, refusal, answered, polls_with, received, with_block, heard, after, Leads, IsRun}
+use Rattle.fio_world.specs.Link.{Sent, Machine, start, number_of, item_numbered, refusal, answered, polls_with, received, with_block, heard, after, Leads, IsRun}
 use Rattle.fio_world.specs.Frames.{HasPoll, HasBlock}
 use Rattle.fio_world.specs.Headline.{IsNotRestart, HaveNoRestart}
 use Rattle.fio_world.specs.Claims.{blocks_in}
@@ -190,7 +190,7 @@ module _ (settings : Settings) (range : AreInRange settings) (first : ℕ) (mach
       let at = d.numbered in
       let le : machine.last_to_module ≤ d.place + 1 = omega (arith, d.in_order) in
       let here = sym (frame_at_place machine.to_module d.place ∙ d.found) in
-      subst (λ n. HasOneLife settings first (received settings machine n (frame_numbered machine.to_module n))) (sym at)
+      subst (λ n. HasOneLife settings first (received settings machine n (item_numbered machine.to_module n))) (sym at)
       (subst (λ f. HasOneLife settings first (received settings machine (d.place + 1) f)) here
       (one_life_received d.place d.frame le d.found))
   one_life (events.ToCpu index) none fine =
@@ -198,7 +198,7 @@ module _ (settings : Settings) (range : AreInRange settings) (first : ℕ) (mach
       let at = d.numbered in
       let le : machine.last_to_cpu ≤ d.place + 1 = omega (arith, d.in_order) in
       let here = sym (frame_at_place machine.to_cpu d.place ∙ d.found) in
-      subst (λ n. HasOneLife settings first (heard first machine n (frame_numbered machine.to_cpu n))) (sym at)
+      subst (λ n. HasOneLife settings first (heard first machine n (item_numbered machine.to_cpu n))) (sym at)
       (subst (λ f. HasOneLife settings first (heard first machine (d.place + 1) f)) here
       (heard_frame d.place d.frame le d.found (block_in d.frame.octets) refl))
   one_life event none fine =

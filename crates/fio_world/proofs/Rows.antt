@@ -15,7 +15,7 @@ use Rattle.fio_module.specs.Blocks.{MadeBlock, latest_poll, newest_end}
 use Rattle.fio_module.proofs.BlockLaws.{blocks_end_within}
 use Rattle.fio_world.specs.declared.event.Event.{Event}
 use Rattle.fio_world.specs.declared.event.Event.TheVariants as events
-use Rattle.fio_world.specs.Link.{Sent, Machine, start, number_of, frame_numbered, delivery_refusal, refusal, happened, sent, received, heard, after}
+use Rattle.fio_world.specs.Link.{Sent, Machine, start, number_of, item_numbered, delivery_refusal, refusal, happened, sent, received, heard, after}
 use Rattle.fio_world.specs.Frames.{received_numbers}
 use Rattle.fio_world.specs.Rounds.{next_round}
 use Rattle.fio_world.proofs.Places.{some_block}
@@ -49,8 +49,8 @@ deliverable frames last index fine =
 
 -- the frame with a number stands at the place before
 pub frame_at_place : (frames : List Sent) (place : ℕ)
-    → frame_numbered frames (place + 1) ≡ slice_get frames place
-frame_at_place frames place = let next : place + 1 ≡ suc place = omega arith in ap (frame_numbered frames) next
+    → item_numbered frames (place + 1) ≡ slice_get frames place
+frame_at_place frames place = let next : place + 1 ≡ suc place = omega arith in ap (item_numbered frames) next
 
 -- the start
 pub keeps-start : (settings : Settings) (first : ℕ) → HasInvariant settings first start
@@ -153,7 +153,7 @@ module _ (settings : Settings) (range : AreInRange settings) (first : ℕ) (mach
       let at = d.numbered in
       let le : machine.last_to_module ≤ d.place + 1 = omega (arith, d.in_order) in
       let here = sym (frame_at_place machine.to_module d.place ∙ d.found) in
-      subst (λ n. HasInvariant settings first (received settings machine n (frame_numbered machine.to_module n))) (sym at)
+      subst (λ n. HasInvariant settings first (received settings machine n (item_numbered machine.to_module n))) (sym at)
       (subst (λ f. HasInvariant settings first (received settings machine (d.place + 1) f)) here
       (keeps_received settings range first machine i d.place d.frame le d.found))
   keeps (events.ToCpu index) fine =
@@ -161,6 +161,6 @@ module _ (settings : Settings) (range : AreInRange settings) (first : ℕ) (mach
       let at = d.numbered in
       let le : machine.last_to_cpu ≤ d.place + 1 = omega (arith, d.in_order) in
       let here = sym (frame_at_place machine.to_cpu d.place ∙ d.found) in
-      subst (λ n. HasInvariant settings first (heard first machine n (frame_numbered machine.to_cpu n))) (sym at)
+      subst (λ n. HasInvariant settings first (heard first machine n (item_numbered machine.to_cpu n))) (sym at)
       (subst (λ f. HasInvariant settings first (heard first machine (d.place + 1) f)) here
       (keeps_heard settings range first machine i d.place d.frame le d.found))

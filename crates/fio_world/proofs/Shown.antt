@@ -26,19 +26,19 @@ use Rattle.fio_world.specs.declared.outcome.Outcome.{Outcome}
 use Rattle.fio_world.specs.declared.outcome.Outcome.TheVariants as outcomes
 use Rattle.fio_world.specs.declared.outcome.WorldError.{WorldError}
 use Rattle.fio_world.specs.declared.outcome.WorldError.TheVariants as errors
-use Rattle.fio_world.specs.Link.{Machine, Sent, Refusal, start, number_of, frame_numbered, delivery_refusal, refusal, sent, answered, received, with_block, heard, after, Leads, IsRun}
-use Rattle.fio_world.specs.Ends.{Ends, frame_octets, octets_numbered}
+use Rattle.fio_world.specs.Link.{Machine, Sent, Refusal, start, number_of, item_numbered, delivery_refusal, refusal, sent, answered, received, with_block, heard, after, Leads, IsRun}
+use Rattle.fio_world.specs.Ends.{Ends, frame_octets}
 use Rattle.fio_world.specs.Worlds.{octets_of, polling_of, Shows, sent_after, replied_after, received_outcome, heard_outcome, outcome_of, AddsFrom, TakesMemory, IsFault, IsDone, Steps, StandsFor, IsSoundWorld, events_done}
 
 -- the frame with a number, and its octets where the octets of all frames are listed
-octets_numbered-map : (frames : List Sent) (index : ℕ) → octets_numbered (map octets_of frames) index ≡ option_map octets_of (frame_numbered frames index)
-octets_numbered-map frames zero = refl
-octets_numbered-map frames (suc place) = slice_get-map octets_of frames place
+item_numbered-map : (frames : List Sent) (index : ℕ) → item_numbered (map octets_of frames) index ≡ option_map octets_of (item_numbered frames index)
+item_numbered-map frames zero = refl
+item_numbered-map frames (suc place) = slice_get-map octets_of frames place
 
 -- the octets with a number, by their place
-pub octets_numbered-place : (frames : List (List ℕ)) (index : ℕ) → (index ≡ 0 → ⊥) → slice_get frames (index - 1) ≡ octets_numbered frames index
-octets_numbered-place frames zero h = absurd (h refl)
-octets_numbered-place frames (suc place) h = let same : suc place - 1 ≡ place = omega arith in ap (slice_get frames) same
+pub item_numbered-place : (frames : List (List ℕ)) (index : ℕ) → (index ≡ 0 → ⊥) → slice_get frames (index - 1) ≡ item_numbered frames index
+item_numbered-place frames zero h = absurd (h refl)
+item_numbered-place frames (suc place) h = let same : suc place - 1 ≡ place = omega arith in ap (slice_get frames) same
 
 -- an option whose value is mapped to a value has one
 from_mapped : (found : Option Sent) (octets : List ℕ) → option_map octets_of found ≡ Some octets → (frame : Sent) × (found ≡ Some frame) × (frame.octets ≡ octets)
@@ -46,7 +46,7 @@ from_mapped (Some frame) octets e = (frame, refl, cc)
 from_mapped None octets e = absurd cc
 
 -- a frame that may be delivered is the one that is read
-pub read_frame : (frames : List (ArrayVec ℕ)) (count last index : ℕ) (frame : ArrayVec ℕ) → delivery_refusal count last index ≡ None → count ≡ length frames → frame ≡ get_or frames (index - 1) frame → octets_numbered (map frame_octets frames) index ≡ Some frame.items
+pub read_frame : (frames : List (ArrayVec ℕ)) (count last index : ℕ) (frame : ArrayVec ℕ) → delivery_refusal count last index ≡ None → count ≡ length frames → frame ≡ get_or frames (index - 1) frame → item_numbered (map frame_octets frames) index ≡ Some frame.items
 read_frame frames count last zero frame fine same read = absurd cc
 read_frame frames count last (suc place) frame fine same read =
     let high : place < count = grind (arith, nat_tests) in
@@ -117,11 +117,11 @@ module _ (settings : Settings) (first : ℕ) (machine : Machine) (world : Ends) 
       ∙ ap (λ n. delivery_refusal (length machine.to_cpu) n index) s.last_to_cpu
 
   -- the octets with a number that the world shows are those of the machine's frame with it
-  found_to_module : (index : ℕ) (octets : List ℕ) → octets_numbered world.to_module index ≡ Some octets → (frame : Sent) × (frame_numbered machine.to_module index ≡ Some frame) × (frame.octets ≡ octets)
-  found_to_module index octets at = from_mapped (frame_numbered machine.to_module index) octets (sym (octets_numbered-map machine.to_module index) ∙ ap (λ fs. octets_numbered fs index) (sym s.frames_to_module) ∙ at)
+  found_to_module : (index : ℕ) (octets : List ℕ) → item_numbered world.to_module index ≡ Some octets → (frame : Sent) × (item_numbered machine.to_module index ≡ Some frame) × (frame.octets ≡ octets)
+  found_to_module index octets at = from_mapped (item_numbered machine.to_module index) octets (sym (item_numbered-map machine.to_module index) ∙ ap (λ fs. item_numbered fs index) (sym s.frames_to_module) ∙ at)
 
-  found_to_cpu : (index : ℕ) (octets : List ℕ) → octets_numbered world.to_cpu index ≡ Some octets → (frame : Sent) × (frame_numbered machine.to_cpu index ≡ Some frame) × (frame.octets ≡ octets)
-  found_to_cpu index octets at = from_mapped (frame_numbered machine.to_cpu index) octets (sym (octets_numbered-map machine.to_cpu index) ∙ ap (λ fs. octets_numbered fs index) (sym s.frames_to_cpu) ∙ at)
+  found_to_cpu : (index : ℕ) (octets : List ℕ) → item_numbered world.to_cpu index ≡ Some octets → (frame : Sent) × (item_numbered machine.to_cpu index ≡ Some frame) × (frame.octets ≡ octets)
+  found_to_cpu index octets at = from_mapped (item_numbered machine.to_cpu index) octets (sym (item_numbered-map machine.to_cpu index) ∙ ap (λ fs. item_numbered fs index) (sym s.frames_to_cpu) ∙ at)
 
   -- the CPU sent one more command
   pub shown_sent : (command : Command) → Shows settings first (sent machine command) (record world { to_module = world.to_module ++ command_octets command ∷ [] })
@@ -137,7 +137,7 @@ module _ (settings : Settings) (first : ℕ) (machine : Machine) (world : Ends) 
   -- the module received the frame with this number
   pub done_received : (index : ℕ) (octets : List ℕ) (new : Ends)
       → delivery_refusal (length world.to_module) world.last_to_module index ≡ None
-      → octets_numbered world.to_module index ≡ Some octets
+      → item_numbered world.to_module index ≡ Some octets
       → modules.StandsFor settings new.module_end (Received octets ∷ machine.history)
       → new.poller_end ≡ world.poller_end
       → new.to_module ≡ world.to_module
@@ -205,7 +205,7 @@ module _ (settings : Settings) (first : ℕ) (machine : Machine) (world : Ends) 
   -- the CPU heard the frame with this number
   pub done_heard : (index : ℕ) (octets : List ℕ) (new : Ends)
       → delivery_refusal (length world.to_cpu) world.last_to_cpu index ≡ None
-      → octets_numbered world.to_cpu index ≡ Some octets
+      → item_numbered world.to_cpu index ≡ Some octets
       → new.module_end ≡ world.module_end
       → new.poller_end ≡ after_hearing world.poller_end (block_in octets)
       → new.to_module ≡ world.to_module → new.to_cpu ≡ world.to_cpu
@@ -228,13 +228,13 @@ module _ (settings : Settings) (first : ℕ) (machine : Machine) (world : Ends) 
   -- the CPU wanted memory for the frame with this number
   pub fault_heard : (index : ℕ) (octets : List ℕ)
       → delivery_refusal (length world.to_cpu) world.last_to_cpu index ≡ None
-      → octets_numbered world.to_cpu index ≡ Some octets
+      → item_numbered world.to_cpu index ≡ Some octets
       → AddsItems world.poller_end (block_in octets)
       → IsFault (refusal machine (events.ToCpu index)) (TakesMemory first machine (events.ToCpu index)) errors.Memory
   fault_heard index octets fine at adds =
       let d = found_to_cpu index octets at in
       let adds' : AddsFrom (polling_of first machine) (Some d.0) = subst (λ o. AddsItems (polling_of first machine) (block_in o)) (sym d.2) (subst (λ p. AddsItems p (block_in octets)) s.polling adds) in
-      let takes : AddsFrom (polling_of first machine) (frame_numbered machine.to_cpu index) = subst (AddsFrom (polling_of first machine)) (sym d.1) adds' in
+      let takes : AddsFrom (polling_of first machine) (item_numbered machine.to_cpu index) = subst (AddsFrom (polling_of first machine)) (sym d.1) adds' in
       let fine' : refusal machine (events.ToCpu index) ≡ None = sym (refusal-to_cpu index) ∙ fine in
       subst (λ r. IsFault r (TakesMemory first machine (events.ToCpu index)) errors.Memory) (sym fine') (refl, takes)
 

@@ -1,6 +1,6 @@
 -- What a contract sees of a world: both ends, the octets of all frames ever sent, and the numbers
 -- delivered last.
-use Rattle.std.specs.Prelude.{ℕ, zero, suc, List, slice_get, Option, None}
+use Rattle.std.specs.Prelude.{ℕ, List}
 use Rattle.arrayvec.specs.ArrayVec.{ArrayVec}
 use Rattle.fio_module.specs.declared.module.Module.{Module}
 use Rattle.fio_cpu.specs.Poller.{Polling}
@@ -18,8 +18,3 @@ pub record Ends : Type 0 where
 -- the octets that a frame holds
 abbrev pub frame_octets : ArrayVec ℕ → List ℕ
 frame_octets frame = frame.items
-
--- the octets of the frame with this number: the first has number 1
-abbrev pub octets_numbered : List (List ℕ) → ℕ → Option (List ℕ)
-octets_numbered frames zero = None
-octets_numbered frames (suc place) = slice_get frames place

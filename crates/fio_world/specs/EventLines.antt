@@ -10,8 +10,8 @@ use Rattle.fio_world.specs.declared.event.Event.TheVariants.{Scan, LineSync, Rai
 use Rattle.fio_world.specs.declared.script.ScriptError.{ScriptError}
 use Rattle.fio_world.specs.declared.script.ScriptError.TheVariants.{TooManyEvents, BadLine, BadFrame}
 use Rattle.fio_world.specs.Forms.{exactly, begins}
-use Rattle.fio_world.specs.Hexadecimal.{octets_of, octet_of, inputs_of}
-use Rattle.fio_world.specs.Words.{after_prefix, number_of}
+use Rattle.fio_world.specs.Hexadecimal.{octets_in, octet_of, inputs_of}
+use Rattle.fio_world.specs.Words.{after_prefix, number_in}
 
 -- the event of a line that sends no command, where the module may restart or not
 abbrev pub plain_event : Bool → List ℕ → Option Event
@@ -21,8 +21,8 @@ plain_event restarts line =
     (exactly (codes "restart") (then_some restarts Restart) line
     (begins (codes "scan ") (λ word. option_map Scan (inputs_of word)) line
     (begins (codes "raise ") (λ word. option_map Raise (octet_of word)) line
-    (begins (codes "to-module ") (λ word. option_map ToModule (number_of word)) line
-    (begins (codes "to-cpu ") (λ word. option_map ToCpu (number_of word)) line None))))))
+    (begins (codes "to-module ") (λ word. option_map ToModule (number_in word)) line
+    (begins (codes "to-cpu ") (λ word. option_map ToCpu (number_in word)) line None))))))
 
 -- the command is sent, or the frame has this fault
 abbrev pub sending_at : ℕ → Result Command DecodeError → Result Event ScriptError
@@ -37,7 +37,7 @@ frame_at number (Some octets) = sending_at number (decoded_command octets)
 -- the event of the line with this number, or its fault
 abbrev pub event_at : Bool → ℕ × List ℕ → Result Event ScriptError
 event_at restarts line =
-    option_map_or (λ word. frame_at line.0 (octets_of word)) (after_prefix (codes "send ") line.1)
+    option_map_or (λ word. frame_at line.0 (octets_in word)) (after_prefix (codes "send ") line.1)
     (ok_or (plain_event restarts line.1) (BadLine line.0))
 
 -- the fault of a line below as many events as a script may have

@@ -17,5 +17,7 @@ pair_of (Some left) (Some right) = Some (left, right)
 pair_of left right = None
 
 -- a word that is read so, a blank, and what is read so
-abbrev pub both : {A B : Type 0} → (List ℕ → Option A) → (List ℕ → Option B) → List ℕ → Option (A × B)
-both left right words = option_and_then (λ halves. pair_of (left halves.0) (right halves.1)) (halves_of words)
+abbrev pub both : {A B : Type 0}
+    → (List ℕ → Option A) → (List ℕ → Option B) → List ℕ → Option (A × B)
+both left right words =
+    option_and_then (λ halves. pair_of (left halves.0) (right halves.1)) (halves_of words)

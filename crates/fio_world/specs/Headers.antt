@@ -3,7 +3,7 @@ use Rattle.std.specs.Prelude.{ℕ, Bool, true, false, List, Option, Some, None, 
 use Rattle.fio_module.specs.Limits.{Limits, standard_limits, are_limits}
 use Rattle.fio_world.specs.declared.headers.Header.{Header}
 use Rattle.fio_world.specs.Forms.{begins, both}
-use Rattle.fio_world.specs.Words.{number_of, small_number_of}
+use Rattle.fio_world.specs.Words.{number_in, small_number_in}
 
 -- the limits with these two numbers, where they are limits
 abbrev pub limits_with : ℕ × ℕ → Option Limits
@@ -14,7 +14,7 @@ limits_with numbers =
 
 -- N N: the most entries of a block, and the most that wait
 abbrev pub limits_in : List ℕ → Option Limits
-limits_in words = option_and_then limits_with (both number_of number_of words)
+limits_in words = option_and_then limits_with (both number_in number_in words)
 
 -- B B: the module's identification octet and the CPU's first number
 abbrev pub standard_header : Bool → List ℕ → Option Header
@@ -24,7 +24,7 @@ standard_header restarts words =
       first = numbers.1;
       limits = standard_limits;
       restarts = restarts;
-    }) (both small_number_of small_number_of words)
+    }) (both small_number_in small_number_in words)
 
 -- B B N N: the same, then the limits
 abbrev pub limited_header : List ℕ → Option Header
@@ -34,7 +34,7 @@ limited_header words =
       first = numbers.1.0;
       limits = numbers.1.1;
       restarts = true;
-    }) (both small_number_of (both small_number_of limits_in) words)
+    }) (both small_number_in (both small_number_in limits_in) words)
 
 -- the header that a line is
 abbrev pub header_of : List ℕ → Option Header

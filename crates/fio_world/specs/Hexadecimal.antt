@@ -5,8 +5,8 @@ use Rattle.std.specs.Int.{w64, from_le_bytes}
 use Rattle.hex.specs.Hex.{decode_of, decode_sized}
 
 -- HEX: the octets that an even number of digits name, at least two
-abbrev pub octets_of : List ℕ → Option (List ℕ)
-octets_of word = if length word == 0 then None else result_ok (decode_of word)
+abbrev pub octets_in : List ℕ → Option (List ℕ)
+octets_in word = if length word == 0 then None else result_ok (decode_of word)
 
 -- HH: the octet that exactly two digits name
 abbrev pub octet_of : List ℕ → Option ℕ

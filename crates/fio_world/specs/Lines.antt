@@ -9,18 +9,22 @@ with_front octet (line ∷ lines) = (octet ∷ line) ∷ lines
 
 abbrev pub lines_of : List ℕ → List (List ℕ)
 lines_of [] = []
-lines_of (octet ∷ rest) = if octet == 10 then [] ∷ lines_of rest else with_front octet (lines_of rest)
+lines_of (octet ∷ rest) =
+    if octet == 10 then [] ∷ lines_of rest else with_front octet (lines_of rest)
 
 -- a line that says nothing: it is empty, or its first octet is `#`, 35
 abbrev pub is_skipped : List ℕ → Bool
 is_skipped [] = true
 is_skipped (octet ∷ _) = octet == 35
 
--- the lines that say something, each with its number, where the first of all these lines has this one
+-- the lines that say something, each with its number, where the first of all these lines has this
+-- one
 abbrev pub numbered : ℕ → List (List ℕ) → List (ℕ × List ℕ)
 numbered number [] = []
 numbered number (line ∷ lines) =
-    if is_skipped line then numbered (suc number) lines else (number, line) ∷ numbered (suc number) lines
+    if is_skipped line
+    then numbered (suc number) lines
+    else (number, line) ∷ numbered (suc number) lines
 
 -- the text that these lines make, each with a line feed at its end
 abbrev pub text_of : List (List ℕ) → List ℕ

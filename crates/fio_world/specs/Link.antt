@@ -62,10 +62,10 @@ start =
 abbrev pub number_of : ℕ → ℕ → ℕ
 number_of first round = (first + round) % 256
 
--- the frame with this number: the first has number 1
-abbrev pub frame_numbered : List Sent → ℕ → Option Sent
-frame_numbered frames zero = None
-frame_numbered frames (suc place) = slice_get frames place
+-- the item with this number: the first has number 1, and number 0 has none
+abbrev pub item_numbered : {A : Type 0} → List A → ℕ → Option A
+item_numbered items zero = None
+item_numbered items (suc place) = slice_get items place
 
 -- why a frame is not delivered, of so many sent, after the one with the number delivered last
 abbrev pub delivery_refusal : ℕ → ℕ → ℕ → Option Refusal
@@ -119,8 +119,8 @@ received settings machine index (Some frame) =
       polls = polls_with (poll_in frame.octets) frame.round machine.polls;
     }
 
--- a block with the CPU's number is taken: it is recorded, and its round is over. Any other changes
--- nothing
+-- a block with the CPU's number is taken: it is recorded, and the round is one more. Any other
+-- changes nothing
 abbrev pub with_block : ℕ → Machine → Option Block → Machine
 with_block first machine None = machine
 with_block first machine (Some block) =
@@ -143,9 +143,9 @@ after settings first machine Restart = happened machine module_events.Restart
 after settings first machine Poll = sent machine (commands.Poll (number_of first machine.round))
 after settings first machine (Send command) = sent machine command
 after settings first machine (ToModule index) =
-    received settings machine index (frame_numbered machine.to_module index)
+    received settings machine index (item_numbered machine.to_module index)
 after settings first machine (ToCpu index) =
-    heard first machine index (frame_numbered machine.to_cpu index)
+    heard first machine index (item_numbered machine.to_cpu index)
 
 -- these events, none of them refused, lead from one machine to another
 abbrev pub Leads : Settings → ℕ → Machine → List Event → Machine → Type 0

@@ -1,5 +1,5 @@
 -- The lines of a report.
-use Rattle.std.specs.Prelude.{ℕ, List, [], ◌∷◌, ◌++◌, length, codes, decimal, Option, Some, None}
+use Rattle.std.specs.Prelude.{ℕ, Bool, List, [], ◌∷◌, ◌++◌, length, codes, decimal, Option, Some, None}
 use Rattle.std.specs.List.{flat_map}
 use Rattle.hex.specs.Hex.{encode_lower}
 use Rattle.fio_message.specs.Bits.{bit_of}
@@ -24,14 +24,18 @@ abbrev pub heard_line : ℕ → Heard → List ℕ
 heard_line number (Block entries status) =
     decimal number ++ (codes " block entries " ++ (decimal entries ++ (codes " status "
     ++ (encode_lower (status ∷ []) ++ codes "\n"))))
-heard_line number (Stale block) = decimal number ++ (codes " stale " ++ (decimal block ++ codes "\n"))
-heard_line number (Other code) = decimal number ++ (codes " other " ++ (decimal code ++ codes "\n"))
-heard_line number (Unreadable fault) = decimal number ++ (codes " unreadable " ++ (fault_text fault ++ codes "\n"))
+heard_line number (Stale block) =
+    decimal number ++ (codes " stale " ++ (decimal block ++ codes "\n"))
+heard_line number (Other code) =
+    decimal number ++ (codes " other " ++ (decimal code ++ codes "\n"))
+heard_line number (Unreadable fault) =
+    decimal number ++ (codes " unreadable " ++ (fault_text fault ++ codes "\n"))
 
 -- a frame was sent, with its number and its octets
 abbrev pub sent_line : ℕ → ℕ → List ℕ → List ℕ
 sent_line number index octets =
-    decimal number ++ (codes " sent " ++ (decimal index ++ (codes " " ++ (encode_lower octets ++ codes "\n"))))
+    decimal number ++ (codes " sent " ++ (decimal index
+    ++ (codes " " ++ (encode_lower octets ++ codes "\n"))))
 
 -- what the event with this number brought
 abbrev pub outcome_line : ℕ → Outcome → List ℕ
@@ -51,23 +55,32 @@ abbrev pub refused_line : ℕ → Refusal → List ℕ
 refused_line number (NotSent index) =
     decimal number ++ (codes " refused not sent " ++ (decimal index ++ codes "\n"))
 refused_line number (OutOfOrder index last) =
-    decimal number ++ (codes " refused out of order " ++ (decimal index ++ (codes " after " ++ (decimal last ++ codes "\n"))))
+    decimal number ++ (codes " refused out of order " ++ (decimal index
+    ++ (codes " after " ++ (decimal last ++ codes "\n"))))
 refused_line number PollIsOurs = decimal number ++ codes " refused poll is ours\n"
 
 -- ---- the end of a run
 
+-- an entry, with its wide time
+abbrev pub entry_line : ℕ → Bool → ℕ → ℕ → List ℕ
+entry_line input level stamp wide =
+    codes "input " ++ (decimal input
+    ++ (codes " state " ++ (decimal (bit_of level)
+    ++ (codes " stamp " ++ (decimal stamp
+    ++ (codes " wide " ++ (decimal wide ++ codes "\n")))))))
+
 -- an item of the record
 abbrev pub item_line : Item → List ℕ
 item_line Gap = codes "gap\n"
-item_line (Entry input level stamp wide) =
-    codes "input " ++ (decimal input ++ (codes " state " ++ (decimal (bit_of level)
-    ++ (codes " stamp " ++ (decimal stamp ++ (codes " wide " ++ (decimal wide ++ codes "\n")))))))
+item_line (Entry input level stamp wide) = entry_line input level stamp wide
 
 -- the module's counter, the CPU's number, how many entries wait, and how many items the record has
 abbrev pub count_lines : ℕ → ℕ → ℕ → ℕ → List ℕ
 count_lines counter number waiting items =
-    codes "counter " ++ (decimal counter ++ (codes "\nnumber " ++ (decimal number
-    ++ (codes "\nwaiting " ++ (decimal waiting ++ (codes "\nrecord " ++ (decimal items ++ codes "\n")))))))
+    codes "counter " ++ (decimal counter
+    ++ (codes "\nnumber " ++ (decimal number
+    ++ (codes "\nwaiting " ++ (decimal waiting
+    ++ (codes "\nrecord " ++ (decimal items ++ codes "\n")))))))
 
 -- the same, and the record
 abbrev pub ending_lines : ℕ → ℕ → ℕ → List Item → List ℕ

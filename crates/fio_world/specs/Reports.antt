@@ -19,13 +19,16 @@ told_after text telling = record { text = text ++ telling.text; good = telling.g
 -- an event that is refused is the last of which is told; else its line stands above what follows
 abbrev pub unless_refused : ℕ → Option Refusal → List ℕ → Telling → Telling
 unless_refused number None line telling = told_after line telling
-unless_refused number (Some reason) line telling = record { text = refused_line number reason; good = false }
+unless_refused number (Some reason) line telling =
+    record { text = refused_line number reason; good = false }
 
 -- what is told of these events from a machine on, the first of which has this number
 abbrev pub told_from : Settings → ℕ → ℕ → Machine → List Event → Telling
-told_from settings first number machine [] = record { text = ending_text settings first machine; good = true }
+told_from settings first number machine [] =
+    record { text = ending_text settings first machine; good = true }
 told_from settings first number machine (event ∷ events) =
-    unless_refused number (refusal machine event) (outcome_line number (outcome_of settings first machine event))
+    unless_refused number (refusal machine event)
+    (outcome_line number (outcome_of settings first machine event))
     (told_from settings first (number + 1) (after settings first machine event) events)
 
 -- the report of a script
@@ -38,8 +41,8 @@ report_of scenario = told_from scenario.settings scenario.first 1 start scenario
 abbrev pub EndsWith : List ℕ → List ℕ → Type 0
 EndsWith text lines = (before : List ℕ) × (text ≡ before ++ lines)
 
--- where all events of a script are done, its report is good and ends with how the run has ended; and a
--- report is good only there
+-- where all events of a script are done, its report is good and ends with how the run has ended;
+-- and a report is good only there
 pub record TellsOfRun (scenario : Scenario) : Type 0 where
   pub good :
       (machine : Machine) → IsRun scenario.settings scenario.first scenario.events machine →

@@ -34,7 +34,8 @@ PollsOf first machine =
 pub record BlockAnswersAreInOrder (frames : List Sent) (last round next : ℕ) : Type 0 where
   -- their rounds never fall, and are of polls received
   pub rise :
-      (p q : ℕ) (a b : Block) (r s : ℕ) → p ≤ q → HasBlock frames p a r → HasBlock frames q b s → r ≤ s
+      (p q : ℕ) (a b : Block) (r s : ℕ) → p ≤ q
+      → HasBlock frames p a r → HasBlock frames q b s → r ≤ s
   pub answered : (place : ℕ) (a : Block) (r : ℕ) → HasBlock frames place a r → r < next
   -- from the last delivered frame on they are at least the round before the CPU's
   pub ahead :

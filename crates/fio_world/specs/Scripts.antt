@@ -27,7 +27,11 @@ abbrev pub events_of : Bool → List (List ℕ) → Result (List Event) ScriptEr
 events_of restarts lines = collected (readings 10000 restarts (numbered 2 lines))
 
 abbrev pub with_events : Header → Result (List Event) ScriptError → Result Scenario ScriptError
-with_events header (Ok events) = Ok (record { settings = settings_with header.id header.limits; first = header.first; events = events })
+with_events header (Ok events) = Ok (record {
+  settings = settings_with header.id header.limits;
+  first = header.first;
+  events = events;
+})
 with_events header (Err fault) = Err fault
 
 abbrev pub below : Option Header → List (List ℕ) → Result Scenario ScriptError
@@ -50,4 +54,8 @@ HasEventLine (header ∷ lines) = IsSome (header_of header) × (numbered 2 lines
 -- a script, wherever its events lie in memory
 abbrev pub scenario_of : Script → Scenario
 scenario_of script =
-    record { settings = settings_with script.id script.limits; first = script.first; events = script.events.items }
+    record {
+      settings = settings_with script.id script.limits;
+      first = script.first;
+      events = script.events.items;
+    }

@@ -22,12 +22,12 @@ abbrev pub is_number : List ℕ → Bool
 is_number word = nat_lt 0 (length word) && (nat_lt (length word) 10 && list_all is_ascii_digit word)
 
 -- N: the number that one to nine decimal digits write, leading zeros allowed
-abbrev pub number_of : List ℕ → Option ℕ
-number_of word = if is_number word then Some (digits_value 10 word) else None
+abbrev pub number_in : List ℕ → Option ℕ
+number_in word = if is_number word then Some (digits_value 10 word) else None
 
 abbrev pub up_to_255 : ℕ → Option ℕ
 up_to_255 number = if nat_lt number 256 then Some number else None
 
 -- B: a number of at most 255
-abbrev pub small_number_of : List ℕ → Option ℕ
-small_number_of word = option_and_then up_to_255 (number_of word)
+abbrev pub small_number_in : List ℕ → Option ℕ
+small_number_in word = option_and_then up_to_255 (number_in word)

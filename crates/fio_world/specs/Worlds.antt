@@ -17,7 +17,7 @@ use Rattle.fio_world.specs.declared.outcome.Outcome.{Outcome}
 use Rattle.fio_world.specs.declared.outcome.Outcome.TheVariants as outcomes
 use Rattle.fio_world.specs.declared.outcome.WorldError.{WorldError}
 use Rattle.fio_world.specs.declared.outcome.WorldError.TheVariants as errors
-use Rattle.fio_world.specs.Link.{Machine, Sent, Refusal, NotSent, OutOfOrder, PollIsOurs, refusal, after, number_of, frame_numbered, IsRun}
+use Rattle.fio_world.specs.Link.{Machine, Sent, Refusal, NotSent, OutOfOrder, PollIsOurs, refusal, after, number_of, item_numbered, IsRun}
 use Rattle.fio_world.specs.Sound.{IsSoundRun}
 use Rattle.fio_world.specs.Ends.{Ends}
 
@@ -69,9 +69,9 @@ outcome_of settings first machine events.Poll =
 outcome_of settings first machine (events.Send command) =
     sent_after (length machine.to_module) (command_octets command)
 outcome_of settings first machine (events.ToModule index) =
-    received_outcome settings machine (frame_numbered machine.to_module index)
+    received_outcome settings machine (item_numbered machine.to_module index)
 outcome_of settings first machine (events.ToCpu index) =
-    heard_outcome (number_of first machine.round) (frame_numbered machine.to_cpu index)
+    heard_outcome (number_of first machine.round) (item_numbered machine.to_cpu index)
 outcome_of settings first machine other = outcomes.Quiet
 
 -- how a refusal of the machine is told
@@ -92,7 +92,7 @@ TakesMemory first machine events.Poll = Unit {0}
 TakesMemory first machine (events.Send command) = Unit {0}
 TakesMemory first machine (events.ToModule index) = Unit {0}
 TakesMemory first machine (events.ToCpu index) =
-    AddsFrom (polling_of first machine) (frame_numbered machine.to_cpu index)
+    AddsFrom (polling_of first machine) (item_numbered machine.to_cpu index)
 TakesMemory first machine other = ⊥
 
 -- the fault is the machine's refusal; where the machine does not refuse, the memory that the event

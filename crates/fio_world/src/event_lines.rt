@@ -1,7 +1,7 @@
 //! A script's further lines: one event each.
 ghost use Rattle.std.specs.Prelude.{◌≡◌, ◌≢◌, IfOk, IfErr};
 ghost use Rattle.fio_world.specs.EventLines.{event_at, frame_at, plain_event};
-ghost use Rattle.fio_world.specs.Hexadecimal.{octets_of};
+ghost use Rattle.fio_world.specs.Hexadecimal.{octets_in};
 
 use crate::event::Event;
 use crate::script::ScriptError;
@@ -28,9 +28,9 @@ pub(crate) fn read_event(
 
 /// The sending of the command that the word's octets spell.
 fn read_sending(alloc: Global, number: usize, word: &[u8]) -> Result<Event, ScriptError>
-    ensures ok { IfOk result (λ event. frame_at number (octets_of word.now) ≡ Ok event) }
+    ensures ok { IfOk result (λ event. frame_at number (octets_in word.now) ≡ Ok event) }
     ensures err { IfErr result (λ fault. fault ≢ ScriptError.Memory
-        → frame_at number (octets_of word.now) ≡ Err fault) }
+        → frame_at number (octets_in word.now) ≡ Err fault) }
 {
     let Some(octets) = read_octets(alloc, word)? else {
         return Err(ScriptError::BadLine { line: number });

@@ -53,7 +53,8 @@ pub fn polls_are_in_order()
 /// The rounds of the polls received are those of their numbers; without restarts the newest is the
 /// round of the newest block.
 pub fn newest_poll_made_newest_block()
-    ensures rounds { HoldsOfRuns (λ settings first events machine. PollsReceivedHaveRounds first machine) }
+    ensures rounds { HoldsOfRuns (λ settings first events machine.
+        PollsReceivedHaveRounds first machine) }
     ensures newest { HoldsWithoutRestart (λ settings first machine.
         NewestPollMadeNewestBlock settings machine) }
 {}

@@ -85,7 +85,8 @@ pub(crate) fn push_refusal(
 
 /// How a run ended: the module's counter, the CPU's number, how many entries wait, and the record.
 pub(crate) fn push_ending(text: &mut String, world: &World) -> Result<(), AllocError>
-    ensures { (settings : Settings) (first : ℕ) (machine : Machine) → Shows settings first machine world.now
+    ensures { (settings : Settings) (first : ℕ) (machine : Machine)
+        → Shows settings first machine world.now
         → OnOk result (string_bytes text.new
         ≡ string_bytes text.old ++ ending_text settings first machine) }
 {

@@ -47,7 +47,7 @@ pub enum ScriptError {
         /// Why they spell none.
         fault: DecodeError,
     },
-    /// The events had to grow, and there was no memory.
+    /// The events or the octets of a frame had to grow, and there was no memory.
     #[error("out of memory")]
     Memory,
 }

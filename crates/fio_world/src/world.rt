@@ -4,9 +4,8 @@ ghost use Rattle.std.specs.Option.{option_map};
 ghost use Rattle.std.specs.Borrow.{Bor};
 ghost use Rattle.fio_module.specs.Settings.{Settings, standard_settings, settings_with};
 ghost use Rattle.fio_world.specs.declared.event.Event.{Event as Happening};
-ghost use Rattle.fio_world.specs.Link.{Machine};
+ghost use Rattle.fio_world.specs.Link.{Machine, item_numbered};
 ghost use Rattle.fio_world.specs.Headline.{Headline};
-ghost use Rattle.fio_world.specs.Ends.{octets_numbered};
 ghost use Rattle.fio_world.specs.Worlds.{Shows, Steps, StandsFor, IsSoundWorld, HasStopped, events_done};
 
 mod frames;
@@ -199,7 +198,7 @@ impl World {
     /// where none has it.
     pub fn frame_to_module(&self, index: usize) -> Option<&[u8]>
         ensures { option_map (λ (octets : Bor (List ℕ)). octets.now) result
-            ≡ octets_numbered self.now.to_module index }
+            ≡ item_numbered self.now.to_module index }
     {
         octets_of_frame(&self.to_module, index)
     }
@@ -208,7 +207,7 @@ impl World {
     /// none has it.
     pub fn frame_to_cpu(&self, index: usize) -> Option<&[u8]>
         ensures { option_map (λ (octets : Bor (List ℕ)). octets.now) result
-            ≡ octets_numbered self.now.to_cpu index }
+            ≡ item_numbered self.now.to_cpu index }
     {
         octets_of_frame(&self.to_cpu, index)
     }

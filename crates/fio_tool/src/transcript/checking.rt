@@ -4,7 +4,7 @@ ghost use Rattle.fio_tool.specs.TranscriptTexts.{IsCheckText, is_good, rule_name
 
 use super::reading::{TraceError, read_trace};
 use super::rules::{Rule, Verdict, check_trace};
-use crate::showing::MAX_INPUT;
+use crate::inputs::{is_too_long, report_too_long};
 use fio_message::Memory;
 use fio_world::Report;
 use std::alloc::{AllocError, Global};
@@ -19,14 +19,10 @@ use std::alloc::{AllocError, Global};
 pub fn check_text(alloc: Global, input: &[u8]) -> Result<Report, Memory>
     ensures { IfOk result (λ report. IsCheckText input.now report.text.items report.good) }
 {
-    let mut text = String::new(alloc);
-    if input.len() > MAX_INPUT {
-        text.push_str("input too long\n")?;
-        return Ok(Report {
-            text: text.into_bytes(),
-            good: false,
-        });
+    if is_too_long(input) {
+        return report_too_long(alloc);
     }
+    let mut text = String::new(alloc);
     let good = match read_trace(alloc, input) {
         Ok(lines) => {
             let verdict = check_trace(lines.as_slice());

@@ -23,11 +23,11 @@ pub(crate) struct Facts {
     absent_named: bool,
     /// The number of the latest poll.
     polled: Option<u8>,
-    /// Whether a block stands directly below the latest poll.
+    /// Whether a block answer stands directly below the latest poll.
     answered: bool,
     /// Whether the latest poll has another number than the poll before it.
     advanced: bool,
-    /// Whether the latest block has C.
+    /// Whether the latest block answer has C.
     more: Option<bool>,
 }
 
@@ -53,7 +53,8 @@ impl Facts {
     }
 
     fn add_command(&mut self, command: &Command) -> Result<(), Rule>
-        ensures broken { result_err result ≡ find (is_broken_by_command self.old command.now) rules }
+        ensures broken { result_err result
+            ≡ find (is_broken_by_command self.old command.now) rules }
         ensures kept { OnOk result (self.new ≡ with_command self.old command.now) }
     {
         if let Command::Poll { block } = command {
@@ -112,7 +113,7 @@ impl Facts {
         }
     }
 
-    /// The first rule that a block breaks, by its number, its entries and its status.
+    /// The first rule that a block answer breaks, by its number, its entries and its status.
     fn rule_broken_by_block(&self, number: u8, entries: &[Entry], status: u8) -> Option<Rule>
         ensures { result ≡ find (is_broken_by_block self.now
             (record { number = number; entries = entries.now; status = status; stamp = 0 })) rules }

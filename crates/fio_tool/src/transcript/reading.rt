@@ -74,7 +74,8 @@ impl<T: Drop> From<AllocFailed<T>> for TraceError {
 /// for it.
 pub fn read_trace(alloc: Global, text: &[u8]) -> Result<Vec<Line>, TraceError>
     ensures ok { IfOk result (λ lines. trace_in text.now ≡ Ok lines.items) }
-    ensures err { IfErr result (λ fault. fault ≢ TraceError.Memory → trace_in text.now ≡ Err fault) }
+    ensures err { IfErr result (λ fault. fault ≢ TraceError.Memory
+        → trace_in text.now ≡ Err fault) }
     ensures memory { result ≡ Err TraceError.Memory → numbered 1 (lines_of text.now) ≢ [] }
 {
     let mut lines = Vec::new(alloc);

@@ -11,18 +11,19 @@ pub enum Rule {
     Readable,
     /// An answer stands directly below the command that it answers.
     Pair,
-    /// A block has the number of the poll directly above.
+    /// A block answer has the number of the poll directly above.
     Number,
-    /// A poll has the next number where a block stands directly below the earlier poll, else the same
-    /// number again. The next number after 255 is 0.
+    /// A poll has the next number where a block answer stands directly below the earlier poll, else
+    /// the same number again. The next number after 255 is 0.
     Advance,
-    /// A block has E only where its poll has the number of the poll before it, or is the first poll.
+    /// A block answer has E only where its poll has the number of the poll before it, or is the
+    /// first poll.
     Same,
-    /// A block has G only where it is the first block, and then it has no E.
+    /// A block answer has G only where it is the first, and then it has no E.
     Sequence,
-    /// A block has F only with C, has C only with 255 entries, and names no input above 63.
+    /// A block answer has F only with C, has C only with 255 entries, and names no input above 63.
     Limits,
-    /// A block below one with C has entries.
+    /// A block answer below one with C has entries.
     Rest,
     /// A configuration that names an input above 63 is refused.
     Refusal,
@@ -45,8 +46,8 @@ pub enum Verdict {
     },
 }
 
-/// The verdict on a transcript: good if no line breaks a rule, else the number of the first line that
-/// does, and the first rule that it breaks. Goes through the lines once and takes no memory.
+/// The verdict on a transcript: good if no line breaks a rule, else the number of the first line
+/// that does, and the first rule that it breaks. Goes through the lines once and takes no memory.
 pub fn check_trace(lines: &[Line]) -> Verdict
     ensures { IsVerdict lines.now result }
 {

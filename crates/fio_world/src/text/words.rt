@@ -1,7 +1,7 @@
 //! The words of a line, and what they write.
-ghost use Rattle.std.specs.Prelude.{◌≡◌, IfOk, option_map, position};
-ghost use Rattle.fio_world.specs.Hexadecimal.{octets_of, octet_of, inputs_of};
-ghost use Rattle.fio_world.specs.Words.{after_prefix, halves_of, is_blank, number_of, small_number_of};
+ghost use Rattle.std.specs.Prelude.{◌≡◌, ◌≢◌, [], IfOk, OnErr, option_map, position};
+ghost use Rattle.fio_world.specs.Hexadecimal.{octets_in, octet_of, inputs_of};
+ghost use Rattle.fio_world.specs.Words.{after_prefix, halves_of, is_blank, number_in, small_number_in};
 
 use fio_message::{Memory, inputs_from_octets};
 use hex::{FromHex, FromHexError};
@@ -32,7 +32,7 @@ fn first_blank(line: &[u8]) -> Option<usize>
 /// N: the number that one to nine decimal digits write, leading zeros allowed. It is read whole: a
 /// caller that needs a smaller one tests it.
 pub fn read_number(word: &[u8]) -> Option<usize>
-    ensures { result ≡ number_of word.now }
+    ensures { result ≡ number_in word.now }
 {
     if word.is_empty() || word.len() > 9 {
         return None;
@@ -49,7 +49,7 @@ pub fn read_number(word: &[u8]) -> Option<usize>
 
 /// B: a number of at most 255, written as N is.
 pub fn read_small_number(word: &[u8]) -> Option<u8>
-    ensures { result ≡ small_number_of word.now }
+    ensures { result ≡ small_number_in word.now }
 {
     let number = read_number(word)?;
     u8::try_from(number).ok()
@@ -75,7 +75,10 @@ pub fn read_inputs(word: &[u8]) -> Option<u64>
 /// HEX: the octets that an even number of hexadecimal digits of either case name, at least two; `None`
 /// for any other word. `Memory` where there is none for them.
 pub fn read_octets(alloc: Global, word: &[u8]) -> Result<Option<Vec<u8>>, Memory>
-    ensures { IfOk result (λ found. option_map (λ octets. octets.items) found ≡ octets_of word.now) }
+    ensures read { IfOk result (λ found.
+        option_map (λ octets. octets.items) found ≡ octets_in word.now) }
+    // The empty word asks for no memory.
+    ensures wanted { OnErr result (word.now ≢ []) }
 {
     if word.is_empty() {
         return Ok(None);

@@ -2,8 +2,8 @@
 ghost use Rattle.std.specs.Prelude.{◌≡◌, ◌<◌, ◌∷◌, ◌++◌, [], List, ℕ, map, vec_len, vec_capacity, MatchResult};
 ghost use Rattle.std.specs.Option.{option_map};
 ghost use Rattle.std.specs.Borrow.{Bor};
-ghost use Rattle.fio_world.specs.Link.{delivery_refusal};
-ghost use Rattle.fio_world.specs.Ends.{frame_octets, octets_numbered};
+ghost use Rattle.fio_world.specs.Link.{delivery_refusal, item_numbered};
+ghost use Rattle.fio_world.specs.Ends.{frame_octets};
 ghost use Rattle.fio_world.specs.Worlds.{IsFault};
 
 use crate::outcome::WorldError;
@@ -12,7 +12,7 @@ use fio_message::Frame;
 /// The octets of the frame with this number, from 1, or `None` where none has it.
 pub(crate) fn octets_of_frame(frames: &Vec<Frame>, index: usize) -> Option<&[u8]>
     ensures { option_map (λ (octets : Bor (List ℕ)). octets.now) result
-        ≡ octets_numbered (map frame_octets frames.now.items) index }
+        ≡ item_numbered (map frame_octets frames.now.items) index }
 {
     if index == 0 || frames.len() < index {
         return None;

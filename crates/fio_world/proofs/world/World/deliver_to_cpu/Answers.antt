@@ -5,8 +5,8 @@ use Rattle.fio_message.specs.Decoding.{decoded_answer, block_in}
 use Rattle.fio_cpu.specs.Hearing.{heard_as, after_hearing, AddsItems}
 use Rattle.fio_world.specs.declared.event.Event.TheVariants as events
 use Rattle.fio_world.specs.declared.outcome.Outcome.TheVariants as outcomes
-use Rattle.fio_world.specs.Link.{delivery_refusal}
-use Rattle.fio_world.specs.Ends.{Ends, frame_octets, octets_numbered}
+use Rattle.fio_world.specs.Link.{delivery_refusal, item_numbered}
+use Rattle.fio_world.specs.Ends.{Ends, frame_octets}
 use Rattle.fio_world.specs.Worlds.{Shows, Steps, IsFault, IsDone}
 use Rattle.fio_world.proofs.Shown.{read_frame, done_heard, fault_heard, fault_to_cpu}
 use Rattle.fio_world.proofs.world.World.deliver_to_cpu.Goals as goal
@@ -30,7 +30,7 @@ returns-in-Ok-clause-row c settings first machine s =
     let frame = c.index.result.now in
     let count : c.len.result ≡ length inside.to_cpu.items = c.len.ensures ∙ inside.to_cpu.ok.0 in
     let fine : delivery_refusal (length world.to_cpu) world.last_to_cpu c.args.index ≡ None = subst (λ n. delivery_refusal n inside.last_to_cpu c.args.index ≡ None) (count ∙ sym (length-map inside.to_cpu.items frame_octets)) c.in_ok-check_delivery.ensures in
-    let at : octets_numbered world.to_cpu c.args.index ≡ Some frame.items = read_frame inside.to_cpu.items c.len.result inside.last_to_cpu c.args.index frame c.in_ok-check_delivery.ensures count c.index.ensures in
+    let at : item_numbered world.to_cpu c.args.index ≡ Some frame.items = read_frame inside.to_cpu.items c.len.result inside.last_to_cpu c.args.index frame c.in_ok-check_delivery.ensures count c.index.ensures in
     let octets = c.as_slice.ensures.value in
     let new : Ends = record { module_end = inside.module; poller_end = c.hear.new.self; to_module = world.to_module; to_cpu = world.to_cpu; last_to_module = world.last_to_module; last_to_cpu = c.args.index } in
     let taken : c.hear.new.self ≡ after_hearing inside.poller (block_in frame.items) = c.in-Ok.ensures.taken ∙ ap (λ o. after_hearing inside.poller (block_in o)) octets in
@@ -46,6 +46,6 @@ returns-in-Err-clause-row c settings first machine s =
     let frame = c.index.result.now in
     let count : c.len.result ≡ length inside.to_cpu.items = c.len.ensures ∙ inside.to_cpu.ok.0 in
     let fine : delivery_refusal (length world.to_cpu) world.last_to_cpu c.args.index ≡ None = subst (λ n. delivery_refusal n inside.last_to_cpu c.args.index ≡ None) (count ∙ sym (length-map inside.to_cpu.items frame_octets)) c.in_ok-check_delivery.ensures in
-    let at : octets_numbered world.to_cpu c.args.index ≡ Some frame.items = read_frame inside.to_cpu.items c.len.result inside.last_to_cpu c.args.index frame c.in_ok-check_delivery.ensures count c.index.ensures in
+    let at : item_numbered world.to_cpu c.args.index ≡ Some frame.items = read_frame inside.to_cpu.items c.len.result inside.last_to_cpu c.args.index frame c.in_ok-check_delivery.ensures count c.index.ensures in
     fault_heard settings first machine world shown c.args.index frame.items fine at
     (subst (λ o. AddsItems inside.poller (block_in o)) c.as_slice.ensures.value c.in-Err.ensures.wanted)

@@ -6,8 +6,8 @@ use Rattle.fio_module.specs.Replies.{reply_to, Encodes}
 use Rattle.fio_module.specs.Module as modules
 use Rattle.fio_world.specs.declared.event.Event.TheVariants as events
 use Rattle.fio_world.specs.declared.outcome.Outcome.TheVariants as outcomes
-use Rattle.fio_world.specs.Link.{delivery_refusal}
-use Rattle.fio_world.specs.Ends.{Ends, frame_octets, octets_numbered}
+use Rattle.fio_world.specs.Link.{delivery_refusal, item_numbered}
+use Rattle.fio_world.specs.Ends.{Ends, frame_octets}
 use Rattle.fio_world.specs.Worlds.{Shows, Steps, IsFault, IsDone, replied_after}
 use Rattle.fio_world.proofs.Shown.{read_frame, reply_octets, silent, told, told_outcome, done_received, fault_to_module, fault_received}
 use Rattle.fio_world.proofs.world.World.deliver_to_module.Goals as goal
@@ -31,7 +31,7 @@ returns-in-None-clause-row c settings first machine s =
     let frame = c.index.result.now in
     let count : c.len.result ≡ length inside.to_module.items = c.len.ensures ∙ inside.to_module.ok.0 in
     let fine : delivery_refusal (length world.to_module) world.last_to_module c.args.index ≡ None = subst (λ n. delivery_refusal n inside.last_to_module c.args.index ≡ None) (count ∙ sym (length-map inside.to_module.items frame_octets)) c.in_ok-check_delivery.ensures in
-    let at : octets_numbered world.to_module c.args.index ≡ Some frame.items = read_frame inside.to_module.items c.len.result inside.last_to_module c.args.index frame c.in_ok-check_delivery.ensures count c.index.ensures in
+    let at : item_numbered world.to_module c.args.index ≡ Some frame.items = read_frame inside.to_module.items c.len.result inside.last_to_module c.args.index frame c.in_ok-check_delivery.ensures count c.index.ensures in
     let octets = c.as_slice.ensures.value in
     let stands : modules.StandsFor settings c.receive-answer.new.self (Received frame.items ∷ machine.history) = subst (λ o. modules.StandsFor settings c.receive-answer.new.self (Received o ∷ machine.history)) octets (c.receive-answer.ensures.stands settings machine.history shown.history) in
     let encodes : Encodes (reply_to settings machine.history frame.items) c.receive-answer.result = subst (λ o. Encodes (reply_to settings machine.history o) c.receive-answer.result) octets (c.receive-answer.ensures.reply settings machine.history shown.history) in
@@ -50,7 +50,7 @@ returns-in-Some-clause-row c settings first machine s =
     let frame = c.index.result.now in
     let count : c.len.result ≡ length inside.to_module.items = c.len.ensures ∙ inside.to_module.ok.0 in
     let fine : delivery_refusal (length world.to_module) world.last_to_module c.args.index ≡ None = subst (λ n. delivery_refusal n inside.last_to_module c.args.index ≡ None) (count ∙ sym (length-map inside.to_module.items frame_octets)) c.in_ok-check_delivery.ensures in
-    let at : octets_numbered world.to_module c.args.index ≡ Some frame.items = read_frame inside.to_module.items c.len.result inside.last_to_module c.args.index frame c.in_ok-check_delivery.ensures count c.index.ensures in
+    let at : item_numbered world.to_module c.args.index ≡ Some frame.items = read_frame inside.to_module.items c.len.result inside.last_to_module c.args.index frame c.in_ok-check_delivery.ensures count c.index.ensures in
     let octets = c.as_slice.ensures.value in
     let stands : modules.StandsFor settings c.receive-answer.new.self (Received frame.items ∷ machine.history) = subst (λ o. modules.StandsFor settings c.receive-answer.new.self (Received o ∷ machine.history)) octets (c.receive-answer.ensures.stands settings machine.history shown.history) in
     let encodes : Encodes (reply_to settings machine.history frame.items) c.receive-answer.result = subst (λ o. Encodes (reply_to settings machine.history o) c.receive-answer.result) octets (c.receive-answer.ensures.reply settings machine.history shown.history) in
