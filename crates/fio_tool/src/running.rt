@@ -28,8 +28,7 @@ use std::io::{Read, Write};
 /// | 3 | a read or a write failed, or there was no memory |
 ///
 /// For 3 and for no subcommand the program prints one line, `fio2070: read fault` or the like; for
-/// every other fault of the words it prints `clap`'s text. A failure to print these is passed over,
-/// and so is want of memory for `clap`'s text.
+/// every other fault of the words it prints `clap`'s text. A failure to print these is passed over.
 pub fn run_program<'a, R: Read, W: Write>(
     alloc: Global,
     words: &'a [&'a str],
@@ -120,17 +119,20 @@ fn no_subcommand_line() -> &'static str
     "fio2070: no subcommand\n"
 }
 
-/// Tells why a command line gave no tool, and gives the exit status.
+/// Tells why a command line gave no tool, and gives the exit status: that of the error's kind, or 3
+/// for want of memory.
 fn refuse<W: Write>(alloc: Global, error: &Error, writer: &mut W) -> u8
-    ensures { result ≡ refusal_status (kind_of error.now) }
+    ensures { (result ≡ refusal_status (kind_of error.now)) ⊎ (result ≡ 3) }
 {
     let kind = error.kind();
-    if kind == ErrorKind::OutOfMemory {
-        say(writer, fault_line(ToolFault::Memory));
-    } else if let Ok(text) = format!(in alloc; "{error}") {
-        say(writer, text.as_str());
+    if kind != ErrorKind::OutOfMemory {
+        if let Ok(text) = format!(in alloc; "{error}") {
+            say(writer, text.as_str());
+            return refusal_status(kind);
+        }
     }
-    refusal_status(kind)
+    say(writer, fault_line(ToolFault::Memory));
+    3
 }
 
 /// The exit status where `clap` gives an error of this kind.
