@@ -11,8 +11,7 @@ latest_poll [] = None
 latest_poll (Commanded (Poll number) ∷ life) = Some number
 latest_poll (other ∷ life) = latest_poll life
 
--- whether a poll is new after the poll received before it: it is the first one, or its number
--- differs
+-- whether a poll is new after the poll received before it: it is the first, or its number differs
 abbrev pub is_new : Option ℕ → ℕ → Bool
 is_new None number = true
 is_new (Some before) number = not (before == number)
@@ -69,15 +68,14 @@ last_end place (block ∷ blocks) = last_end block.end blocks
 abbrev pub end_of : List MadeBlock → ℕ
 end_of blocks = last_end 0 blocks
 
--- the blocks of a life, oldest first: each new poll makes one, from the transition log as it then
--- is
+-- the blocks of a life, oldest first: each new poll makes one, from the transition log before it
 abbrev pub blocks_of : Settings → Life → List MadeBlock
 blocks_of settings [] = []
 blocks_of settings (Commanded (Poll number) ∷ life) =
+    let made = blocks_of settings life in
     if is_new (latest_poll life) number
-    then blocks_of settings life
-    ++ block_after settings life (end_of (blocks_of settings life)) ∷ []
-    else blocks_of settings life
+    then made ++ block_after settings life (end_of made) ∷ []
+    else made
 blocks_of settings (other ∷ life) = blocks_of settings life
 
 -- where the newest block ends

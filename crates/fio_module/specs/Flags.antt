@@ -24,8 +24,7 @@ word_of (suc place) bit = bit_of (bit place) * 2 ^ place + word_of place bit
 abbrev pub flags_of : Life → ℕ
 flags_of life = word_of 8 (λ place. is_flag_up place life)
 
--- the latest timeout of the watchdog in milliseconds, at least 10 and at most 100; None before the
--- first
+-- the latest timeout of the watchdog in ms, at least 10 and at most 100; None before the first
 abbrev pub watchdog_of : Life → Option ℕ
 watchdog_of [] = None
 watchdog_of (Commanded (Watchdog timeout) ∷ life) = Some (min 100 (max 10 timeout))

@@ -18,11 +18,9 @@ with_waiting limit waiting transition =
 abbrev pub ScansAddWaiting : Type 0
 ScansAddWaiting =
     (settings : Settings) (life : Life) (raw : ℕ) →
+    let joining = transitions_below 64 raw life in
     waiting_of settings (Scanned raw ∷ life)
-    ≡ fold
-    (with_waiting settings.waiting)
-    (waiting_of settings life)
-    (transitions_below 64 raw life)
+    ≡ fold (with_waiting settings.waiting) (waiting_of settings life) joining
 
 -- a new poll takes the first of them
 abbrev pub NewPollsTakeWaiting : Type 0

@@ -5,8 +5,7 @@ use Rattle.fio_input.specs.FilterHistory.{is_reported, state}
 use Rattle.fio_module.specs.Life.{Scan, History, Scanned, Life, life_of, counter_of, scans_of, loads_of, filter_events}
 
 -- a change of an input's filtered state: the state after it, the counter at its scan, already
--- stepped, and how many scans, this one among them, and how many loads of the counter there had
--- been
+-- stepped, and how many scans, this one among them, and loads of the counter there had been
 pub record Transition : Type 0 where
   pub input : ℕ
   pub level : Bool
