@@ -3,8 +3,8 @@ use Rattle.std.proofs.lemmas.List.Sums.{fold-append}
 use Rattle.std.proofs.Common.{◌≡◌, ◌+◌, ◌<◌, length, take, get_or, ◌⊎◌, inl, inr, ℕ, List, [], ◌∷◌, map, Bool, true, false, Option, Some, None, option_map, refl, ap, sym, ◌∙◌, IfSome, cond, Box, Global}
 use Rattle.std.specs.Prelude.{find, fold, IfNone}
 use Rattle.std.specs.Box.{box_value}
-use Rattle.clap.specs.Walk.{Text, Row, answers_to, stop_after}
-use Rattle.clap.specs.Simple.{App, Shape, entered, built, built_leaf, new_shape, rows_at, is_simple, names_of, argument_words, label_of, subcommand_rows_of, subcommand_rows}
+use Rattle.clap.specs.Walk.{Text, answers_to, stop_after}
+use Rattle.clap.specs.Simple.{Shape, entered, built, built_leaf, new_shape, rows_at, is_simple, names_of, argument_words, label_of, subcommand_rows_of, subcommand_rows}
 use Rattle.clap.specs.Matches.{subcommand_name_of}
 use Rattle.clap.specs.Faults.{is_simple_and_free}
 use Rattle.clap.specs.declared.parser.matches.ArgMatches.{ArgMatches}

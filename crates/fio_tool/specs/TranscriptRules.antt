@@ -4,10 +4,9 @@
 use Rattle.std.specs.Prelude.{◌≡◌, ℕ, suc, ◌+◌, ◌%◌, ◌<◌, Bool, false, List, [], ◌∷◌, Option, Some, None, length, find, slice_get, ◌==◌, ◌&&◌, ◌||◌, nat_lt, not, is_some, if◌then◌else◌}
 use Rattle.std.specs.List.{list_any}
 use Rattle.fio_message.specs.Answers.{answer_code}
-use Rattle.fio_message.specs.Bits.{is_set}
 use Rattle.fio_message.specs.Blocks.{Block}
 use Rattle.fio_message.specs.Commands.{command_code}
-use Rattle.fio_message.specs.Status.{says_more, says_lost, says_again, says_out_of_sequence}
+use Rattle.fio_message.specs.Status.{says_more, says_lost, says_again, says_out_of_sequence, says_error}
 use Rattle.fio_message.specs.declared.answers.Answer.{Answer}
 use Rattle.fio_message.specs.declared.answers.Answer.TheVariants as answers
 use Rattle.fio_message.specs.declared.commands.Command.{Command}
@@ -81,7 +80,7 @@ breaks_rest lines place = is_some_and (block_heard lines place) (λ block. lengt
 
 -- an answer that a configuration was taken: S, bit 0 of its status, is 0
 abbrev pub accepts : Answer → Bool
-accepts (answers.ConfigureInputs status) = not (is_set status 0)
+accepts (answers.ConfigureInputs status) = not (says_error status)
 accepts _ = false
 
 -- a configuration that names an input above 63

@@ -1,11 +1,10 @@
-use Rattle.std.proofs.Common.{◌≡◌, ℕ, ◌+◌, List, [], ◌∷◌, ◌++◌, Option, Some, None, Bool, true, false, refl, sym, ap, ◌∙◌, append_assoc}
+use Rattle.std.proofs.Common.{◌≡◌, ℕ, ◌+◌, List, [], ◌∷◌, ◌++◌, Option, Some, None, true, refl, append_assoc}
 use Rattle.fio_module.specs.Settings.{Settings}
 use Rattle.fio_world.specs.declared.event.Event.{Event}
 use Rattle.fio_world.specs.Link.{Machine, Refusal, start, refusal, after, Leads}
-use Rattle.fio_world.specs.ReportLines.{outcome_line, ending_text}
+use Rattle.fio_world.specs.ReportLines.{ending_text}
 use Rattle.fio_world.specs.Reports.{Telling, told_from, unless_refused, EndsWith, TellsOfRun}
 use Rattle.fio_world.specs.Scripts.{Scenario}
-use Rattle.fio_world.specs.Worlds.{outcome_of}
 
 -- what is told of events that are all done is good
 good_from : (settings : Settings) (first number : ℕ) (machine : Machine) (events : List Event) (last : Machine)

@@ -1,5 +1,5 @@
 -- A world shows the machine after each event.
-use Rattle.std.proofs.Common.{◌≡◌, ℕ, zero, suc, ◌+◌, ◌-◌, ◌%◌, ◌<◌, ◌≤◌, ◌==◌, Bool, true, false, List, [], ◌∷◌, ◌++◌, length, map, Option, Some, None, Result, Ok, Err, slice_get, get_or, refl, ap, sym, subst, ◌∙◌, arith, if◌then◌else◌}
+use Rattle.std.proofs.Common.{◌≡◌, ℕ, zero, suc, ◌+◌, ◌-◌, ◌%◌, ◌<◌, ◌==◌, Bool, true, false, List, [], ◌∷◌, ◌++◌, length, map, Option, Some, None, Result, Ok, Err, slice_get, get_or, refl, ap, sym, subst, ◌∙◌, arith, if◌then◌else◌}
 use Rattle.std.specs.Option.{option_map}
 use Rattle.std.specs.Result.{OnErr}
 use Rattle.std.proofs.lemmas.Bool.Decides.{nat_tests}
@@ -11,7 +11,7 @@ use Rattle.fio_message.specs.declared.commands.Command.{Command}
 use Rattle.fio_message.specs.Answers.{answer_octets}
 use Rattle.fio_message.specs.Commands.{command_octets}
 use Rattle.fio_message.specs.Blocks.{Block}
-use Rattle.fio_message.specs.Decoding.{decoded_answer, block_in, poll_in}
+use Rattle.fio_message.specs.Decoding.{decoded_answer, block_in}
 use Rattle.fio_module.specs.Settings.{Settings}
 use Rattle.fio_module.specs.Life.{Received}
 use Rattle.fio_module.specs.Replies.{reply_to, Encodes}
@@ -26,9 +26,9 @@ use Rattle.fio_world.specs.declared.outcome.Outcome.{Outcome}
 use Rattle.fio_world.specs.declared.outcome.Outcome.TheVariants as outcomes
 use Rattle.fio_world.specs.declared.outcome.WorldError.{WorldError}
 use Rattle.fio_world.specs.declared.outcome.WorldError.TheVariants as errors
-use Rattle.fio_world.specs.Link.{Machine, Sent, Refusal, start, number_of, item_numbered, delivery_refusal, refusal, sent, answered, received, with_block, heard, after, Leads, IsRun}
+use Rattle.fio_world.specs.Link.{Machine, Sent, Refusal, start, number_of, item_numbered, delivery_refusal, refusal, sent, answered, received, with_block, heard, after, Leads}
 use Rattle.fio_world.specs.Ends.{Ends, frame_octets}
-use Rattle.fio_world.specs.Worlds.{octets_of, polling_of, Shows, sent_after, replied_after, received_outcome, heard_outcome, outcome_of, AddsFrom, TakesMemory, IsFault, IsDone, Steps, StandsFor, IsSoundWorld, events_done}
+use Rattle.fio_world.specs.Worlds.{octets_of, polling_of, Shows, sent_after, replied_after, received_outcome, heard_outcome, AddsFrom, TakesMemory, IsFault, IsDone, Steps, StandsFor, events_done}
 
 -- the frame with a number, and its octets where the octets of all frames are listed
 item_numbered-map : (frames : List Sent) (index : ℕ) → item_numbered (map octets_of frames) index ≡ option_map octets_of (item_numbered frames index)

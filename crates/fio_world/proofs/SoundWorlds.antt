@@ -1,5 +1,5 @@
 -- What stands for a run is sound.
-use Rattle.std.proofs.Common.{◌≡◌, ℕ, List, ap, sym}
+use Rattle.std.proofs.Common.{ℕ, List, ap, sym}
 use Rattle.fio_module.specs.Settings.{Settings}
 use Rattle.fio_cpu.specs.Poller.{Polling}
 use Rattle.fio_world.specs.declared.event.Event.{Event}

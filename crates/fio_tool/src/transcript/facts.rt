@@ -2,8 +2,7 @@
 ghost use Rattle.std.specs.Prelude.{◌≡◌, ◌==◌, ◌&&◌, ◌||◌, not, is_some, length, OnOk, Some, find};
 ghost use Rattle.std.specs.List.{list_any};
 ghost use Rattle.std.specs.Result.{result_err};
-ghost use Rattle.fio_message.specs.Bits.{is_set};
-ghost use Rattle.fio_message.specs.Status.{says_again, says_out_of_sequence};
+ghost use Rattle.fio_message.specs.Status.{says_again, says_error, says_out_of_sequence};
 ghost use Rattle.fio_message.specs.declared.answers.Answer.{Answer};
 ghost use Rattle.fio_tool.specs.Transcript.{command_on, answer_on, is_some_and};
 ghost use Rattle.fio_tool.specs.TranscriptRules.{is_absent, is_beyond_limits, names_absent, rules};
@@ -183,7 +182,7 @@ impl Facts {
     }
 
     fn breaks_refusal(&self, status: u8) -> bool
-        ensures { result ≡ (not (is_set status 0) && self.now.absent_named) }
+        ensures { result ≡ (not (says_error status) && self.now.absent_named) }
     {
         !is_set(status, REFUSED) && self.absent_named
     }

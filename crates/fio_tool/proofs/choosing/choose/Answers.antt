@@ -1,5 +1,5 @@
 use Rattle.std.proofs.Common.{◌≡◌, ◌∙◌, sym, ap, subst, option_map, map, List, ℕ, [], Some}
-use Rattle.clap.specs.Simple.{App, app_of, is_simple, subcommand_of}
+use Rattle.clap.specs.Simple.{App, is_simple, subcommand_of}
 use Rattle.clap.specs.Faults.{fault_of, is_simple_and_free}
 use Rattle.fio_tool.specs.CommandLine.{chosen_name}
 use Rattle.fio_tool.proofs.ChoosingLemmas.{command_line-is_simple, command_line-is_simple_and_free, name-of_rows, chosen-tool}

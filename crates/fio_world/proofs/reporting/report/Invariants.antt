@@ -1,6 +1,4 @@
-use Rattle.std.proofs.Common.{◌≡◌, ◌+◌, drop}
 use Rattle.std.specs.Prelude.{string_bytes}
-use Rattle.fio_module.specs.Settings.{settings_with}
 use Rattle.fio_world.specs.Scripts.{scenario_of}
 use Rattle.fio_world.proofs.ReportLemmas.{TellsOn}
 use Rattle.fio_world.proofs.reporting.report.Given as goal

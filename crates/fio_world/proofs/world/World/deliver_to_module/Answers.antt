@@ -1,4 +1,4 @@
-use Rattle.std.proofs.Common.{◌≡◌, ◌+◌, ◌∷◌, ◌++◌, [], List, ℕ, ◌∙◌, ap, sym, refl, subst, Err, None, Some, length, map}
+use Rattle.std.proofs.Common.{◌≡◌, ◌+◌, ◌∷◌, ◌++◌, [], ◌∙◌, ap, sym, refl, subst, Err, None, Some, length, map}
 use Rattle.std.proofs.lemmas.List.{append-nil, map-append, length_push, length-map}
 use Rattle.std.proofs.lemmas.Result.{err_from_is_err_and}
 use Rattle.fio_module.specs.Life.{Received}
@@ -9,7 +9,7 @@ use Rattle.fio_world.specs.declared.outcome.Outcome.TheVariants as outcomes
 use Rattle.fio_world.specs.Link.{delivery_refusal, item_numbered}
 use Rattle.fio_world.specs.Ends.{Ends, frame_octets}
 use Rattle.fio_world.specs.Worlds.{Shows, Steps, IsFault, IsDone, replied_after}
-use Rattle.fio_world.proofs.Shown.{read_frame, reply_octets, silent, told, told_outcome, done_received, fault_to_module, fault_received}
+use Rattle.fio_world.proofs.Shown.{read_frame, reply_octets, silent, told, told_outcome, done_received, fault_to_module}
 use Rattle.fio_world.proofs.world.World.deliver_to_module.Goals as goal
 
 pub returns-in_err-check_delivery-clause-row : goal.returns-in_err-check_delivery-clause-row
