@@ -21,7 +21,6 @@ pub mod OneLife
 pub mod OneLifeRows
 pub mod Times
 pub mod Promises
-pub mod SettingsInRange
 pub mod Examples
 pub mod Shown
 pub mod SoundWorlds

@@ -7,11 +7,9 @@ use Rattle.fio_world.specs.declared.event.Event.{Event}
 use Rattle.fio_world.specs.declared.event.Event.TheVariants.{ToCpu}
 use Rattle.fio_world.specs.Link.{Machine, start, number_of, refusal, with_block, heard, after, Leads, IsRun}
 use Rattle.fio_world.specs.Frames.{HasBlock}
-use Rattle.fio_world.specs.Headline.{IsNotRestart, HaveNoRestart}
 use Rattle.fio_world.specs.Claims.{TakesPresentRound, IsInSequence}
 use Rattle.fio_world.specs.Rising.{IsRising}
 use Rattle.fio_world.specs.Sound.{LeadToOneMachine}
-use Rattle.fio_world.proofs.MadeBlocks.{each-append}
 use Rattle.fio_world.proofs.RisingPieces.{rises_as_promised}
 use Rattle.fio_world.proofs.Kept.{HasInvariant}
 use Rattle.fio_world.proofs.HeardRows.{after_taken, same_round}
@@ -42,17 +40,6 @@ Leads-push settings first [] machine last event leads fine =
     subst (λ m. (refusal m event ≡ None) × (after settings first last event ≡ after settings first m event)) leads (fine, refl)
 Leads-push settings first (e ∷ events) machine last event leads fine =
     (leads.0, Leads-push settings first events (after settings first machine e) last event leads.1 fine)
-
--- a run goes on with one more event that is not refused
-pub IsRun-push : (settings : Settings) (first : ℕ) (events : List Event) (machine : Machine) (event : Event)
-    → IsRun settings first events machine → refusal machine event ≡ None
-    → IsRun settings first (events ++ event ∷ []) (after settings first machine event)
-IsRun-push settings first events machine event run fine = Leads-push settings first events start machine event run fine
-
--- events without restarts, and one more that is none
-pub HaveNoRestart-push : (events : List Event) (event : Event) → HaveNoRestart events → IsNotRestart event
-    → HaveNoRestart (events ++ event ∷ [])
-HaveNoRestart-push events event none one = each-append IsNotRestart events (event ∷ []) none (one, tt)
 
 -- events lead to one machine at most
 lead_to_one : (settings : Settings) (first : ℕ) (events : List Event) (from machine other : Machine)

@@ -1,8 +1,7 @@
 -- What the octets of commands and answers are read as.
-use Rattle.std.proofs.Common.{◌≡◌, ℕ, ◌+◌, ◌^◌, ◌<◌, ◌≤◌, ◌&&◌, Bool, true, false, List, [], ◌∷◌, length, Option, Some, None, refl, ap, arith, if◌then◌else◌}
+use Rattle.std.proofs.Common.{◌≡◌, ℕ, ◌+◌, ◌^◌, ◌<◌, ◌≤◌, ◌&&◌, Bool, true, false, List, [], ◌∷◌, length, Some, None, refl, arith, if◌then◌else◌}
 use Rattle.std.specs.Prelude.{nat_le}
 use Rattle.std.specs.List.{AllByRecursion}
-use Rattle.std.proofs.lemmas.Option.{same_Some}
 use Rattle.fio_message.specs.declared.commands.Command.{Command}
 use Rattle.fio_message.specs.declared.commands.Command.TheVariants as commands
 use Rattle.fio_message.specs.declared.commands.OtherCommand.TheVariants as other_commands
@@ -79,12 +78,6 @@ no_block_in (answers.Other other_answers.TrackInputs body) other = no_block_at 1
 no_block_in (answers.Other other_answers.ComplexOutputs body) other = no_block_at 185 body.items refl
 no_block_in (answers.Other other_answers.ControllerId body) other = no_block_at 187 body.items refl
 no_block_in (answers.Other other_answers.Identify body) other = no_block_at 188 body.items refl
-
--- a command that is read as a poll is that poll
-pub poll_only : (found : Option Command) (number : ℕ) → polled_number found ≡ Some number
-    → found ≡ Some (commands.Poll number)
-poll_only (Some (commands.Poll n)) number is = ap (λ (m : ℕ). Some (commands.Poll m)) (same_Some _ _ is)
-poll_only other number is = absurd cc
 
 -- a status is an octet
 status-fits : (more lost again out_of_sequence : Bool)
