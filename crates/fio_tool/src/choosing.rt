@@ -8,6 +8,7 @@ ghost use Rattle.fio_tool.specs.CommandLine.{chosen_name, command_line};
 ghost use Rattle.fio_tool.specs.Tools.{name_of};
 ghost use Rattle.fio_tool.specs.declared.tools.Tool.{Tool};
 
+use crate::help;
 use crate::tools::Tool;
 use clap::{Command, Error};
 use std::alloc::{AllocError, Global};
@@ -17,22 +18,6 @@ const VERSION: &str = "1.0.0";
 
 const ABOUT: &str =
     "Reads the messages between the CPU and the field I/O module of a Model 2070 controller";
-
-/// What stands below that: what all tools read and write, the statuses, an example.
-const AFTER: &str = "\
-Each subcommand reads standard input and writes its text to standard output. What it
-reads and writes, its statuses and an example: fio2070 show --help, and so on.
-
-Exit status:
-  0  the text tells of no fault; help and version
-  1  the text tells of a fault: a faulty line, a refused event, a broken rule, an input
-     of more than 1048576 octets
-  2  the words name no subcommand, or have another fault
-  3  a read or a write failed, or there was no memory
-
-Example:
-  $ echo 3605 | fio2070 show
-  poll block 5";
 
 /// The tool that the words of a command line name, the program's name first: `None` where they name
 /// no subcommand.
@@ -62,7 +47,7 @@ fn command_line<'a>(alloc: Global) -> Result<Command<'a>, AllocError>
 {
     let mut command = Command::new(alloc, "fio2070")
         .about(ABOUT)
-        .after_help(AFTER)
+        .after_help(help::PROGRAM)
         .version(VERSION)
         .disable_help_subcommand(true);
     'tools: for tool in Tool::ALL {

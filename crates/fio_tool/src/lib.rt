@@ -20,6 +20,7 @@ mod answers;
 mod choosing;
 mod commands;
 mod endings;
+mod help;
 mod inputs;
 pub mod laws;
 mod running;

@@ -91,7 +91,7 @@ fn run_tool<R: Read, W: Write>(alloc: Global, tool: Tool, reader: &mut R, writer
 }
 
 /// The exit status after a tool.
-pub(crate) fn status_of(ending: Result<Ending, ToolFault>) -> u8
+fn status_of(ending: Result<Ending, ToolFault>) -> u8
     ensures { result ≡ status_of ending }
 {
     match ending {
