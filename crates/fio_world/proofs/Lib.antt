@@ -22,6 +22,7 @@ pub mod OneLifeRows
 pub mod Times
 pub mod Promises
 pub mod Examples
+pub mod EndToEndLemmas
 pub mod Shown
 pub mod SoundWorlds
 pub mod ReadingLemmas

@@ -10,6 +10,7 @@ pub mod Claims
 pub mod Rounds
 pub mod Rising
 pub mod Sound
+pub mod EndToEnd
 pub mod Ends
 pub mod Worlds
 pub mod Forms

@@ -6,7 +6,7 @@ ghost use Rattle.fio_world.specs.Link.{Machine};
 ghost use Rattle.fio_world.specs.Worlds.{Shows, Steps, IsSoundWorld, HasStoppedAt};
 
 use super::World;
-use super::frames::{add_within, check_delivery, copy_of};
+use super::frames::check_delivery;
 use crate::event::Event;
 use crate::outcome::{Outcome, RunError, WorldError};
 use fio_message::{Command, Frame, Memory, encode_command};
@@ -74,14 +74,14 @@ impl World {
         ensures fault { IfErr result (λ fault. fault ≡ WorldError.Memory) }
         ensures err { OnErr result (self.new ≡ self.old) }
     {
-        let copy = copy_of(&frame);
-        match self.to_module.push(copy) {
-            Ok(()) => Ok(Outcome::Sent {
-                index: self.to_module.len(),
-                frame,
-            }),
-            Err(_) => Err(WorldError::Memory),
+        if self.to_module.reserve().is_err() {
+            return Err(WorldError::Memory);
         }
+        self.to_module.add(&frame);
+        Ok(Outcome::Sent {
+            index: self.to_module.len(),
+            frame,
+        })
     }
 
     /// The module receives the frame with this number, and its answer, if any, joins those to the
@@ -93,15 +93,15 @@ impl World {
         ensures err { OnErr result (self.new ≡ self.old) }
     {
         check_delivery(self.to_module.len(), self.last_to_module, index)?;
-        if self.to_cpu.reserve(1).is_err() {
+        if self.to_cpu.reserve().is_err() {
             return Err(WorldError::Memory);
         }
-        let answer = self.module.receive(self.to_module[index - 1].as_slice());
+        let answer = self.module.receive(self.to_module.octets_of(index));
         self.last_to_module = index;
         match answer {
             None => Ok(Outcome::Quiet),
             Some(frame) => {
-                add_within(&mut self.to_cpu, copy_of(&frame));
+                self.to_cpu.add(&frame);
                 Ok(Outcome::Sent {
                     index: self.to_cpu.len(),
                     frame,
@@ -118,7 +118,7 @@ impl World {
         ensures err { OnErr result (self.new ≡ self.old) }
     {
         check_delivery(self.to_cpu.len(), self.last_to_cpu, index)?;
-        match self.poller.hear(self.to_cpu[index - 1].as_slice()) {
+        match self.poller.hear(self.to_cpu.octets_of(index)) {
             Ok(heard) => {
                 self.last_to_cpu = index;
                 Ok(Outcome::Heard(heard))
