@@ -20,6 +20,9 @@ pub mod Runs
 pub mod OneLife
 pub mod OneLifeRows
 pub mod Times
+pub mod CleanRounds
+pub mod CatchingUp
+pub mod WholeRecords
 pub mod Promises
 pub mod Examples
 pub mod EndToEndLemmas
