@@ -1,11 +1,13 @@
 //! What the texts of the program share: lines and words, how they are read, and what is printed.
 
+mod fixed;
 mod lines;
 mod numbering;
 mod printing;
 mod words;
 mod writing;
 
+pub use fixed::{is_hexadecimal, read_frame};
 pub use lines::{is_skipped, split_line};
 pub use numbering::{NumberedLines, numbered_lines};
 pub use printing::{FaultWords, Hexadecimal};
