@@ -1,5 +1,5 @@
 -- Words of hexadecimal digits: which spell octets, and how many.
-use Rattle.std.proofs.Common.{◌≡◌, ℕ, ◌+◌, ◌*◌, ◌/◌, ◌%◌, ◌==◌, Bool, true, false, List, length, Option, Some, None, is_some, option_map, IfSome, Result, Ok, Err, if◌then◌else◌, refl, sym, ◌∙◌, ap, arith}
+use Rattle.std.proofs.Common.{◌≡◌, ℕ, ◌+◌, ◌*◌, ◌<◌, ◌/◌, ◌%◌, ◌==◌, Bool, true, false, List, length, Option, Some, None, is_some, option_map, IfSome, Result, Ok, Err, if◌then◌else◌, refl, sym, ◌∙◌, ap, arith}
 use Rattle.std.specs.Bool.{then_some}
 use Rattle.std.specs.List.{list_all}
 use Rattle.std.specs.Result.{result_ok}
@@ -7,7 +7,11 @@ use Rattle.std.proofs.lemmas.List.Sums.{AllPass-from_list_all, list_all-from_All
 use Rattle.hex.specs.declared.error.FromHexError.{FromHexError}
 use Rattle.hex.specs.Hex.{decode_of, is_hex_digit}
 use Rattle.hex.proofs.HexLemmas.{decode_of-ok, decode_of-digits}
+use Rattle.fio_message.specs.declared.faults.DecodeError.TheVariants.{TooLong}
+use Rattle.fio_message.proofs.MessageLaws.{command_refused}
+use Rattle.fio_world.specs.EventLines.{frame_at, sending_at}
 use Rattle.fio_world.specs.Hexadecimal.{octets_in}
+use Rattle.fio_world.specs.declared.script.ScriptError.TheVariants.{BadFrame}
 
 octets_in-decoded : (word : List ℕ) → (length word == 0) ≡ false → octets_in word ≡ result_ok (decode_of word)
 octets_in-decoded word some = rw some refl
@@ -54,3 +58,12 @@ pub counted : (word : List ℕ) (count : ℕ) → count ≡ length word / 2
 counted word count half =
     count_of word (octets_in word) count half
     (λ octets is. (decode_of-ok word octets (decoded_in word octets is)).2)
+
+-- more octets than a frame holds are too long
+pub too_long : (number : ℕ) (found : Option (List ℕ)) (count : ℕ)
+    → option_map (length {A = ℕ}) found ≡ Some count → 773 < count
+    → Err (BadFrame number (TooLong count)) ≡ frame_at number found
+too_long number None count told long = absurd (cc told)
+too_long number (Some octets) count told long =
+    let many : count ≡ length octets = cc told in
+    sym (ap (sending_at number) ((command_refused octets (TooLong count)).1 (many, long)))

@@ -7,7 +7,7 @@ mod printing;
 mod words;
 mod writing;
 
-pub use fixed::{is_hexadecimal, read_frame};
+pub use fixed::{LONGEST, read_frame};
 pub use lines::{is_skipped, split_line};
 pub use numbering::{NumberedLines, numbered_lines};
 pub use printing::{FaultWords, Hexadecimal};

@@ -5,7 +5,7 @@ ghost use Rattle.hex.specs.Hex.{is_hex_digit};
 ghost use Rattle.fio_world.specs.Hexadecimal.{octets_in};
 
 /// The most octets of a frame.
-const LONGEST: usize = 773;
+pub const LONGEST: usize = 773;
 
 /// Reads HEX into room for the longest frame, and answers how many octets it is. More octets than
 /// that are only counted. `None` for any other word.
@@ -27,7 +27,7 @@ pub fn read_frame(word: &[u8], room: &mut [u8; LONGEST]) -> Option<usize>
 }
 
 /// Whether a word is HEX: an even number of hexadecimal digits of either case, at least two.
-pub fn is_hexadecimal(word: &[u8]) -> bool
+fn is_hexadecimal(word: &[u8]) -> bool
     ensures { result ≡ is_some (octets_in word.now) }
 {
     if word.is_empty() {
