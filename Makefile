@@ -1,4 +1,4 @@
-# Builds the program, and puts it in place with its manual page and its completions for bash:
+# Builds the program, and puts it in place with its manual page, its completions for bash and its tools:
 #
 #     make
 #     make install PREFIX=/usr/local
@@ -31,3 +31,21 @@ install: all
 
 uninstall:
 	rm -f '$(bin)/fio2070' '$(man)/fio2070.1' '$(completions)/fio2070'
+
+# The tools beside the program, and how Wireshark finds its dissector.
+
+tools_place = $(PREFIX)/share/fio2070/tools
+
+.PHONY: install-tools uninstall-tools
+install: install-tools
+uninstall: uninstall-tools
+
+install-tools:
+	install -d '$(DESTDIR)$(tools_place)'
+	cp -R tools/. '$(DESTDIR)$(tools_place)'
+	@echo 'The Wireshark dissector is installed. To enable it:'
+	@echo "    mkdir -p ~/.local/lib/wireshark/plugins"
+	@echo "    ln -sf '$(tools_place)/wireshark/fio2070.lua' ~/.local/lib/wireshark/plugins/"
+
+uninstall-tools:
+	rm -rf '$(DESTDIR)$(tools_place)'
