@@ -1,16 +1,20 @@
-# Builds the program, and puts it in place with its manual page, its completions for bash, zsh and fish, and what
-# else there is: the library with its header, and the tools.
+# Builds the program, puts it in place with its manual page and its completions for bash, zsh and fish, and makes
+# packages of it:
 #
 #     make
 #     make install PREFIX=/usr/local
 #     make uninstall PREFIX=/usr/local
+#     make dist
+#     make deb
 #
-# DESTDIR, where it is given, stands before each path, as for a package. ZSH is the folder of zsh's completions
-# below PREFIX.
+# DESTDIR, where it is given, stands before each path, as for a package. LIB and ZSH are the folders of libraries
+# and of zsh's completions below PREFIX. DIST is the folder of the packages.
 
 PREFIX = /usr/local
 DESTDIR =
+LIB = lib
 ZSH = share/zsh/site-functions
+DIST = dist
 
 root = $(DESTDIR)$(PREFIX)
 bin = $(root)/bin
@@ -19,7 +23,7 @@ bash = $(root)/share/bash-completion/completions
 zsh = $(root)/$(ZSH)
 fish = $(root)/share/fish/vendor_completions.d
 
-.PHONY: all test install uninstall
+.PHONY: all test install uninstall dist deb
 
 # Proves and builds the program where that is not done yet.
 all:
@@ -39,3 +43,38 @@ install: all
 
 uninstall:
 	rm -f '$(bin)/fio2070' '$(man)/fio2070.1' '$(bash)/fio2070' '$(zsh)/_fio2070' '$(fish)/fio2070.fish'
+
+# The library for C and its headers, and the tools, where they are there.
+
+libraries = $(wildcard libfio2070.a)
+headers = $(wildcard include/*.h include/*.hpp)
+tools = $(wildcard tools/*)
+
+.PHONY: install-more uninstall-more
+
+install: install-more
+uninstall: uninstall-more
+
+install-more:
+ifneq ($(libraries),)
+	install -d '$(root)/$(LIB)'
+	install -m 644 $(libraries) '$(root)/$(LIB)'
+endif
+ifneq ($(headers),)
+	install -d '$(root)/include'
+	install -m 644 $(headers) '$(root)/include'
+endif
+ifneq ($(tools),)
+	install -d '$(root)/share/fio2070'
+	cp -R tools '$(root)/share/fio2070'
+endif
+
+uninstall-more:
+	rm -f $(foreach file,$(notdir $(libraries)),'$(root)/$(LIB)/$(file)')
+	rm -f $(foreach file,$(notdir $(headers)),'$(root)/include/$(file)')
+	rm -rf '$(root)/share/fio2070'
+
+# The archive and the Debian package: the same files give the same octets each time.
+
+dist deb: all
+	@packaging/$@ '$(DIST)'
