@@ -7,13 +7,14 @@
 #     make dist
 #     make deb
 #
-# DESTDIR, where it is given, stands before each path, as for a package. LIB and ZSH are the folders of libraries
-# and of zsh's completions below PREFIX. DIST is the folder of the packages.
+# DESTDIR, where it is given, stands before each path, as for a package. LIB, ZSH and TOOLS are the folders of
+# libraries, of zsh's completions and of tools/ below PREFIX. DIST is the folder of the packages.
 
 PREFIX = /usr/local
 DESTDIR =
 LIB = lib
 ZSH = share/zsh/site-functions
+TOOLS = share/fio2070
 DIST = dist
 
 root = $(DESTDIR)$(PREFIX)
@@ -65,14 +66,14 @@ ifneq ($(headers),)
 	install -m 644 $(headers) '$(root)/include'
 endif
 ifneq ($(tools),)
-	install -d '$(root)/share/fio2070'
-	cp -R tools '$(root)/share/fio2070'
+	install -d '$(root)/$(TOOLS)'
+	cp -R tools '$(root)/$(TOOLS)'
 endif
 
 uninstall-more:
 	rm -f $(foreach file,$(notdir $(libraries)),'$(root)/$(LIB)/$(file)')
 	rm -f $(foreach file,$(notdir $(headers)),'$(root)/include/$(file)')
-	rm -rf '$(root)/share/fio2070'
+	rm -rf '$(root)/$(TOOLS)/tools'
 
 # The archive and the Debian package: the same files give the same octets each time.
 

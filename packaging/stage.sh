@@ -25,7 +25,8 @@ stage() {
     shift
     umask 022
     env -u MAKEFLAGS -u MAKELEVEL -u MFLAGS make -s install DESTDIR="$folder" "$@" >/dev/null || fail 'make install failed'
-    find "$folder" -path '*/bin/fio2070' -exec strip --strip-unneeded '{}' ';' || fail 'strip failed'
+    find "$folder" -path '*/bin/fio2070' -exec strip --strip-unneeded '{}' ';' \
+        -o -name '*.a' -exec strip --strip-debug --enable-deterministic-archives '{}' ';' || fail 'strip failed'
 }
 
 # stage_documents FOLDER: puts the documents and the examples into a folder, with the links between them whole.
