@@ -24,7 +24,8 @@ stage() {
     folder=$1
     shift
     umask 022
-    env -u MAKEFLAGS -u MAKELEVEL -u MFLAGS make -s install DESTDIR="$folder" "$@" >/dev/null || fail 'make install failed'
+    env -u MAKEFLAGS -u MAKELEVEL -u MFLAGS make -s install DESTDIR="$folder" "$@" >/dev/null ||
+        fail 'make install failed'
     find "$folder" -path '*/bin/fio2070' -exec strip --strip-unneeded '{}' ';' \
         -o -name '*.a' -exec strip --strip-debug --enable-deterministic-archives '{}' ';' || fail 'strip failed'
 }

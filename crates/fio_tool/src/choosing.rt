@@ -69,7 +69,10 @@ fn subcommand<'a>(alloc: Global, tool: Tool) -> Command<'a>
     let about: &'a str = tool.about();
     let usage: &'a str = tool.usage();
     let after: &'a str = tool.after_help();
-    Command::new(alloc, name).about(about).override_usage(usage).after_help(after)
+    Command::new(alloc, name)
+        .about(about)
+        .override_usage(usage)
+        .after_help(after)
 }
 
 /// The tool of a subcommand.
