@@ -45,14 +45,23 @@ impl Tool {
     pub(crate) fn about(self) -> &'static str {
         match self {
             Tool::Show => {
-                "Tells what the frames on standard input say, a line of hexadecimal digits each"
+                "Reports what the frames on standard input say, a line of hexadecimal digits each"
             }
             Tool::Simulate => {
-                "Runs a script of events on both ends of the link, and tells what each event brings"
+                "Runs a script of events on both ends of the link, and reports their outcomes"
             }
             Tool::Check => {
-                "Tells whether a transcript on standard input keeps the rules of the link"
+                "Reports whether a transcript on standard input keeps the rules of the link"
             }
+        }
+    }
+
+    /// How the tool is called.
+    pub(crate) fn usage(self) -> &'static str {
+        match self {
+            Tool::Show => "fio2070 show < FILE",
+            Tool::Simulate => "fio2070 simulate < FILE",
+            Tool::Check => "fio2070 check < FILE",
         }
     }
 
