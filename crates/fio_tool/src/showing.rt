@@ -1,14 +1,17 @@
 //! What a text of frames says, line for line.
-ghost use Rattle.std.specs.Prelude.{◌≡◌, ◌++◌, codes, decimal, is_ok, false, nat_le, slice_index_or, OnOk, IfOk, string_bytes};
+ghost use Rattle.std.specs.Prelude.{◌≡◌, ◌++◌, codes, decimal, is_ok, false, nat_le, slice_index_or, ◌∷◌, [], OnOk, IfOk};
 ghost use Rattle.fio_message.specs.Texts.{fault_text};
-ghost use Rattle.fio_tool.specs.Show.{is_line_good, is_show_good, line_text, show_text, shown_frame, told_at};
+ghost use Rattle.fio_tool.specs.Show.{is_line_good, is_show_good, line_text, show_text, shown, shown_frame, told_at};
+ghost use Rattle.fio_tool.specs.ShowAnswers.{answer_text};
+ghost use Rattle.fio_tool.specs.ShowCommands.{command_text};
+ghost use Rattle.fio_message.specs.Decoding.{decoded_answer, decoded_command};
 
-use crate::answers::push_answer;
-use crate::commands::push_command;
+use crate::answers::{push_answer, push_block_view};
+use crate::commands::{push_command, push_number};
 use crate::inputs::{is_too_long, report_too_long};
-use fio_message::{DecodeError, Memory, decode_answer, decode_command};
+use fio_message::{DecodeError, Memory, decode_answer, decode_command, read_block};
 use fio_world::Report;
-use fio_world::text::{FaultWords, numbered_lines, read_octets};
+use fio_world::text::{FaultWords, numbered_lines, read_octets_into};
 use std::alloc::{AllocError, Global};
 
 /// The text that tells of each line of the input: a line of octets in hexadecimal digits is told as
@@ -25,48 +28,97 @@ pub fn show_text(alloc: Global, input: &[u8]) -> Result<Report, Memory>
     if is_too_long(input) {
         return report_too_long(alloc);
     }
-    let mut text = String::new(alloc);
+    let mut text = Vec::new(alloc);
+    let mut octets = Vec::new(alloc);
     let mut good = true;
     'lines: for (number, line) in numbered_lines(input, 1) {
-        good &= push_line(&mut text, number, line)?;
+        good &= push_line(&mut text, &mut octets, number, line)?;
     }
     Ok(Report {
-        text: text.into_bytes(),
+        text,
         good,
     })
 }
 
 /// Appends the text for a numbered line, and says whether the line has no fault.
-fn push_line(text: &mut String, number: usize, line: &[u8]) -> Result<bool, Memory>
-    ensures text { OnOk result (string_bytes text.new
-        ≡ string_bytes text.old ++ line_text (number, line.now)) }
+fn push_line(
+    text: &mut Vec<u8>,
+    octets: &mut Vec<u8>,
+    number: usize,
+    line: &[u8],
+) -> Result<bool, Memory>
+    ensures text { OnOk result (text.new.items
+        ≡ text.old.items ++ line_text (number, line.now)) }
     ensures good { IfOk result (λ good. good ≡ is_line_good (number, line.now)) }
 {
-    let Some(octets) = read_octets(*text.allocator(), line)? else {
-        write!(text, "line {number}: bad line\n")?;
+    if !read_octets_into(line, octets)? {
+        let line = format!(in *text.allocator(); "line {number}: bad line\n")?;
+        text.extend_from_slice(line.as_bytes())?;
         return Ok(false);
-    };
+    }
     push_frame(text, number, octets.as_slice())
 }
 
 /// Appends the text for a frame on the line with this number, and says whether it has no fault.
-fn push_frame(text: &mut String, number: usize, octets: &[u8]) -> Result<bool, Memory>
-    ensures text { OnOk result (string_bytes text.new
-        ≡ string_bytes text.old ++ told_at number (shown_frame octets.now)) }
+fn push_frame(text: &mut Vec<u8>, number: usize, octets: &[u8]) -> Result<bool, Memory>
+    ensures text { OnOk result (text.new.items
+        ≡ text.old.items ++ told_at number (shown_frame octets.now)) }
     ensures good { IfOk result (λ good. good ≡ is_ok (shown_frame octets.now)) }
 {
-    if is_answer(octets) {
-        match decode_answer(octets) {
-            Ok(answer) => push_answer(text, &answer)?,
-            Err(fault) => return push_refusal(text, number, fault),
-        }
-    } else {
-        match decode_command(octets) {
-            Ok(command) => push_command(text, &command)?,
-            Err(fault) => return push_refusal(text, number, fault),
-        }
+    if let [54, block] = octets {
+        return push_poll(text, number, octets, *block);
     }
+    if let Ok(block) = read_block(octets) {
+        push_block_view(text, &block)?;
+        return Ok(true);
+    }
+    if is_answer(octets) {
+        push_any_answer(text, number, octets)
+    } else {
+        push_any_command(text, number, octets)
+    }
+}
+
+/// Appends the line for a poll, read in place.
+#[tactic(auto, unfolding(fio_message::specs::Decoding::message_in))]
+fn push_poll(text: &mut Vec<u8>, number: usize, octets: &[u8], block: u8) -> Result<bool, Memory>
+    requires { octets.now ≡ 54 ∷ block ∷ [] }
+    ensures text { OnOk result (text.new.items
+        ≡ text.old.items ++ told_at number (shown_frame octets.now)) }
+    ensures good { IfOk result (λ good. good ≡ is_ok (shown_frame octets.now)) }
+{
+    push_number(text, b"poll block ", u32::from(block))?;
     Ok(true)
+}
+
+#[inline(never)]
+fn push_any_answer(text: &mut Vec<u8>, number: usize, octets: &[u8]) -> Result<bool, Memory>
+    ensures text { OnOk result (text.new.items
+        ≡ text.old.items ++ told_at number (shown answer_text (decoded_answer octets.now))) }
+    ensures good { IfOk result (λ good. good ≡ is_ok (shown answer_text (decoded_answer octets.now))) }
+{
+    match &decode_answer(octets) {
+        Ok(answer) => {
+            push_answer(text, answer)?;
+            Ok(true)
+        }
+        Err(fault) => push_refusal(text, number, *fault),
+    }
+}
+
+#[inline(never)]
+fn push_any_command(text: &mut Vec<u8>, number: usize, octets: &[u8]) -> Result<bool, Memory>
+    ensures text { OnOk result (text.new.items
+        ≡ text.old.items ++ told_at number (shown command_text (decoded_command octets.now))) }
+    ensures good { IfOk result (λ good. good ≡ is_ok (shown command_text (decoded_command octets.now))) }
+{
+    match &decode_command(octets) {
+        Ok(command) => {
+            push_command(text, command)?;
+            Ok(true)
+        }
+        Err(fault) => push_refusal(text, number, *fault),
+    }
 }
 
 /// Whether a frame is to be read as an answer.
@@ -80,12 +132,13 @@ fn is_answer(octets: &[u8]) -> bool
 }
 
 /// Appends the line that tells of a refusal, which is a fault.
-fn push_refusal(text: &mut String, number: usize, fault: DecodeError) -> Result<bool, Memory>
-    ensures text { OnOk result (string_bytes text.new
-        ≡ string_bytes text.old ++ told_at number (Err (fault_text fault))) }
+fn push_refusal(text: &mut Vec<u8>, number: usize, fault: DecodeError) -> Result<bool, Memory>
+    ensures text { OnOk result (text.new.items
+        ≡ text.old.items ++ told_at number (Err (fault_text fault))) }
     ensures good { IfOk result (λ good. good ≡ false) }
 {
     let words = FaultWords(fault);
-    write!(text, "line {number}: {words}\n")?;
+    let line = format!(in *text.allocator(); "line {number}: {words}\n")?;
+    text.extend_from_slice(line.as_bytes())?;
     Ok(false)
 }

@@ -93,8 +93,8 @@ pub fn show<R: Read, W: Write>(
     ensures unwritten { IfErr result (λ fault. fault ≢ ToolFault.Write
         → Keeps (W.contents writer.old) (W.contents writer.new)) }
 {
-    let input = read_input(alloc, reader)?;
-    let report = show_text(alloc, input.as_slice())?;
+    let frames = read_input(alloc, reader)?;
+    let report = show_text(alloc, frames.as_slice())?;
     write_report(writer, &report)
 }
 
@@ -116,8 +116,8 @@ pub fn simulate<R: Read, W: Write>(
     ensures unwritten { IfErr result (λ fault. fault ≢ ToolFault.Write
         → Keeps (W.contents writer.old) (W.contents writer.new)) }
 {
-    let input = read_input(alloc, reader)?;
-    let report = simulate_text(alloc, input.as_slice())?;
+    let script = read_input(alloc, reader)?;
+    let report = simulate_text(alloc, script.as_slice())?;
     write_report(writer, &report)
 }
 
@@ -140,7 +140,7 @@ pub fn check<R: Read, W: Write>(
     ensures unwritten { IfErr result (λ fault. fault ≢ ToolFault.Write
         → Keeps (W.contents writer.old) (W.contents writer.new)) }
 {
-    let input = read_input(alloc, reader)?;
-    let report = check_text(alloc, input.as_slice())?;
+    let transcript = read_input(alloc, reader)?;
+    let report = check_text(alloc, transcript.as_slice())?;
     write_report(writer, &report)
 }

@@ -1,6 +1,8 @@
 pub mod LineLemmas
 pub mod CollectedLemmas
 pub mod DigitLemmas
+pub mod OctetLemmas
+pub mod FrameWords
 pub mod Places
 pub mod RoundNumbers
 pub mod Spelled
@@ -20,8 +22,12 @@ pub mod Runs
 pub mod OneLife
 pub mod OneLifeRows
 pub mod Times
+pub mod CleanRounds
+pub mod CatchingUp
+pub mod WholeRecords
 pub mod Promises
 pub mod Examples
+pub mod EndToEndLemmas
 pub mod Shown
 pub mod SoundWorlds
 pub mod ReadingLemmas

@@ -1,5 +1,5 @@
 -- A world shows the machine after each event.
-use Rattle.std.proofs.Common.{◌≡◌, ℕ, zero, suc, ◌+◌, ◌-◌, ◌%◌, ◌<◌, ◌==◌, Bool, true, false, List, [], ◌∷◌, ◌++◌, length, map, Option, Some, None, Result, Ok, Err, slice_get, get_or, refl, ap, sym, subst, ◌∙◌, arith, if◌then◌else◌}
+use Rattle.std.proofs.Common.{◌≡◌, ℕ, zero, suc, ◌+◌, ◌-◌, ◌%◌, ◌<◌, ◌≤◌, ◌==◌, Bool, true, false, List, [], ◌∷◌, ◌++◌, length, map, Option, Some, None, Result, Ok, Err, slice_get, get_or, refl, ap, sym, subst, ◌∙◌, arith, if◌then◌else◌}
 use Rattle.std.specs.Option.{option_map}
 use Rattle.std.specs.Result.{OnErr}
 use Rattle.std.proofs.lemmas.Bool.Decides.{nat_tests}
@@ -27,7 +27,7 @@ use Rattle.fio_world.specs.declared.outcome.Outcome.TheVariants as outcomes
 use Rattle.fio_world.specs.declared.outcome.WorldError.{WorldError}
 use Rattle.fio_world.specs.declared.outcome.WorldError.TheVariants as errors
 use Rattle.fio_world.specs.Link.{Machine, Sent, Refusal, start, number_of, item_numbered, delivery_refusal, refusal, sent, answered, received, with_block, heard, after, Leads}
-use Rattle.fio_world.specs.Ends.{Ends, frame_octets}
+use Rattle.fio_world.specs.Ends.{Ends}
 use Rattle.fio_world.specs.Worlds.{octets_of, polling_of, Shows, sent_after, replied_after, received_outcome, heard_outcome, AddsFrom, TakesMemory, IsFault, IsDone, Steps, StandsFor, events_done}
 
 -- the frame with a number, and its octets where the octets of all frames are listed
@@ -45,14 +45,12 @@ from_mapped : (found : Option Sent) (octets : List ℕ) → option_map octets_of
 from_mapped (Some frame) octets e = (frame, refl, cc)
 from_mapped None octets e = absurd cc
 
--- a frame that may be delivered is the one that is read
-pub read_frame : (frames : List (ArrayVec ℕ)) (count last index : ℕ) (frame : ArrayVec ℕ) → delivery_refusal count last index ≡ None → count ≡ length frames → frame ≡ get_or frames (index - 1) frame → item_numbered (map frame_octets frames) index ≡ Some frame.items
-read_frame frames count last zero frame fine same read = absurd cc
-read_frame frames count last (suc place) frame fine same read =
+-- a number that may be delivered is that of a frame
+pub may_deliver : (count last index : ℕ) → delivery_refusal count last index ≡ None → (index ≡ 0 → ⊥) × (index ≤ count)
+may_deliver count last zero fine = absurd cc
+may_deliver count last (suc place) fine =
     let high : place < count = grind (arith, nat_tests) in
-    let here : suc place - 1 ≡ place = omega arith in
-    let found : frame ≡ get_or frames place frame = read ∙ ap (λ k. get_or frames k frame) here in
-    slice_get-map frame_octets frames place ∙ ap (option_map frame_octets) (slice_get_read frames count place frame same high found)
+    (λ z. omega (arith, z), omega (arith, high))
 
 -- the CPU after a block, as the machine has it
 polling-next : (first : ℕ) (machine : Machine) (last : ℕ) (found : Option Block) → after_hearing (polling_of first machine) found ≡ polling_of first (with_block first (record machine { last_to_cpu = last }) found)

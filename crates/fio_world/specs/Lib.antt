@@ -9,7 +9,9 @@ pub mod Headline
 pub mod Claims
 pub mod Rounds
 pub mod Rising
+pub mod Delivery
 pub mod Sound
+pub mod EndToEnd
 pub mod Ends
 pub mod Worlds
 pub mod Forms

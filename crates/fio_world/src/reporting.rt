@@ -24,14 +24,14 @@ pub fn report(alloc: Global, script: &Script) -> Result<Report, Memory>
         report.good ≡ (report_of (scenario_of script.now)).good) }
 {
     let mut world = World::with_limits(alloc, script.id, script.first, script.limits)?;
-    let mut text = String::new(alloc);
+    let mut text = Vec::new(alloc);
     for (place, event) in script.events.iter().enumerate() {
         match world.step(event) {
             Ok(outcome) => push_outcome(&mut text, place + 1, &outcome)?,
             Err(fault) => {
                 push_refusal(&mut text, place + 1, fault)?;
                 return Ok(Report {
-                    text: text.into_bytes(),
+                    text,
                     good: false,
                 });
             }
@@ -39,7 +39,7 @@ pub fn report(alloc: Global, script: &Script) -> Result<Report, Memory>
     }
     push_ending(&mut text, &world)?;
     Ok(Report {
-        text: text.into_bytes(),
+        text,
         good: true,
     })
 }

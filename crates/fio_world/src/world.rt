@@ -6,16 +6,17 @@ ghost use Rattle.fio_module.specs.Settings.{Settings, standard_settings, setting
 ghost use Rattle.fio_world.specs.declared.event.Event.{Event as Happening};
 ghost use Rattle.fio_world.specs.Link.{Machine, item_numbered};
 ghost use Rattle.fio_world.specs.Headline.{Headline};
-ghost use Rattle.fio_world.specs.Worlds.{Shows, Steps, StandsFor, IsSoundWorld, HasStopped, events_done};
+ghost use Rattle.fio_world.specs.Worlds.{Shows, Steps, StandsFor, IsSoundWorld, HasStopped, HasStoppedAt, all_done, events_done};
 
 mod frames;
 mod happening;
+mod stored;
 
-use self::frames::octets_of_frame;
+use self::stored::StoredFrames;
 use crate::event::Event;
 use crate::outcome::{Outcome, RunError, WorldError};
 use fio_cpu::Poller;
-use fio_message::{Frame, Memory};
+use fio_message::Memory;
 use fio_module::{Limits, Module};
 use std::alloc::Global;
 use std::marker::Model;
@@ -26,23 +27,22 @@ use std::marker::Model;
 pub struct World {
     module: Module,
     poller: Poller,
-    to_module: Vec<Frame>,
-    to_cpu: Vec<Frame>,
+    to_module: StoredFrames,
+    to_cpu: StoredFrames,
     last_to_module: usize,
     last_to_cpu: usize,
 }
 
 impl Model for World {
-    ghost use Rattle.std.specs.Prelude.{map};
-    ghost use Rattle.fio_world.specs.Ends.{Ends, frame_octets};
+    ghost use Rattle.fio_world.specs.Ends.{Ends};
 
     ghost Value = { Ends };
 
     ghost view = { λ w. record {
       module_end = w.module;
       poller_end = w.poller;
-      to_module = map frame_octets w.to_module.items;
-      to_cpu = map frame_octets w.to_cpu.items;
+      to_module = w.to_module.frames;
+      to_cpu = w.to_cpu.frames;
       last_to_module = w.last_to_module;
       last_to_cpu = w.last_to_cpu;
     } };
@@ -74,8 +74,8 @@ impl World {
         Ok(World {
             module: Module::with_limits(alloc, id, limits)?,
             poller: Poller::new(alloc, first),
-            to_module: Vec::new(alloc),
-            to_cpu: Vec::new(alloc),
+            to_module: StoredFrames::new(alloc),
+            to_cpu: StoredFrames::new(alloc),
             last_to_module: 0,
             last_to_cpu: 0,
         })
@@ -122,10 +122,8 @@ impl World {
                 fault: WorldError::Memory,
             });
         };
-        match world.happen_all(events) {
-            Ok(()) => Ok(world),
-            Err(error) => Err(error),
-        }
+        world.step_all(events)?;
+        Ok(world)
     }
 
     /// Lets one event happen, or refuses it and changes nothing, so that it may be tried again.
@@ -150,6 +148,31 @@ impl World {
             self.new.poller_end.items }
     {
         self.happen(event)
+    }
+
+    /// Lets these events happen in order, up to the first that is refused. What was done stays, and
+    /// the events from that place on may be tried again.
+    ///
+    /// # Errors
+    /// How many of these events were done, and why the next one was not: the errors of `step`.
+    pub fn step_all(&mut self, events: &[Event]) -> Result<(), RunError>
+        ensures stands { (settings : Settings) (first : ℕ) (before : List Happening)
+            → StandsFor settings first before self.old
+            → IsSoundWorld settings first (all_done before events.now result) self.new }
+        ensures headline { (settings : Settings) (first : ℕ) (before : List Happening)
+            → StandsFor settings first before self.old
+            → Headline settings first (all_done before events.now result)
+            self.new.poller_end.items }
+        ensures err { IfErr result (λ e. (settings : Settings) (first : ℕ)
+            (before : List Happening) → StandsFor settings first before self.old
+            → HasStoppedAt settings first before events.now e.place e.fault self.new) }
+    {
+        for (place, event) in events.iter().enumerate() {
+            if let Err(fault) = self.step(event) {
+                return Err(RunError { place, fault });
+            }
+        }
+        Ok(())
     }
 
     /// The module.
@@ -200,7 +223,7 @@ impl World {
         ensures { option_map (λ (octets : Bor (List ℕ)). octets.now) result
             ≡ item_numbered self.now.to_module index }
     {
-        octets_of_frame(&self.to_module, index)
+        self.to_module.get(index)
     }
 
     /// The octets of the frame with this number, from 1, among those sent to the CPU; `None` where
@@ -209,6 +232,6 @@ impl World {
         ensures { option_map (λ (octets : Bor (List ℕ)). octets.now) result
             ≡ item_numbered self.now.to_cpu index }
     {
-        octets_of_frame(&self.to_cpu, index)
+        self.to_cpu.get(index)
     }
 }

@@ -1,5 +1,5 @@
 //! The words of a line, and what they write.
-ghost use Rattle.std.specs.Prelude.{◌≡◌, ◌≢◌, [], IfOk, OnErr, option_map, position};
+ghost use Rattle.std.specs.Prelude.{◌≡◌, ◌≢◌, [], Some, None, if◌then◌else◌, IfOk, OnErr, option_map, position};
 ghost use Rattle.fio_world.specs.Hexadecimal.{octets_in, octet_of, inputs_of};
 ghost use Rattle.fio_world.specs.Words.{after_prefix, halves_of, is_blank, number_in, small_number_in};
 
@@ -88,4 +88,17 @@ pub fn read_octets(alloc: Global, word: &[u8]) -> Result<Option<Vec<u8>>, Memory
         Err(FromHexError::OutOfMemory) => Err(Memory),
         Err(_) => Ok(None),
     }
+}
+
+/// The same into octets that are used again, which hold the word's where the answer is yes.
+pub fn read_octets_into(word: &[u8], octets: &mut Vec<u8>) -> Result<bool, Memory>
+    ensures { IfOk result (λ found.
+        octets_in word.now ≡ (if found then Some octets.new.items else None)) }
+{
+    octets.clear();
+    if word.is_empty() || word.len() % 2 == 1 {
+        return Ok(false);
+    }
+    octets.resize(word.len() / 2, 0)?;
+    Ok(hex::decode_to_slice(word, octets.as_mut_slice()).is_ok())
 }

@@ -3,32 +3,15 @@ ghost use Rattle.std.specs.Prelude.{◌≡◌, ◌+◌, ◌∷◌, ◌++◌, [],
 ghost use Rattle.fio_module.specs.Settings.{Settings};
 ghost use Rattle.fio_world.specs.declared.event.Event.TheVariants as events;
 ghost use Rattle.fio_world.specs.Link.{Machine};
-ghost use Rattle.fio_world.specs.Worlds.{Shows, Steps, IsSoundWorld, HasStoppedAt};
+ghost use Rattle.fio_world.specs.Worlds.{Shows, Steps};
 
 use super::World;
-use super::frames::{add_within, check_delivery, copy_of};
+use super::frames::check_delivery;
 use crate::event::Event;
-use crate::outcome::{Outcome, RunError, WorldError};
+use crate::outcome::{Outcome, WorldError};
 use fio_message::{Command, Frame, Memory, encode_command};
 
 impl World {
-    /// Lets these events happen in order, up to the first that is refused.
-    pub(crate) fn happen_all(&mut self, events: &[Event]) -> Result<(), RunError>
-        ensures ok { OnOk result ((settings : Settings) (first : ℕ)
-            → IsSoundWorld settings first [] self.old
-            → IsSoundWorld settings first events.now self.new) }
-        ensures err { IfErr result (λ e. (settings : Settings) (first : ℕ)
-            → IsSoundWorld settings first [] self.old
-            → HasStoppedAt settings first events.now e.place e.fault self.new) }
-    {
-        for (place, event) in events.iter().enumerate() {
-            if let Err(fault) = self.step(event) {
-                return Err(RunError { place, fault });
-            }
-        }
-        Ok(())
-    }
-
     /// Lets one event happen, or refuses it and changes nothing: `step` without what follows for
     /// runs.
     pub(crate) fn happen(&mut self, event: &Event) -> Result<Outcome, WorldError>
@@ -74,14 +57,14 @@ impl World {
         ensures fault { IfErr result (λ fault. fault ≡ WorldError.Memory) }
         ensures err { OnErr result (self.new ≡ self.old) }
     {
-        let copy = copy_of(&frame);
-        match self.to_module.push(copy) {
-            Ok(()) => Ok(Outcome::Sent {
-                index: self.to_module.len(),
-                frame,
-            }),
-            Err(_) => Err(WorldError::Memory),
+        if self.to_module.reserve().is_err() {
+            return Err(WorldError::Memory);
         }
+        self.to_module.add(&frame);
+        Ok(Outcome::Sent {
+            index: self.to_module.len(),
+            frame,
+        })
     }
 
     /// The module receives the frame with this number, and its answer, if any, joins those to the
@@ -93,15 +76,15 @@ impl World {
         ensures err { OnErr result (self.new ≡ self.old) }
     {
         check_delivery(self.to_module.len(), self.last_to_module, index)?;
-        if self.to_cpu.reserve(1).is_err() {
+        if self.to_cpu.reserve().is_err() {
             return Err(WorldError::Memory);
         }
-        let answer = self.module.receive(self.to_module[index - 1].as_slice());
+        let answer = self.module.receive(self.to_module.octets_of(index));
         self.last_to_module = index;
         match answer {
             None => Ok(Outcome::Quiet),
             Some(frame) => {
-                add_within(&mut self.to_cpu, copy_of(&frame));
+                self.to_cpu.add(&frame);
                 Ok(Outcome::Sent {
                     index: self.to_cpu.len(),
                     frame,
@@ -118,7 +101,7 @@ impl World {
         ensures err { OnErr result (self.new ≡ self.old) }
     {
         check_delivery(self.to_cpu.len(), self.last_to_cpu, index)?;
-        match self.poller.hear(self.to_cpu[index - 1].as_slice()) {
+        match self.poller.hear(self.to_cpu.octets_of(index)) {
             Ok(heard) => {
                 self.last_to_cpu = index;
                 Ok(Outcome::Heard(heard))

@@ -1,6 +1,5 @@
 use Rattle.std.proofs.Common.{◌≡◌, ◌++◌, ◌&&◌}
 use Rattle.std.specs.List.{flat_map, list_all}
-use Rattle.std.specs.Prelude.{string_bytes}
 use Rattle.fio_world.specs.Lines.{lines_of, numbered}
 use Rattle.fio_tool.specs.Show.{line_text, is_line_good}
 use Rattle.fio_tool.proofs.showing.show_text.Given as goal
@@ -8,7 +7,7 @@ use Rattle.fio_tool.proofs.showing.show_text.Given as goal
 abbrev pub invariant-lines : goal.invariant-lines
 invariant-lines l = record {
   text :
-      string_bytes l.text ++ flat_map line_text l.number-iterator
+      l.text.items ++ flat_map line_text l.number-iterator
       ≡ flat_map line_text (numbered 1 (lines_of l.input));
   good :
       l.good && list_all is_line_good l.number-iterator

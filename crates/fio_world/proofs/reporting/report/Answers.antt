@@ -18,7 +18,7 @@ returns-in-Err c =
     let told =
     TellsOn-refused _ _ _ _ _ _ _ _ on within here (c.in-Err.ensures.row _ _ _ on.shown) c.in_ok-push_refusal-in-Err.ensures in
     record {
-      text = ap (λ v. v.items) c.into_bytes.ensures.value ∙ sym (ap (λ report. report.text) told);
+      text = sym (ap (λ report. report.text) told);
       good = sym (ap (λ report. report.good) told);
     }
 
@@ -27,4 +27,4 @@ returns-clause-text c =
     let on = c.loop-place.invariant in
     let past : length c.args.script.now.events.items ≤ c.loop-place.place = search rules in
     let told = TellsOn-end _ _ _ _ _ on past (c.in_ok-push_ending.ensures _ _ _ on.shown) in
-    ap (λ v. v.items) c.into_bytes-2.ensures.value ∙ sym (ap (λ report. report.text) told)
+    sym (ap (λ report. report.text) told)

@@ -1,51 +1,47 @@
-use Rattle.std.proofs.Common.{◌≡◌, ◌∙◌, ap, sym, refl, subst, Err, None, Some, length, map}
-use Rattle.std.proofs.lemmas.List.{length-map}
+use Rattle.std.proofs.Common.{◌≡◌, ◌∙◌, ap, sym, refl, subst, Err, None, Some, length}
 use Rattle.std.proofs.lemmas.Result.{err_from_is_err_and}
-use Rattle.fio_message.specs.Decoding.{decoded_answer, block_in}
 use Rattle.fio_cpu.specs.Hearing.{heard_as, after_hearing, AddsItems}
 use Rattle.fio_world.specs.declared.event.Event.TheVariants as events
 use Rattle.fio_world.specs.declared.outcome.Outcome.TheVariants as outcomes
 use Rattle.fio_world.specs.Link.{delivery_refusal, item_numbered}
-use Rattle.fio_world.specs.Ends.{Ends, frame_octets}
+use Rattle.fio_world.specs.Ends.{Ends}
 use Rattle.fio_world.specs.Worlds.{Shows, Steps, IsFault, IsDone}
-use Rattle.fio_world.proofs.Shown.{read_frame, done_heard, fault_heard, fault_to_cpu}
+use Rattle.fio_world.proofs.Shown.{may_deliver, done_heard, fault_heard, fault_to_cpu}
 use Rattle.fio_world.proofs.world.World.deliver_to_cpu.Goals as goal
+
+pub octets_of-requires : goal.octets_of-requires
+octets_of-requires c =
+    let inside = c.self.inside in
+    may_deliver (length inside.to_cpu.frames) inside.last_to_cpu c.args.index (subst (λ n. delivery_refusal n inside.last_to_cpu c.args.index ≡ None) c.len.ensures c.in_ok-check_delivery.ensures)
 
 pub returns-in_err-check_delivery-clause-row : goal.returns-in_err-check_delivery-clause-row
 returns-in_err-check_delivery-clause-row c settings first machine s =
     let inside = c.self.inside in
-    let world : Ends = record { module_end = inside.module; poller_end = inside.poller; to_module = map frame_octets inside.to_module.items; to_cpu = map frame_octets inside.to_cpu.items; last_to_module = inside.last_to_module; last_to_cpu = inside.last_to_cpu } in
+    let world : Ends = record { module_end = inside.module; poller_end = inside.poller; to_module = inside.to_module.frames; to_cpu = inside.to_cpu.frames; last_to_module = inside.last_to_module; last_to_cpu = inside.last_to_cpu } in
     let shown : Shows settings first machine world = subst (Shows settings first machine) (sym c.self.view_is) s in
-    let count : c.len.result ≡ length world.to_cpu = c.len.ensures ∙ inside.to_cpu.ok.0 ∙ sym (length-map inside.to_cpu.items frame_octets) in
     let fault = c.in_err-check_delivery.field-0.0 in
-    let why : IsFault (delivery_refusal (length world.to_cpu) world.last_to_cpu c.args.index) ⊥ fault = subst (λ n. IsFault (delivery_refusal n inside.last_to_cpu c.args.index) ⊥ fault) count c.in_err-check_delivery.ensures in
+    let why : IsFault (delivery_refusal (length world.to_cpu) world.last_to_cpu c.args.index) ⊥ fault = subst (λ n. IsFault (delivery_refusal n inside.last_to_cpu c.args.index) ⊥ fault) c.len.ensures c.in_err-check_delivery.ensures in
     let p = err_from_is_err_and c.from_residual.result c.from_residual.ensures.1 in
     subst (λ r. Steps settings first machine (events.ToCpu c.args.index) r c.args.self.now) (sym (p.1 ∙ ap Err p.2)) (fault_to_cpu settings first machine world shown c.args.index fault why)
 
 pub returns-in-Ok-clause-row : goal.returns-in-Ok-clause-row
 returns-in-Ok-clause-row c settings first machine s =
     let inside = c.self.inside in
-    let world : Ends = record { module_end = inside.module; poller_end = inside.poller; to_module = map frame_octets inside.to_module.items; to_cpu = map frame_octets inside.to_cpu.items; last_to_module = inside.last_to_module; last_to_cpu = inside.last_to_cpu } in
+    let world : Ends = record { module_end = inside.module; poller_end = inside.poller; to_module = inside.to_module.frames; to_cpu = inside.to_cpu.frames; last_to_module = inside.last_to_module; last_to_cpu = inside.last_to_cpu } in
     let shown : Shows settings first machine world = subst (Shows settings first machine) (sym c.self.view_is) s in
-    let frame = c.index.result.now in
-    let count : c.len.result ≡ length inside.to_cpu.items = c.len.ensures ∙ inside.to_cpu.ok.0 in
-    let fine : delivery_refusal (length world.to_cpu) world.last_to_cpu c.args.index ≡ None = subst (λ n. delivery_refusal n inside.last_to_cpu c.args.index ≡ None) (count ∙ sym (length-map inside.to_cpu.items frame_octets)) c.in_ok-check_delivery.ensures in
-    let at : item_numbered world.to_cpu c.args.index ≡ Some frame.items = read_frame inside.to_cpu.items c.len.result inside.last_to_cpu c.args.index frame c.in_ok-check_delivery.ensures count c.index.ensures in
-    let octets = c.as_slice.ensures.value in
+    let octets = c.octets_of.result.now in
+    let fine : delivery_refusal (length world.to_cpu) world.last_to_cpu c.args.index ≡ None = subst (λ n. delivery_refusal n inside.last_to_cpu c.args.index ≡ None) c.len.ensures c.in_ok-check_delivery.ensures in
+    let at : item_numbered world.to_cpu c.args.index ≡ Some octets = sym c.octets_of.ensures in
     let new : Ends = record { module_end = inside.module; poller_end = c.hear.new.self; to_module = world.to_module; to_cpu = world.to_cpu; last_to_module = world.last_to_module; last_to_cpu = c.args.index } in
-    let taken : c.hear.new.self ≡ after_hearing inside.poller (block_in frame.items) = c.in-Ok.ensures.taken ∙ ap (λ o. after_hearing inside.poller (block_in o)) octets in
-    let heard : c.in-Ok.heard ≡ heard_as inside.poller.number (decoded_answer frame.items) = c.in-Ok.ensures.heard ∙ ap (λ o. heard_as inside.poller.number (decoded_answer o)) octets in
-    subst (λ h. IsDone settings first machine (events.ToCpu c.args.index) (outcomes.Heard h) new) (sym heard)
-    (done_heard settings first machine world shown c.args.index frame.items new fine at refl taken refl refl refl refl)
+    subst (λ h. IsDone settings first machine (events.ToCpu c.args.index) (outcomes.Heard h) new) (sym c.in-Ok.ensures.heard)
+    (done_heard settings first machine world shown c.args.index octets new fine at refl c.in-Ok.ensures.taken refl refl refl refl)
 
 pub returns-in-Err-clause-row : goal.returns-in-Err-clause-row
 returns-in-Err-clause-row c settings first machine s =
     let inside = c.self.inside in
-    let world : Ends = record { module_end = inside.module; poller_end = inside.poller; to_module = map frame_octets inside.to_module.items; to_cpu = map frame_octets inside.to_cpu.items; last_to_module = inside.last_to_module; last_to_cpu = inside.last_to_cpu } in
+    let world : Ends = record { module_end = inside.module; poller_end = inside.poller; to_module = inside.to_module.frames; to_cpu = inside.to_cpu.frames; last_to_module = inside.last_to_module; last_to_cpu = inside.last_to_cpu } in
     let shown : Shows settings first machine world = subst (Shows settings first machine) (sym c.self.view_is) s in
-    let frame = c.index.result.now in
-    let count : c.len.result ≡ length inside.to_cpu.items = c.len.ensures ∙ inside.to_cpu.ok.0 in
-    let fine : delivery_refusal (length world.to_cpu) world.last_to_cpu c.args.index ≡ None = subst (λ n. delivery_refusal n inside.last_to_cpu c.args.index ≡ None) (count ∙ sym (length-map inside.to_cpu.items frame_octets)) c.in_ok-check_delivery.ensures in
-    let at : item_numbered world.to_cpu c.args.index ≡ Some frame.items = read_frame inside.to_cpu.items c.len.result inside.last_to_cpu c.args.index frame c.in_ok-check_delivery.ensures count c.index.ensures in
-    fault_heard settings first machine world shown c.args.index frame.items fine at
-    (subst (λ o. AddsItems inside.poller (block_in o)) c.as_slice.ensures.value c.in-Err.ensures.wanted)
+    let octets = c.octets_of.result.now in
+    let fine : delivery_refusal (length world.to_cpu) world.last_to_cpu c.args.index ≡ None = subst (λ n. delivery_refusal n inside.last_to_cpu c.args.index ≡ None) c.len.ensures c.in_ok-check_delivery.ensures in
+    let at : item_numbered world.to_cpu c.args.index ≡ Some octets = sym c.octets_of.ensures in
+    fault_heard settings first machine world shown c.args.index octets fine at c.in-Err.ensures.wanted

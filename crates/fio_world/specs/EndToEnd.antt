@@ -1,0 +1,27 @@
+-- Frames that stand end to end, and where each ends.
+use Rattle.std.specs.Prelude.{◌==◌, ◌&&◌, nat_le, ◌-◌, ℕ, zero, suc, Bool, List, [], ◌∷◌, length, take, drop}
+
+-- the octets between two places
+abbrev pub between : List ℕ → ℕ → ℕ → List ℕ
+between octets start end = take (end - start) (drop start octets)
+
+-- the frames that begin at a place and end at these
+abbrev pub frames_in : List ℕ → ℕ → List ℕ → List (List ℕ)
+frames_in octets start [] = []
+frames_in octets start (end ∷ ends) = between octets start end ∷ frames_in octets end ends
+
+-- the ends rise from a place up to another
+abbrev pub is_cut : ℕ → List ℕ → ℕ → Bool
+is_cut start [] last = start == last
+is_cut start (end ∷ ends) last = nat_le start end && is_cut end ends last
+
+-- where the frame with a place starts, from 0
+abbrev pub start_at : ℕ → List ℕ → ℕ → ℕ
+start_at start ends zero = start
+start_at start [] (suc place) = start
+start_at start (end ∷ ends) (suc place) = start_at end ends place
+
+-- what contracts see of stored frames: their octets, and whether there is room for one more
+pub record Stored : Type 0 where
+  pub frames : List (List ℕ)
+  pub has_room : Bool

@@ -1,0 +1,113 @@
+//! The frames sent in one direction, end to end.
+ghost use Rattle.std.specs.Prelude.{◌≡◌, ◌≢◌, ◌≤◌, ◌<◌, ◌∷◌, ◌++◌, [], List, ℕ, Some, true, length, OnOk, OnErr};
+ghost use Rattle.std.specs.Option.{option_map};
+ghost use Rattle.std.specs.Borrow.{Bor};
+ghost use Rattle.fio_world.specs.Link.{item_numbered};
+ghost use Rattle.fio_world.specs.EndToEnd.{between, start_at};
+
+use fio_message::Memory;
+use std::alloc::Global;
+use std::marker::Model;
+
+/// The most octets of a frame.
+const LONGEST: usize = 773;
+
+/// Frames, numbered from 1. Their octets stand end to end.
+#[derive(Drop)]
+pub(crate) struct StoredFrames {
+    octets: Vec<u8>,
+    ends: Vec<usize>,
+}
+
+impl Model for StoredFrames {
+    ghost use Rattle.std.specs.Prelude.{◌≡◌, ◌&&◌, ◌+◌, true, nat_le, nat_lt, length, vec_len, vec_capacity};
+    ghost use Rattle.fio_world.specs.EndToEnd.{Stored, frames_in, is_cut};
+
+    ghost Value = { Stored };
+
+    ghost view = { λ f. record {
+      frames = frames_in f.octets.items 0 f.ends.items;
+      has_room = nat_lt (vec_len f.ends) (vec_capacity f.ends)
+        && nat_le (vec_len f.octets + 773) (vec_capacity f.octets);
+    } };
+
+    ghost invariant = { λ f. is_cut 0 f.ends.items (length f.octets.items) ≡ true };
+}
+
+impl StoredFrames {
+    /// No frames. Takes no memory.
+    pub(crate) fn new(alloc: Global) -> StoredFrames
+        ensures { result.frames ≡ [] }
+    {
+        StoredFrames {
+            octets: Vec::new(alloc),
+            ends: Vec::new(alloc),
+        }
+    }
+
+    /// How many frames there are.
+    pub(crate) fn len(&self) -> usize
+        ensures { result ≡ length self.now.frames }
+    {
+        self.ends.len()
+    }
+
+    /// Asks for room for one more frame.
+    pub(crate) fn reserve(&mut self) -> Result<(), Memory>
+        ensures ok { OnOk result (self.new.has_room ≡ true) }
+        ensures same { self.new.frames ≡ self.old.frames }
+    {
+        self.ends.reserve(1)?;
+        self.octets.reserve(LONGEST)?;
+        Ok(())
+    }
+
+    /// Adds a frame, for which there is room.
+    pub(crate) fn add(&mut self, frame: &[u8])
+        requires room { self.old.has_room ≡ true }
+        requires short { length frame.now ≤ 773 }
+        ensures { self.new.frames ≡ self.old.frames ++ frame.now ∷ [] }
+    {
+        self.octets.extend_from_slice(frame).unwrap();
+        self.ends.push(self.octets.len()).unwrap();
+    }
+
+    /// The octets of the frame with this number.
+    pub(crate) fn octets_of(&self, index: usize) -> &[u8]
+        requires { (index ≢ 0) × (index ≤ length self.now.frames) }
+        ensures { Some result.now ≡ item_numbered self.now.frames index }
+    {
+        let start = start_of(self.ends.as_slice(), index - 1);
+        part(self.octets.as_slice(), start, self.ends[index - 1])
+    }
+
+    /// The octets of the frame with this number, or `None` where none has it.
+    pub(crate) fn get(&self, index: usize) -> Option<&[u8]>
+        ensures { option_map (λ (octets : Bor (List ℕ)). octets.now) result
+            ≡ item_numbered self.now.frames index }
+    {
+        if index == 0 {
+            return None;
+        }
+        if self.len() < index {
+            return None;
+        }
+        Some(self.octets_of(index))
+    }
+}
+
+/// Where the frame with this place starts.
+fn start_of(ends: &[usize], place: usize) -> usize
+    requires { place < length ends.now }
+    ensures { result ≡ start_at 0 ends.now place }
+{
+    if place == 0 { 0 } else { ends[place - 1] }
+}
+
+/// The octets between two places.
+fn part(octets: &[u8], start: usize, end: usize) -> &[u8]
+    requires { (start ≤ end) × (end ≤ length octets.now) }
+    ensures { result.now ≡ between octets.now start end }
+{
+    &octets[start..end]
+}
