@@ -45,17 +45,18 @@ install: all
 uninstall:
 	rm -f '$(bin)/fio2070' '$(man)/fio2070.1' '$(bash)/fio2070' '$(zsh)/_fio2070' '$(fish)/fio2070.fish'
 
-# The library for C and its headers, where they are there.
+# The library for C and its headers, and the tools, where they are there.
 
 libraries = $(wildcard libfio2070.a)
 headers = $(wildcard include/*.h include/*.hpp)
+tools = $(wildcard tools/*)
 
-.PHONY: install-library uninstall-library
+.PHONY: install-more uninstall-more
 
-install: install-library
-uninstall: uninstall-library
+install: install-more
+uninstall: uninstall-more
 
-install-library:
+install-more:
 ifneq ($(libraries),)
 	install -d '$(root)/$(LIB)'
 	install -m 644 $(libraries) '$(root)/$(LIB)'
@@ -64,28 +65,18 @@ ifneq ($(headers),)
 	install -d '$(root)/include'
 	install -m 644 $(headers) '$(root)/include'
 endif
-
-uninstall-library:
-	rm -f $(foreach file,$(notdir $(libraries)),'$(root)/$(LIB)/$(file)')
-	rm -f $(foreach file,$(notdir $(headers)),'$(root)/include/$(file)')
-
-# The tools beside the program, and how Wireshark finds its dissector.
-
-tools_place = $(PREFIX)/$(TOOLS)/tools
-
-.PHONY: install-tools uninstall-tools
-install: install-tools
-uninstall: uninstall-tools
-
-install-tools:
-	install -d '$(DESTDIR)$(tools_place)'
-	cp -R tools/. '$(DESTDIR)$(tools_place)'
+ifneq ($(tools),)
+	install -d '$(root)/$(TOOLS)'
+	cp -R tools '$(root)/$(TOOLS)'
 	@echo 'The Wireshark dissector is installed. To enable it:'
 	@echo "    mkdir -p ~/.local/lib/wireshark/plugins"
-	@echo "    ln -sf '$(tools_place)/wireshark/fio2070.lua' ~/.local/lib/wireshark/plugins/"
+	@echo "    ln -sf '$(PREFIX)/$(TOOLS)/tools/wireshark/fio2070.lua' ~/.local/lib/wireshark/plugins/"
+endif
 
-uninstall-tools:
-	rm -rf '$(DESTDIR)$(tools_place)'
+uninstall-more:
+	rm -f $(foreach file,$(notdir $(libraries)),'$(root)/$(LIB)/$(file)')
+	rm -f $(foreach file,$(notdir $(headers)),'$(root)/include/$(file)')
+	rm -rf '$(root)/$(TOOLS)/tools'
 
 # The archive and the Debian package: the same files give the same octets each time.
 
