@@ -1,6 +1,7 @@
 pub mod LineLemmas
 pub mod CollectedLemmas
 pub mod DigitLemmas
+pub mod RoomLemmas
 pub mod Places
 pub mod RoundNumbers
 pub mod Spelled
