@@ -1,5 +1,5 @@
 -- The lines that tell of each answer.
-use Rattle.std.specs.Prelude.{ℕ, List, [], ◌∷◌, ◌++◌, length, codes, decimal}
+use Rattle.std.specs.Prelude.{ℕ, List, ◌++◌, length, codes, decimal}
 use Rattle.std.specs.List.{flat_map}
 use Rattle.fio_message.specs.Octets.{inputs_octets}
 use Rattle.fio_message.specs.Answers.{other_answer_code}
@@ -11,12 +11,17 @@ use Rattle.fio_world.specs.Hexadecimal.{digits_of, octet_digits}
 use Rattle.fio_world.specs.ReportLines.{entry_line}
 use Rattle.fio_tool.specs.ShowCommands.{other_text}
 
+-- how many errors there were, and when
+abbrev pub errors_text : ℕ → ℕ → ℕ → List ℕ
+errors_text receive_errors transmit_errors stamp =
+    codes " receive " ++ (decimal receive_errors
+    ++ (codes " transmit " ++ (decimal transmit_errors
+    ++ (codes " stamp " ++ (decimal stamp ++ codes "\n")))))
+
 abbrev pub flags_text : ℕ → ℕ → ℕ → ℕ → List ℕ
 flags_text flags receive_errors transmit_errors stamp =
-    codes "status flags " ++ (octet_digits flags
-    ++ (codes " receive " ++ (decimal receive_errors
-    ++ (codes " transmit " ++ (decimal transmit_errors
-    ++ (codes " stamp " ++ (decimal stamp ++ codes "\n")))))))
+    codes "status flags "
+    ++ (octet_digits flags ++ errors_text receive_errors transmit_errors stamp)
 
 -- a status octet, behind the name of the answer that has it
 abbrev pub status_text : List ℕ → ℕ → List ℕ

@@ -1,6 +1,6 @@
 //! The lines that tell of each answer.
 ghost use Rattle.std.specs.Prelude.{◌≡◌, ◌++◌, [], ◌∷◌, ◌≤◌, length, codes, OnOk};
-ghost use Rattle.fio_tool.specs.ShowAnswers.{answer_text, block_head_text, block_text, entry_text, flags_text, levels_text, status_text};
+ghost use Rattle.fio_tool.specs.ShowAnswers.{answer_text, block_head_text, block_text, entry_text, errors_text, flags_text, levels_text, status_text};
 
 use crate::commands::push_other;
 use fio_input::widen;
@@ -49,10 +49,23 @@ pub(crate) fn push_flags(
     ensures { OnOk result (text.new.items
         ≡ text.old.items ++ flags_text flags receive_errors transmit_errors stamp) }
 {
+    push_line!(text; b"status flags " [flags])?;
+    push_errors(text, receive_errors, transmit_errors, stamp)
+}
+
+/// Appends the end of that line.
+fn push_errors(
+    text: &mut Vec<u8>,
+    receive_errors: u8,
+    transmit_errors: u8,
+    stamp: u32,
+) -> Result<(), AllocError>
+    ensures { OnOk result (text.new.items
+        ≡ text.old.items ++ errors_text receive_errors transmit_errors stamp) }
+{
     push_line!(
         text;
-        b"status flags " [flags] b" receive " {receive_errors}
-        b" transmit " {transmit_errors} b" stamp " {stamp} b"\n"
+        b" receive " {receive_errors} b" transmit " {transmit_errors} b" stamp " {stamp} b"\n"
     )
 }
 

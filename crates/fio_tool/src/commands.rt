@@ -1,6 +1,6 @@
 //! The lines that tell of each command.
-ghost use Rattle.std.specs.Prelude.{◌≡◌, ◌++◌, ◌≤◌, length, OnOk};
-ghost use Rattle.fio_tool.specs.ShowCommands.{clearing_text, command_text, configuration_text, item_text, number_text, other_text, outputs_text};
+ghost use Rattle.std.specs.Prelude.{◌≡◌, ◌++◌, ◌≤◌, length, codes, OnOk};
+ghost use Rattle.fio_tool.specs.ShowCommands.{body_text, clearing_text, command_text, configuration_text, item_text, number_text, other_text, outputs_text};
 
 use fio_message::{Command, InputItem};
 use fio_world::push_line;
@@ -45,11 +45,18 @@ fn push_configuration(text: &mut Vec<u8>, items: &[InputItem]) -> Result<(), All
     ensures { OnOk result (text.new.items
         ≡ text.old.items ++ configuration_text items.now) }
 {
-    push_line!(text; b"configure inputs " {items.len() as u64} b"\n")?;
+    push_count(text, items.len())?;
     for item in items {
         push_item(text, *item)?;
     }
     Ok(())
+}
+
+fn push_count(text: &mut Vec<u8>, count: usize) -> Result<(), AllocError>
+    ensures { OnOk result (text.new.items
+        ≡ text.old.items ++ number_text (codes "configure inputs ") count) }
+{
+    push_line!(text; b"configure inputs " {count as u64} b"\n")
 }
 
 fn push_item(text: &mut Vec<u8>, item: InputItem) -> Result<(), AllocError>
@@ -84,9 +91,16 @@ pub(crate) fn push_other(text: &mut Vec<u8>, code: u8, body: &[u8]) -> Result<()
         ≡ text.old.items ++ other_text code body.now) }
 {
     push_line!(text; b"other " {code} b" body ")?;
-    if body.is_empty() {
-        return text.extend_from_slice(b"-\n");
-    }
-    push_hexadecimal(text, body)?;
+    push_body(text, body)?;
     text.extend_from_slice(b"\n")
+}
+
+/// Appends the octets of a body, or a dash where it has none.
+fn push_body(text: &mut Vec<u8>, body: &[u8]) -> Result<(), AllocError>
+    ensures { OnOk result (text.new.items ≡ text.old.items ++ body_text body.now) }
+{
+    match body {
+        [] => text.extend_from_slice(b"-"),
+        _ => push_hexadecimal(text, body),
+    }
 }

@@ -87,7 +87,6 @@ pub fn put_octet(line: &mut [u8; 128], end: usize, octet: u8) -> usize
     requires { (2 ≤ end) × (end ≤ 128) }
     ensures start { (result ≤ end) × (end ≤ result + 2) }
     ensures put { drop result line.new ≡ octet_digits octet ++ drop end line.old }
-    ensures kept { (at : ℕ) → end ≤ at → drop at line.new ≡ drop at line.old }
 {
     let mut digits = [0; 2];
     let _ = hex::encode_to_slice([octet], &mut digits);
@@ -101,7 +100,6 @@ pub fn put_hexadecimal(line: &mut [u8; 128], end: usize, octets: &[u8]) -> usize
     requires { (2 * length octets.now ≤ end) × (end ≤ 128) }
     ensures start { (result ≤ end) × (end ≤ result + 2 * length octets.now) }
     ensures put { drop result line.new ≡ digits_of octets.now ++ drop end line.old }
-    ensures kept { (at : ℕ) → end ≤ at → drop at line.new ≡ drop at line.old }
 {
     let start = end - 2 * octets.len();
     let _ = hex::encode_to_slice(octets, &mut line[start..end]);
