@@ -158,8 +158,8 @@ end
 
 local function module_flags(name, label, ...)
   return flags(name, label, {
-    { "P", 128, "the module was reset", ... }, { "E", 64, "label" }, { "K", 32, "label" }, { "R", 16, "label" },
-    { "T", 8, "label" }, { "M", 4, "label" }, { "L", 2, "label" }, { "W", 1, "label" },
+    { "P", 128, "the module was reset", ... }, { "E", 64, "status flag" }, { "K", 32, "status flag" }, { "R", 16, "status flag" },
+    { "T", 8, "status flag" }, { "M", 4, "status flag" }, { "L", 2, "status flag" }, { "W", 1, "status flag" },
   })
 end
 
