@@ -20,11 +20,11 @@ use Rattle.fio_module.proofs.Losses.{holds_now}
 use Rattle.fio_module.proofs.Growth.{filter_events-append, log-grows}
 
 -- what holds of each element of two lists holds of each
-each-front : {A : Type 0} (P : A → Type 0) (xs ys : List A) → AllByRecursion P (xs ++ ys) → AllByRecursion P xs
+pub each-front : {A : Type 0} (P : A → Type 0) (xs ys : List A) → AllByRecursion P (xs ++ ys) → AllByRecursion P xs
 each-front P [] ys all = tt
 each-front P (x ∷ xs) ys all = (all.0, each-front P xs ys all.1)
 
-each-back : {A : Type 0} (P : A → Type 0) (xs ys : List A) → AllByRecursion P (xs ++ ys) → AllByRecursion P ys
+pub each-back : {A : Type 0} (P : A → Type 0) (xs ys : List A) → AllByRecursion P (xs ++ ys) → AllByRecursion P ys
 each-back P [] ys all = all
 each-back P (x ∷ xs) ys all = each-back P xs ys all.1
 
@@ -184,7 +184,7 @@ get_in_drop (suc n) (y ∷ xs) k x is =
     let same : suc n + k ≡ suc (n + k) = omega arith in ap (slice_get (y ∷ xs)) same ∙ get_in_drop n xs k x is
 
 -- how many scans there are among two lists of events
-scans_in-append : (later life : Life)
+pub scans_in-append : (later life : Life)
     → scans_in (filter_events (later ++ life)) ≡ scans_in (filter_events later) + scans_in (filter_events life)
 scans_in-append [] life = omega arith
 scans_in-append (Scanned raw ∷ later) life = let rest = scans_in-append later life in omega arith

@@ -9,7 +9,7 @@ use Rattle.fio_input.specs.Delivery.{scans_in}
 use Rattle.fio_module.specs.Settings.{Settings}
 use Rattle.fio_module.specs.Life.{Life, Occurrence, Scanned, Commanded, scans_of, filter_events}
 use Rattle.fio_module.specs.Log.{Transition, transitions_below, log_of}
-use Rattle.fio_module.specs.Blocks.{MadeBlock, latest_poll, is_new, blocks_of, next_block, newest_end, start_after, count_from, waiting_of}
+use Rattle.fio_module.specs.Blocks.{MadeBlock, latest_poll, is_new, blocks_of, last_end, next_block, newest_end, start_after, count_from, waiting_of}
 use Rattle.fio_module.specs.Delivery.{AtEachTime, FewBeyond}
 use Rattle.fio_module.specs.KeepingUp.{scans_behind, IsYoung, KeepsUp}
 use Rattle.fio_module.proofs.Ends.{last_end-append}
@@ -25,6 +25,30 @@ log-grown (occurrence ∷ later) life =
     let here = log-later occurrence (later ++ life) in
     omega arith
 
+-- what a poll that is new, or not, makes of the blocks and of how far they are behind
+pub blocks_new : (settings : Settings) (life : Life) (number : ℕ) → is_new (latest_poll life) number ≡ true
+    → blocks_of settings (Commanded (Poll number) ∷ life) ≡ blocks_of settings life ++ next_block settings life ∷ []
+blocks_new settings life number is = rw is refl
+
+pub blocks_old : (settings : Settings) (life : Life) (number : ℕ) → is_new (latest_poll life) number ≡ false
+    → blocks_of settings (Commanded (Poll number) ∷ life) ≡ blocks_of settings life
+blocks_old settings life number is = rw is refl
+
+end_new : (settings : Settings) (life : Life) (number : ℕ) → is_new (latest_poll life) number ≡ true
+    → let start = start_after settings (log_of life) (newest_end settings life) in
+    newest_end settings (Commanded (Poll number) ∷ life) ≡ start + count_from settings (log_of life) start
+end_new settings life number is =
+    ap (last_end 0) (blocks_new settings life number is)
+    ∙ last_end-append 0 (blocks_of settings life) (next_block settings life)
+
+behind_new : (scans : ℕ) (later life : Life) (number : ℕ) → is_new (latest_poll (later ++ life)) number ≡ true
+    → scans_behind scans (Commanded (Poll number) ∷ later) life ≡ scans_behind scans later life - scans
+behind_new scans later life number is = rw is refl
+
+behind_old : (scans : ℕ) (later life : Life) (number : ℕ) → is_new (latest_poll (later ++ life)) number ≡ false
+    → scans_behind scans (Commanded (Poll number) ∷ later) life ≡ scans_behind scans later life
+behind_old scans later life number is = rw is refl
+
 module _ (scans : ℕ) (life before : Life) where
   abbrev behind : Life → ℕ
   behind stretch = scans_behind scans (stretch ++ before) life
@@ -36,9 +60,9 @@ module _ (scans : ℕ) (life before : Life) where
   behind_poll : (number : ℕ) (stretch : Life) (new : Bool) → is_new (latest_poll ((stretch ++ before) ++ life)) number ≡ new
       → behind (Commanded (Poll number) ∷ stretch) ≤ behind stretch
   behind_poll number stretch true is =
-      let less : behind (Commanded (Poll number) ∷ stretch) ≡ behind stretch - scans = rw is refl in omega arith
+      let less = behind_new scans (stretch ++ before) life number is in omega arith
   behind_poll number stretch false is =
-      let same : behind (Commanded (Poll number) ∷ stretch) ≡ behind stretch = rw is refl in omega arith
+      let same = behind_old scans (stretch ++ before) life number is in omega arith
 
   -- the blocks fall no more behind than there are scans
   behind_more : (stretch : Life) → behind stretch ≤ scans_behind scans before life + scanned stretch
@@ -76,12 +100,12 @@ module _ (settings : Settings) (scans : ℕ) (life before : Life) where
       → length (blocks_of settings (before ++ life)) < count (Commanded (Poll number) ∷ stretch)
       → scans_behind scans (Commanded (Poll number) ∷ (stretch ++ before)) life ≤ scans_in (filter_events stretch)
   after_poll number stretch true is near rest more =
-      let less : scans_behind scans (Commanded (Poll number) ∷ (stretch ++ before)) life ≡ scans_behind scans (stretch ++ before) life - scans = rw is refl in
+      let less = behind_new scans (stretch ++ before) life number is in
       let most = behind_more scans life before stretch in
       omega arith
   after_poll number stretch false is near rest more =
-      let same : scans_behind scans (Commanded (Poll number) ∷ (stretch ++ before)) life ≡ scans_behind scans (stretch ++ before) life = rw is refl in
-      let blocks : count (Commanded (Poll number) ∷ stretch) ≡ count stretch = rw is refl in
+      let same = behind_old scans (stretch ++ before) life number is in
+      let blocks = ap length (blocks_old settings ((stretch ++ before) ++ life) number is) in
       let few = rest (omega arith) in
       omega arith
 
@@ -106,16 +130,15 @@ module _ (settings : Settings) (life : Life) (bound : ℕ) (logged : bound ≤ l
   end_after_poll number stretch true is rest more =
       let here = stretch ++ life in
       let start = start_after settings (log_of here) (newest_end settings here) in
-      let ends : newest_end settings (Commanded (Poll number) ∷ here) ≡ start + count_from settings (log_of here) start =
-      rw is (last_end-append 0 (blocks_of settings here) (next_block settings here)) in
+      let ends = end_new settings here number is in
       let within : newest_end settings here ≤ length (log_of here) = blocks_end_within settings here in
       let grown = log-grown stretch life in
       let later = ends-grow settings stretch life in
       omega arith
   end_after_poll number stretch false is rest more =
       let here = stretch ++ life in
-      let blocks : length (blocks_of settings (Commanded (Poll number) ∷ here)) ≡ length (blocks_of settings here) = rw is refl in
-      let ends : newest_end settings (Commanded (Poll number) ∷ here) ≡ newest_end settings here = rw is refl in
+      let blocks = ap length (blocks_old settings here number is) in
+      let ends = ap (last_end 0) (blocks_old settings here number is) in
       let before = rest (omega arith) in
       omega arith
 
@@ -153,7 +176,7 @@ young-take life behind most filter (suc n) [] le all = tt
 young-take life behind most filter (suc n) (t ∷ ts) le all =
     let here = all.0 in (omega arith, young-take life behind most filter n ts le all.1)
 
-each-push : {A : Type 0} (P : A → Type 0) (xs : List A) (x : A) → AllByRecursion P xs → P x → AllByRecursion P (xs ++ x ∷ [])
+pub each-push : {A : Type 0} (P : A → Type 0) (xs : List A) (x : A) → AllByRecursion P xs → P x → AllByRecursion P (xs ++ x ∷ [])
 each-push P [] x all one = (one, tt)
 each-push P (y ∷ xs) x all one = (all.0, each-push P xs x all.1 one)
 
@@ -169,8 +192,8 @@ module _ (settings : Settings) (filter scans most : ℕ) (life : Life) where
       → HasMade settings filter most life (Commanded (Poll number) ∷ later)
   made-poll number later false is k near h =
       let here = later ++ life in
-      let same : blocks_of settings (Commanded (Poll number) ∷ here) ≡ blocks_of settings here = rw is refl in
-      let ends : newest_end settings (Commanded (Poll number) ∷ here) ≡ newest_end settings here = rw is refl in
+      let same = blocks_old settings here number is in
+      let ends = ap (last_end 0) same in
       record {
         made = h.made;
         blocks = same ∙ h.blocks;
@@ -184,9 +207,8 @@ module _ (settings : Settings) (filter scans most : ℕ) (life : Life) where
       let end = newest_end settings here in
       let start = start_after settings log end in
       let count = count_from settings log start in
-      let more : blocks_of settings (Commanded (Poll number) ∷ here) ≡ blocks_of settings here ++ next ∷ [] = rw is refl in
-      let ends : newest_end settings (Commanded (Poll number) ∷ here) ≡ start + count =
-      rw is (last_end-append 0 (blocks_of settings here) next) in
+      let more = blocks_new settings here number is in
+      let ends = end_new settings here number is in
       let few = k.few_beyond in
       let begins : start ≡ end = omega arith in
       let within : end ≤ length log = blocks_end_within settings here in

@@ -22,6 +22,8 @@ pub mod OneLifeRows
 pub mod Times
 pub mod CleanRounds
 pub mod CatchingUp
+pub mod InTime
+pub mod Arrivals
 pub mod WholeRecords
 pub mod Promises
 pub mod Examples

@@ -29,7 +29,7 @@ use Rattle.fio_world.proofs.WholeRecords.{whole_unless_full, gaps_name_times, wh
 use Rattle.fio_world.proofs.Times.{BlockTimely, blocks_timely, blocks_timed}
 
 -- what a block is in the record, without times
-got_entries : (stamp : ℕ) (ts : List Transition)
+pub got_entries : (stamp : ℕ) (ts : List Transition)
     → map piece_of (map (item_of stamp) (map entry_of ts)) ≡ map (λ transition. Got (entry_of transition)) ts
 got_entries stamp [] = refl
 got_entries stamp (t ∷ ts) = ap (λ ps. Got (entry_of t) ∷ ps) (got_entries stamp ts)
