@@ -57,3 +57,12 @@ KeptUpKeepsUp =
     (settings : Settings) (filter scans most : ℕ) (life later : Life) →
     AreInRange settings → IsKeptUp settings filter scans most life later →
     AtEachTime (KeepsUp settings filter scans life) later
+
+-- Where a block takes 64 entries or more, two take what the open inputs can report in the scans that
+-- one makes up for and a filter more, but one scan.
+abbrev pub TwoBlocksTakeTheRest : Type 0
+TwoBlocksTakeTheRest =
+    (settings : Settings) (filter scans : ℕ) (life : Life) →
+    64 ≤ settings.per_block → 1 ≤ filter →
+    open_inputs (filter_events life) * scans ≤ settings.per_block * filter →
+    open_inputs (filter_events life) * (scans + (filter - 1)) ≤ 2 * (settings.per_block * filter)

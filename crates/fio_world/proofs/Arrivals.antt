@@ -127,8 +127,8 @@ timed_entries block limit least (t ∷ ts) few low timely young loads =
     ap (λ item. item ∷ map (item_of block.stamp) (map entry_of ts)) here
     ∙ ap (λ its. timed_item t ∷ its) (timed_entries block limit least ts few low timely.1 young.1 loads.1)
 
--- without their times
-got_entries : (stamp : ℕ) (ts : List Transition)
+-- what a block is in the record, without times
+pub got_entries : (stamp : ℕ) (ts : List Transition)
     → map piece_of (map (item_of stamp) (map entry_of ts)) ≡ map (λ transition. Got (entry_of transition)) ts
 got_entries stamp [] = refl
 got_entries stamp (t ∷ ts) = ap (λ ps. Got (entry_of t) ∷ ps) (got_entries stamp ts)
@@ -173,7 +173,7 @@ all_recorded settings first machine b taken =
     ∙ ap (λ n. flat_map recorded_of (take n blocks)) taken
     ∙ ap (flat_map recorded_of) (take_all (length blocks) blocks (omega arith))
 
-taken_end : (settings : Settings) (machine : Machine) → machine.round ≡ length (blocks_in settings machine)
+pub taken_end : (settings : Settings) (machine : Machine) → machine.round ≡ length (blocks_in settings machine)
     → end_taken settings machine ≡ newest_end settings (life_of machine.history)
 taken_end settings machine taken =
     let blocks = blocks_in settings machine in

@@ -24,6 +24,7 @@ pub mod CleanRounds
 pub mod CatchingUp
 pub mod InTime
 pub mod Arrivals
+pub mod InAllRounds
 pub mod WholeRecords
 pub mod Promises
 pub mod Examples

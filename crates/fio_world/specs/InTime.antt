@@ -16,7 +16,7 @@ use Rattle.fio_world.specs.Link.{Machine, Leads}
 use Rattle.fio_world.specs.Claims.{blocks_in}
 use Rattle.fio_world.specs.Pieces.{Got, piece_of}
 use Rattle.fio_world.specs.Headline.{HaveNoRestart, end_taken}
-use Rattle.fio_world.specs.Delivery.{clean_round}
+use Rattle.fio_world.specs.Delivery.{clean_round, CleanRoundTakesAll, CleanRoundsCatchUp, IsWholeUnlessFull, GapsNameTimes, IsWholeWherePolledOften, IsWholeAfterOutage}
 
 -- how many scans there are among events
 abbrev pub scans_among : List Event → ℕ
@@ -133,3 +133,15 @@ RoundsKeepUp settings first machine =
     life_of now.history ≡ stretch ++ (later ++ life_of machine.history) →
     NoneIsApplied (filter_events (stretch ++ later)) →
     IsKeptUp settings filter scans (scans + scans) (life_of machine.history) (stretch ++ later)
+
+-- all that is promised of what arrives without restarts
+pub record Delivers (settings : Settings) (first : ℕ) (machine : Machine) : Type 0 where
+  pub takes_all : CleanRoundTakesAll settings first machine
+  pub catches_up : CleanRoundsCatchUp settings first machine
+  pub unless_full : IsWholeUnlessFull settings machine
+  pub gaps : GapsNameTimes settings machine
+  pub polled_often : IsWholeWherePolledOften settings machine
+  pub outage : IsWholeAfterOutage settings machine
+  pub rounds_make_blocks : RoundsMakeBlocks settings first machine
+  pub rounds_keep_up : RoundsKeepUp settings first machine
+  pub in_time : AllArrivesInTime settings first machine
