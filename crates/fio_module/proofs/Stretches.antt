@@ -41,7 +41,7 @@ end_new settings life number is =
     ap (last_end 0) (blocks_new settings life number is)
     ∙ last_end-append 0 (blocks_of settings life) (next_block settings life)
 
-behind_new : (scans : ℕ) (later life : Life) (number : ℕ) → is_new (latest_poll (later ++ life)) number ≡ true
+pub behind_new : (scans : ℕ) (later life : Life) (number : ℕ) → is_new (latest_poll (later ++ life)) number ≡ true
     → scans_behind scans (Commanded (Poll number) ∷ later) life ≡ scans_behind scans later life - scans
 behind_new scans later life number is = rw is refl
 
@@ -65,7 +65,7 @@ module _ (scans : ℕ) (life before : Life) where
       let same = behind_old scans (stretch ++ before) life number is in omega arith
 
   -- the blocks fall no more behind than there are scans
-  behind_more : (stretch : Life) → behind stretch ≤ scans_behind scans before life + scanned stretch
+  pub behind_more : (stretch : Life) → behind stretch ≤ scans_behind scans before life + scanned stretch
   behind_more [] = omega arith
   behind_more (Scanned raw ∷ stretch) = let rest = behind_more stretch in omega arith
   behind_more (Commanded (Poll number) ∷ stretch) =

@@ -8,10 +8,10 @@ use Rattle.fio_message.specs.Decoding.{command_in, block_in}
 use Rattle.fio_input.specs.Delivery.{scans_in}
 use Rattle.fio_module.specs.Settings.{Settings, AreInRange}
 use Rattle.fio_module.specs.Life.{Life, Scanned, LineSynced, Raised, Commanded, life_of, with_command, filter_events}
-use Rattle.fio_module.specs.Blocks.{blocks_of}
+use Rattle.fio_module.specs.Blocks.{latest_poll, is_new, blocks_of}
 use Rattle.fio_module.specs.Delivery.{AtEachTime}
 use Rattle.fio_module.specs.KeepingUp.{scans_behind}
-use Rattle.fio_module.proofs.Stretches.{behind_each, after_block}
+use Rattle.fio_module.proofs.Stretches.{blocks_old, behind_new, behind_more, behind_each, after_block}
 use Rattle.fio_module.proofs.Pace.{scans_in-append}
 use Rattle.fio_cpu.specs.Record.{recorded}
 use Rattle.fio_world.specs.declared.event.Event.{Event}
@@ -20,7 +20,7 @@ use Rattle.fio_world.specs.Link.{Sent, Machine, number_of, item_numbered, refusa
 use Rattle.fio_world.specs.Headline.{IsNotRestart, HaveNoRestart}
 use Rattle.fio_world.specs.Claims.{blocks_in}
 use Rattle.fio_world.specs.Delivery.{clean_round}
-use Rattle.fio_world.specs.InTime.{scans_among, LeadsInTime, MakesBlock}
+use Rattle.fio_world.specs.InTime.{scans_among, LeadsInTime, behind_after, MakesBlock}
 use Rattle.fio_world.proofs.Runs.{lead_to_one}
 use Rattle.fio_world.proofs.OneLifeRows.{kept_all}
 use Rattle.fio_world.proofs.CleanRounds.{sent_all}
@@ -118,14 +118,19 @@ grows settings first machine last (event ∷ events) none leads =
 
 -- A clean round, with what came before it.
 pub record HasStretch (settings : Settings) (first scans : ℕ) (machine begin last : Machine) : Type 0 where
-  pub stretch : Life
-  pub life : life_of last.history ≡ stretch ++ life_of machine.history
-  pub few : scans_in (filter_events stretch) ≤ scans
-  pub makes : MakesBlock settings machine last
-  pub between : IsBetween settings first last
-  -- the poll alone came since the clean round began
+  pub before : Life
   pub number : ℕ
+  pub life : life_of begin.history ≡ before ++ life_of machine.history
+  pub few : scans_in (filter_events before) ≤ scans
   pub polled : life_of last.history ≡ Commanded (commands.Poll number) ∷ life_of begin.history
+  pub makes : MakesBlock settings machine last
+  -- the CPU had taken no more blocks when the round began
+  pub round : last.round ≡ begin.round + 1
+  pub between : IsBetween settings first last
+
+-- all that happened to the module since the round before
+abbrev pub stretch_of : ℕ → Life → Life
+stretch_of number before = Commanded (commands.Poll number) ∷ before
 
 pub has_stretch : (settings : Settings) (range : AreInRange settings) (first scans : ℕ) (machine begin last : Machine)
     → IsBetween settings first machine → machine.round ≡ length (blocks_in settings machine)
@@ -141,13 +146,14 @@ has_stretch settings range first scans machine begin last b taken t leads =
     let same : found.0 ≡ last = lead_to_one settings first (clean_round begin) begin found.0 last found.1.leads leads in
     let r : HasRound settings first begin last = subst (λ (m : Machine). HasRound settings first begin m) same found.1 in
     record {
-      stretch = Commanded (commands.Poll (number_of first begin.round)) ∷ g.stretch;
-      life = r.life ∙ ap (λ l. Commanded (commands.Poll (number_of first begin.round)) ∷ l) g.life;
-      few = omega (arith, g.few, t.few);
-      makes = record { one_more = omega (arith, r.all_taken, r.round, g.round); all_taken = r.all_taken };
-      between = r.between;
+      before = g.stretch;
       number = number_of first begin.round;
+      life = g.life;
+      few = omega (arith, g.few, t.few);
       polled = r.life;
+      makes = record { one_more = omega (arith, r.all_taken, r.round, g.round); all_taken = r.all_taken };
+      round = r.round;
+      between = r.between;
     }
 
 -- what holds at the end of a clean round, and at the start: how far the blocks are behind, now and at
@@ -164,22 +170,56 @@ pub reached_start : (settings : Settings) (first scans most behind : ℕ) (machi
 reached_start settings first scans most behind machine b taken =
     record { since = refl; near = omega arith; now = omega arith; all_taken = taken; between = b }
 
--- one more clean round in time
-pub reached_next : (settings : Settings) (first scans : ℕ) (machine done begin last : Machine) (later : Life)
-    → IsReached settings first scans (scans + scans) scans machine done later
+-- how far they are behind at the end of one more clean round
+now_behind : (settings : Settings) (first : ℕ) (others : Bool) (scans : ℕ) (machine done begin last : Machine) (later : Life)
+    → (others ≡ false → blocks_in settings begin ≡ blocks_in settings done)
+    → IsReached settings first scans (scans + behind_after others scans) (behind_after others scans) machine done later
     → (s : HasStretch settings first scans done begin last)
-    → IsReached settings first scans (scans + scans) scans machine last (s.stretch ++ later)
-reached_next settings first scans machine done begin last later r s =
+    → scans_behind scans (stretch_of s.number s.before ++ later) (life_of machine.history) ≤ behind_after others scans
+now_behind settings first true scans machine done begin last later alone r s =
     let life = life_of machine.history in
-    let whole : life_of last.history ≡ (s.stretch ++ later) ++ life =
-    s.life ∙ ap (λ l. s.stretch ++ l) r.since ∙ sym (append_assoc s.stretch later life) in
-    let blocks_before : length (blocks_in settings done) ≡ length (blocks_of settings (later ++ life)) = ap (λ l. length (blocks_of settings l)) r.since in
-    let blocks_now : length (blocks_in settings last) ≡ length (blocks_of settings ((s.stretch ++ later) ++ life)) = ap (λ l. length (blocks_of settings l)) whole in
+    let stretch = stretch_of s.number s.before in
+    let whole : life_of last.history ≡ (stretch ++ later) ++ life =
+    s.polled ∙ ap (stretch_of s.number) (s.life ∙ ap (λ l. s.before ++ l) r.since ∙ sym (append_assoc s.before later life)) in
+    let blocks_before = ap (λ l. length (blocks_of settings l)) r.since in
+    let blocks_now = ap (λ l. length (blocks_of settings l)) whole in
     let one_more = s.makes.one_more in
+    let few = after_block settings scans life later stretch r.now (omega arith) in
+    omega (arith, s.few)
+now_behind settings first false scans machine done begin last later alone r s =
+    let life = life_of machine.history in
+    let here = s.before ++ later in
+    let whole : life_of begin.history ≡ here ++ life =
+    s.life ∙ ap (λ l. s.before ++ l) r.since ∙ sym (append_assoc s.before later life) in
+    let count = ap (λ l. length (blocks_of settings l)) (s.polled ∙ ap (stretch_of s.number) whole) in
+    let count_begin = ap (λ l. length (blocks_of settings l)) whole in
+    let taken = ap length (alone refl) in
+    let one_more = s.makes.one_more in
+    let new = poll_is_new settings (here ++ life) s.number (is_new (latest_poll (here ++ life)) s.number) refl (omega arith) in
+    let less = behind_new scans here life s.number new in
+    let few = behind_more scans life later s.before in
+    omega (arith, r.now, s.few)
+  where
+    poll_is_new : (settings : Settings) (life : Life) (number : ℕ) (new : Bool) → is_new (latest_poll life) number ≡ new
+        → length (blocks_of settings life) < length (blocks_of settings (Commanded (commands.Poll number) ∷ life))
+        → is_new (latest_poll life) number ≡ true
+    poll_is_new settings life number true is more = is
+    poll_is_new settings life number false is more =
+        let same = ap length (blocks_old settings life number is) in absurd (omega arith)
+
+-- one more clean round in time
+pub reached_next : (settings : Settings) (first : ℕ) (others : Bool) (scans : ℕ) (machine done begin last : Machine) (later : Life)
+    → (others ≡ false → blocks_in settings begin ≡ blocks_in settings done)
+    → IsReached settings first scans (scans + behind_after others scans) (behind_after others scans) machine done later
+    → (s : HasStretch settings first scans done begin last)
+    → IsReached settings first scans (scans + behind_after others scans) (behind_after others scans) machine last (stretch_of s.number s.before ++ later)
+reached_next settings first others scans machine done begin last later alone r s =
+    let life = life_of machine.history in
+    let stretch = stretch_of s.number s.before in
     record {
-      since = whole;
-      near = behind_each scans life later (scans + scans) s.stretch (omega (arith, r.now, s.few)) r.near;
-      now = let few = after_block settings scans life later s.stretch r.now (omega arith) in omega (arith, s.few);
+      since = s.polled ∙ ap (stretch_of s.number) (s.life ∙ ap (λ l. s.before ++ l) r.since ∙ sym (append_assoc s.before later life));
+      near = behind_each scans life later (scans + behind_after others scans) stretch (omega (arith, r.now, s.few)) r.near;
+      now = now_behind settings first others scans machine done begin last later alone r s;
       all_taken = s.makes.all_taken;
       between = s.between;
     }

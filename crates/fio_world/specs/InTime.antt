@@ -1,6 +1,6 @@
 -- The whole promise of a link that is polled in time: nothing is lost or doubled, the times are right,
 -- and how late a transition can be.
-use Rattle.std.specs.Prelude.{◌≡◌, ℕ, ◌+◌, ◌-◌, ◌*◌, ◌%◌, ◌^◌, ◌<◌, ◌≤◌, List, [], ◌∷◌, ◌++◌, map, length, take, drop, slice_get, Some}
+use Rattle.std.specs.Prelude.{◌≡◌, ℕ, ◌+◌, ◌-◌, ◌*◌, ◌%◌, ◌^◌, ◌<◌, ◌≤◌, Bool, true, false, List, [], ◌∷◌, ◌++◌, map, length, take, drop, slice_get, Some, if◌then◌else◌}
 use Rattle.std.specs.List.{AllByRecursion}
 use Rattle.fio_input.specs.Delivery.{open_inputs, OpenHaveFiltersOf, NoneIsApplied}
 use Rattle.fio_module.specs.Settings.{Settings}
@@ -33,19 +33,30 @@ pub record LeadsInTime (settings : Settings) (first scans : ℕ) (machine later 
   pub few : scans_among events ≤ scans
   pub leads : Leads settings first machine events later
 
--- Clean rounds lead from one machine to another, the first of them and each after the one before it
--- in time. These are the machines at which they begin, newest first.
-abbrev pub RoundsInTime : Settings → ℕ → ℕ → Machine → List Machine → Machine → Type 0
-RoundsInTime settings first scans machine [] last = last ≡ machine
-RoundsInTime settings first scans machine (begin ∷ begins) last =
-    (done : Machine) × RoundsInTime settings first scans machine begins done
-    × LeadsInTime settings first scans done begin
-    × Leads settings first begin (clean_round begin) last
+-- A clean round in time, and whether other polls may have made a block before it.
+pub record IsRoundInTime (settings : Settings) (first : ℕ) (others : Bool) (scans : ℕ)
+    (machine begin last : Machine) : Type 0 where
+  pub in_time : LeadsInTime settings first scans machine begin
+  pub alone : others ≡ false → blocks_in settings begin ≡ blocks_in settings machine
+  pub leads : Leads settings first begin (clean_round begin) last
+
+-- Clean rounds in time lead from one machine to another, each from where the one before it ended.
+-- These are the machines at which they begin, newest first.
+abbrev pub RoundsInTime : Settings → ℕ → Bool → ℕ → Machine → List Machine → Machine → Type 0
+RoundsInTime settings first others scans machine [] last = last ≡ machine
+RoundsInTime settings first others scans machine (begin ∷ begins) last =
+    (done : Machine) × RoundsInTime settings first others scans machine begins done
+    × IsRoundInTime settings first others scans done begin last
+
+-- how many scans the blocks are behind at most at the end of a clean round: none where clean rounds
+-- alone make blocks
+abbrev pub behind_after : Bool → ℕ → ℕ
+behind_after others scans = if others then scans else 0
 
 -- Polled in time: the CPU had taken all blocks and nothing waited. Since then a clean round has begun
 -- at least once in so many scans, in which the open inputs change no more often than a block takes,
 -- and the module has applied no configuration.
-pub record IsPolledInTime (settings : Settings) (first filter scans : ℕ)
+pub record IsPolledInTime (settings : Settings) (first filter : ℕ) (others : Bool) (scans : ℕ)
     (machine : Machine) (begins : List Machine) (last : Machine) (later : Life) : Type 0 where
   pub all_taken : machine.round ≡ length (blocks_in settings machine)
   pub nothing_waits : waiting_of settings (life_of machine.history) ≡ []
@@ -55,7 +66,7 @@ pub record IsPolledInTime (settings : Settings) (first filter scans : ℕ)
   pub enough :
       open_inputs (filter_events (life_of machine.history)) * scans
       ≤ settings.per_block * filter
-  pub rounds : RoundsInTime settings first scans machine begins last
+  pub rounds : RoundsInTime settings first others scans machine begins last
   -- what has happened to the module since then
   pub since : life_of last.history ≡ later ++ life_of machine.history
   pub not_applied : NoneIsApplied (filter_events later)
@@ -105,9 +116,11 @@ pub record HasArrived (settings : Settings) (filter most behind : ℕ)
 -- Where a link is polled in time, all arrives in time.
 abbrev pub AllArrivesInTime : Settings → ℕ → Machine → Type 0
 AllArrivesInTime settings first machine =
-    (filter scans : ℕ) (begins : List Machine) (last : Machine) (later : Life) →
-    IsPolledInTime settings first filter scans machine begins last later →
-    HasArrived settings filter (scans + scans) scans machine begins last
+    (filter : ℕ) (others : Bool) (scans : ℕ) (begins : List Machine) (last : Machine)
+    (later : Life) →
+    IsPolledInTime settings first filter others scans machine begins last later →
+    let behind = behind_after others scans in
+    HasArrived settings filter (scans + behind) behind machine begins last
 
 -- Each clean round, and what comes before it since the one before, makes a new block, which the CPU
 -- takes: where the CPU had taken all blocks, it has taken all again, and one more at least.
@@ -123,16 +136,18 @@ RoundsMakeBlocks settings first machine =
     Leads settings first begin (clean_round begin) last →
     MakesBlock settings machine last
 
--- The blocks are never more behind than twice the scans from one clean round to the next, at the last
--- of them and until the next one begins.
+-- The blocks keep up: where clean rounds alone make them, they are never more scans behind than lie
+-- between two clean rounds, and else never more than twice as many, until the next one begins.
 abbrev pub RoundsKeepUp : Settings → ℕ → Machine → Type 0
 RoundsKeepUp settings first machine =
-    (filter scans : ℕ) (begins : List Machine) (last now : Machine) (later stretch : Life) →
-    IsPolledInTime settings first filter scans machine begins last later →
+    (filter : ℕ) (others : Bool) (scans : ℕ) (begins : List Machine) (last now : Machine)
+    (later stretch : Life) →
+    IsPolledInTime settings first filter others scans machine begins last later →
     LeadsInTime settings first scans last now →
     life_of now.history ≡ stretch ++ (later ++ life_of machine.history) →
     NoneIsApplied (filter_events (stretch ++ later)) →
-    IsKeptUp settings filter scans (scans + scans) (life_of machine.history) (stretch ++ later)
+    IsKeptUp settings filter scans (scans + behind_after others scans)
+    (life_of machine.history) (stretch ++ later)
 
 -- all that is promised of what arrives without restarts
 pub record Delivers (settings : Settings) (first : ℕ) (machine : Machine) : Type 0 where

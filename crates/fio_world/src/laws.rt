@@ -9,6 +9,7 @@ ghost use Rattle.fio_world.specs.Rounds.{PollsOf, PollsReceivedHaveRounds, Newes
 ghost use Rattle.fio_world.specs.Rising.{IsRising};
 ghost use Rattle.fio_world.specs.Sound.{HoldsOfRuns, HoldsWithoutRestart, IsSoundRun, LeadToOneMachine};
 ghost use Rattle.fio_world.specs.Delivery.{CleanRoundTakesBlock, CleanRoundTakesAll, CleanRoundsCatchUp, IsWholeUnlessFull, GapsNameTimes, IsWholeWherePolledOften, IsWholeAfterOutage};
+ghost use Rattle.fio_world.specs.InTime.{RoundsMakeBlocks, RoundsKeepUp, AllArrivesInTime};
 ghost use Rattle.std.specs.List.{AllByRecursion};
 ghost use Rattle.fio_world.specs.Collected.{Collects};
 ghost use Rattle.fio_world.specs.Scripts.{Scenario};
@@ -104,6 +105,23 @@ pub fn polled_often_is_whole()
         IsWholeWherePolledOften settings machine) }
     ensures outage { HoldsWithoutRestart (λ settings first machine.
         IsWholeAfterOutage settings machine) }
+{}
+
+/// Without restarts each clean round, with what comes before it since the one before, makes a block,
+/// whatever was lost or repeated. So where clean rounds alone make blocks, these are never more scans
+/// behind than lie between two clean rounds, and never more than twice as many where other polls do.
+pub fn clean_rounds_keep_up()
+    ensures blocks { HoldsWithoutRestart RoundsMakeBlocks }
+    ensures behind { HoldsWithoutRestart RoundsKeepUp }
+{}
+
+/// Where clean rounds come at least every n scans, with k * n at most `per_block` * f, from a time on
+/// at which the CPU has taken all blocks and nothing waits, and no configuration is applied: the
+/// record gains each transition once, in order, with its time, and no gap mark; and at the end of a
+/// clean round it lacks none that was logged before the one two rounds earlier began, or more than
+/// n + f - 2 scans ago.
+pub fn all_arrives_in_time()
+    ensures { HoldsWithoutRestart AllArrivesInTime }
 {}
 
 /// Events lead to one machine at most.
