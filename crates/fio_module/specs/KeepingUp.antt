@@ -58,11 +58,13 @@ KeptUpKeepsUp =
     AreInRange settings → IsKeptUp settings filter scans most life later →
     AtEachTime (KeepsUp settings filter scans life) later
 
--- Where a block takes 64 entries or more, two take what the open inputs can report in the scans that
--- one makes up for and a filter more, but one scan.
-abbrev pub TwoBlocksTakeTheRest : Type 0
-TwoBlocksTakeTheRest =
+-- Where a block takes 64 entries or more, one takes what the open inputs can report in the scans of a
+-- filter but one, and two what they can report in the scans that a block makes up for besides.
+abbrev pub BlocksTakeTheRest : Type 0
+BlocksTakeTheRest =
     (settings : Settings) (filter scans : ℕ) (life : Life) →
     64 ≤ settings.per_block → 1 ≤ filter →
     open_inputs (filter_events life) * scans ≤ settings.per_block * filter →
-    open_inputs (filter_events life) * (scans + (filter - 1)) ≤ 2 * (settings.per_block * filter)
+    (open_inputs (filter_events life) * (0 + (filter - 1)) ≤ 1 * (settings.per_block * filter))
+    × (open_inputs (filter_events life) * (scans + (filter - 1))
+    ≤ 2 * (settings.per_block * filter))

@@ -29,7 +29,7 @@ pub record LeftOf (settings : Settings) (filter most rounds : ℕ) (begin last :
       let left = length (log_of (life_of begin.history)) - newest_end settings (life_of last.history) in
       1 ≤ left → left * filter + rounds * (settings.per_block * filter) ≤ most
 
-module _ (settings : Settings) (range : AreInRange settings) (first filter : ℕ) (others : Bool) (scans : ℕ) (machine : Machine)
+module _ (settings : Settings) (range : AreInRange settings) (first filter : ℕ) (untaken : Bool) (scans : ℕ) (machine : Machine)
     (b : IsBetween settings first machine) (taken : machine.round ≡ length (blocks_in settings machine))
     (nothing : waiting_of settings (life_of machine.history) ≡ []) (some : 1 ≤ filter)
     (filters : OpenHaveFiltersOf (filter_events (life_of machine.history)) filter)
@@ -42,7 +42,7 @@ module _ (settings : Settings) (range : AreInRange settings) (first filter : ℕ
 
   -- how many scans the blocks are behind at most at the end of a clean round
   abbrev behind : ℕ
-  behind = behind_after others scans
+  behind = behind_after untaken scans
 
   abbrev Reached : Machine → Life → Type 0
   Reached last later = IsReached settings first scans (scans + behind) behind machine last later
@@ -53,7 +53,7 @@ module _ (settings : Settings) (range : AreInRange settings) (first filter : ℕ
       → IsKeptUp settings filter scans (scans + behind) life later
   kept_up later none near =
       let room = has_room settings range filter scans 2 opened some (omega arith) (open_inputs-few (filter_events life)) enough in
-      let twice : opened * (scans + behind + (filter - 1)) ≤ opened * (2 * scans + (filter - 1)) = mul-le-mul_left opened (few_behind others) in
+      let twice : opened * (scans + behind + (filter - 1)) ≤ opened * (2 * scans + (filter - 1)) = mul-le-mul_left opened (few_behind untaken) in
       record {
         nothing_waits = nothing;
         some = some;
@@ -64,7 +64,7 @@ module _ (settings : Settings) (range : AreInRange settings) (first filter : ℕ
         room = omega arith;
       }
     where
-      few_behind : (others : Bool) → scans + behind_after others scans + (filter - 1) ≤ 2 * scans + (filter - 1)
+      few_behind : (untaken : Bool) → scans + behind_after untaken scans + (filter - 1) ≤ 2 * scans + (filter - 1)
       few_behind true = omega arith
       few_behind false = omega arith
 
@@ -120,10 +120,10 @@ module _ (settings : Settings) (range : AreInRange settings) (first filter : ℕ
         → LeftOf settings filter (opened * (behind + (filter - 1))) rounds begin last
 
   chain_next : (begin : Machine) (begins : List Machine) (done last : Machine)
-      → (others ≡ false → blocks_in settings begin ≡ blocks_in settings done) → HasStretch settings first scans done begin last
+      → (untaken ≡ false → begin.round ≡ length (blocks_in settings begin)) → HasStretch settings first scans done begin last
       → HasChain begins done → HasChain (begin ∷ begins) last
-  chain_next begin begins done last alone s c =
-      let r = reached_next settings first others scans machine done begin last c.later alone c.reached s in
+  chain_next begin begins done last all_taken s c =
+      let r = reached_next settings first untaken scans machine done begin last c.later all_taken c.reached s in
       record { later = stretch_of s.number s.before ++ c.later; reached = r; through = through r }
     where
       through : Reached last (stretch_of s.number s.before ++ c.later)
@@ -140,7 +140,7 @@ module _ (settings : Settings) (range : AreInRange settings) (first filter : ℕ
           (left_then earlier begin last done rounds (opened * (behind + (filter - 1))) s
           (c.through (none_before (stretch_of s.number s.before) c.later none) rounds earlier is))
 
-  pub has_chain : (begins : List Machine) (last : Machine) → RoundsInTime settings first others scans machine begins last
+  pub has_chain : (begins : List Machine) (last : Machine) → RoundsInTime settings first untaken scans machine begins last
       → HasChain begins last
   has_chain [] last rounds =
       let start : HasChain [] machine = record {
@@ -153,7 +153,7 @@ module _ (settings : Settings) (range : AreInRange settings) (first filter : ℕ
       let done = rounds.0 in
       let c = has_chain begins done rounds.1 in
       let s = has_stretch settings range first scans done begin last c.reached.between c.reached.all_taken rounds.2.in_time rounds.2.leads in
-      chain_next begin begins done last rounds.2.alone s c
+      chain_next begin begins done last rounds.2.all_taken s c
 
   -- so where nothing can be left after so many blocks, nothing is
   none_left : (rounds : ℕ) (begin last : Machine) → last.round ≡ length (blocks_in settings last)
@@ -163,16 +163,16 @@ module _ (settings : Settings) (range : AreInRange settings) (first filter : ℕ
   none_left rounds begin last all l few =
       let left = length (log_of (life_of begin.history)) - newest_end settings (life_of last.history) in
       none left (length (log_of (life_of begin.history))) (newest_end settings (life_of last.history)) refl (λ some_left.
-          let product : 1 * filter ≤ left * filter = mul-le-mul_right filter some_left in
-          let too_many = l.few some_left in
-          absurd (omega arith))
+      let product : 1 * filter ≤ left * filter = mul-le-mul_right filter some_left in
+      let too_many = l.few some_left in
+      absurd (omega arith))
     where
       none : (left logged end : ℕ) → left ≡ logged - end → (1 ≤ left → ⊥) → logged ≤ end
       none zero logged end is not = omega arith
       none (suc left) logged end is not = absurd (not (omega arith))
 
   -- what has arrived
-  pub arrives : (begins : List Machine) (last : Machine) (later : Life) → RoundsInTime settings first others scans machine begins last
+  pub arrives : (begins : List Machine) (last : Machine) (later : Life) → RoundsInTime settings first untaken scans machine begins last
       → life_of last.history ≡ later ++ life → NoneIsApplied (filter_events later)
       → HasArrived settings filter (scans + behind) behind machine begins last
   arrives begins last later rounds since none =
@@ -192,7 +192,7 @@ module _ (settings : Settings) (range : AreInRange settings) (first filter : ℕ
 
   -- and until the next clean round begins
   pub keeps_up : (begins : List Machine) (last now : Machine) (later stretch : Life)
-      → RoundsInTime settings first others scans machine begins last → life_of last.history ≡ later ++ life
+      → RoundsInTime settings first untaken scans machine begins last → life_of last.history ≡ later ++ life
       → LeadsInTime settings first scans last now
       → life_of now.history ≡ stretch ++ (later ++ life) → NoneIsApplied (filter_events (stretch ++ later))
       → IsKeptUp settings filter scans (scans + behind) life (stretch ++ later)

@@ -124,7 +124,7 @@ pub record HasStretch (settings : Settings) (first scans : ℕ) (machine begin l
   pub few : scans_in (filter_events before) ≤ scans
   pub polled : life_of last.history ≡ Commanded (commands.Poll number) ∷ life_of begin.history
   pub makes : MakesBlock settings machine last
-  -- the CPU had taken no more blocks when the round began
+  -- the CPU has taken one more block since the round began
   pub round : last.round ≡ begin.round + 1
   pub between : IsBetween settings first last
 
@@ -171,12 +171,12 @@ reached_start settings first scans most behind machine b taken =
     record { since = refl; near = omega arith; now = omega arith; all_taken = taken; between = b }
 
 -- how far they are behind at the end of one more clean round
-now_behind : (settings : Settings) (first : ℕ) (others : Bool) (scans : ℕ) (machine done begin last : Machine) (later : Life)
-    → (others ≡ false → blocks_in settings begin ≡ blocks_in settings done)
-    → IsReached settings first scans (scans + behind_after others scans) (behind_after others scans) machine done later
+now_behind : (settings : Settings) (first : ℕ) (untaken : Bool) (scans : ℕ) (machine done begin last : Machine) (later : Life)
+    → (untaken ≡ false → begin.round ≡ length (blocks_in settings begin))
+    → IsReached settings first scans (scans + behind_after untaken scans) (behind_after untaken scans) machine done later
     → (s : HasStretch settings first scans done begin last)
-    → scans_behind scans (stretch_of s.number s.before ++ later) (life_of machine.history) ≤ behind_after others scans
-now_behind settings first true scans machine done begin last later alone r s =
+    → scans_behind scans (stretch_of s.number s.before ++ later) (life_of machine.history) ≤ behind_after untaken scans
+now_behind settings first true scans machine done begin last later all_taken r s =
     let life = life_of machine.history in
     let stretch = stretch_of s.number s.before in
     let whole : life_of last.history ≡ (stretch ++ later) ++ life =
@@ -186,15 +186,16 @@ now_behind settings first true scans machine done begin last later alone r s =
     let one_more = s.makes.one_more in
     let few = after_block settings scans life later stretch r.now (omega arith) in
     omega (arith, s.few)
-now_behind settings first false scans machine done begin last later alone r s =
+now_behind settings first false scans machine done begin last later all_taken r s =
     let life = life_of machine.history in
     let here = s.before ++ later in
     let whole : life_of begin.history ≡ here ++ life =
     s.life ∙ ap (λ l. s.before ++ l) r.since ∙ sym (append_assoc s.before later life) in
     let count = ap (λ l. length (blocks_of settings l)) (s.polled ∙ ap (stretch_of s.number) whole) in
     let count_begin = ap (λ l. length (blocks_of settings l)) whole in
-    let taken = ap length (alone refl) in
-    let one_more = s.makes.one_more in
+    let taken = all_taken refl in
+    let one_more = s.round in
+    let all = s.makes.all_taken in
     let new = poll_is_new settings (here ++ life) s.number (is_new (latest_poll (here ++ life)) s.number) refl (omega arith) in
     let less = behind_new scans here life s.number new in
     let few = behind_more scans life later s.before in
@@ -208,18 +209,18 @@ now_behind settings first false scans machine done begin last later alone r s =
         let same = ap length (blocks_old settings life number is) in absurd (omega arith)
 
 -- one more clean round in time
-pub reached_next : (settings : Settings) (first : ℕ) (others : Bool) (scans : ℕ) (machine done begin last : Machine) (later : Life)
-    → (others ≡ false → blocks_in settings begin ≡ blocks_in settings done)
-    → IsReached settings first scans (scans + behind_after others scans) (behind_after others scans) machine done later
+pub reached_next : (settings : Settings) (first : ℕ) (untaken : Bool) (scans : ℕ) (machine done begin last : Machine) (later : Life)
+    → (untaken ≡ false → begin.round ≡ length (blocks_in settings begin))
+    → IsReached settings first scans (scans + behind_after untaken scans) (behind_after untaken scans) machine done later
     → (s : HasStretch settings first scans done begin last)
-    → IsReached settings first scans (scans + behind_after others scans) (behind_after others scans) machine last (stretch_of s.number s.before ++ later)
-reached_next settings first others scans machine done begin last later alone r s =
+    → IsReached settings first scans (scans + behind_after untaken scans) (behind_after untaken scans) machine last (stretch_of s.number s.before ++ later)
+reached_next settings first untaken scans machine done begin last later all_taken r s =
     let life = life_of machine.history in
     let stretch = stretch_of s.number s.before in
     record {
       since = s.polled ∙ ap (stretch_of s.number) (s.life ∙ ap (λ l. s.before ++ l) r.since ∙ sym (append_assoc s.before later life));
-      near = behind_each scans life later (scans + behind_after others scans) stretch (omega (arith, r.now, s.few)) r.near;
-      now = now_behind settings first others scans machine done begin last later alone r s;
+      near = behind_each scans life later (scans + behind_after untaken scans) stretch (omega (arith, r.now, s.few)) r.near;
+      now = now_behind settings first untaken scans machine done begin last later all_taken r s;
       all_taken = s.makes.all_taken;
       between = s.between;
     }

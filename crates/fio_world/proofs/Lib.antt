@@ -27,6 +27,7 @@ pub mod CatchingUp
 pub mod InTime
 pub mod Arrivals
 pub mod InAllRounds
+pub mod MovedScans
 pub mod WholeRecords
 pub mod Promises
 pub mod Examples

@@ -120,11 +120,11 @@ module _ (settings : Settings) (range : AreInRange settings) (first : ℕ) (mach
         outage = whole_after_outage settings machine pieces;
         rounds_make_blocks = λ scans begin last taken t leads.
             (has_stretch settings range first scans machine begin last between taken t leads).makes;
-        rounds_keep_up = λ filter others scans begins last now later stretch p t is none.
-            keeps_up settings range first filter others scans machine between p.all_taken p.nothing_waits p.some p.filters p.enough
+        rounds_keep_up = λ filter untaken scans begins last now later stretch p t is none.
+            keeps_up settings range first filter untaken scans machine between p.all_taken p.nothing_waits p.some p.filters p.enough
             begins last now later stretch p.rounds p.since t is none;
-        in_time = λ filter others scans begins last later p.
-            arrives settings range first filter others scans machine between p.all_taken p.nothing_waits p.some p.filters p.enough
+        in_time = λ filter untaken scans begins last later p.
+            arrives settings range first filter untaken scans machine between p.all_taken p.nothing_waits p.some p.filters p.enough
             begins last later p.rounds p.since p.not_applied;
       }
 

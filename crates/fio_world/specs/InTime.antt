@@ -11,7 +11,7 @@ use Rattle.fio_module.specs.KeepingUp.{IsKeptUp, IsYoung}
 use Rattle.fio_cpu.specs.declared.items.Item.{Item}
 use Rattle.fio_cpu.specs.declared.items.Item.TheVariants as items
 use Rattle.fio_world.specs.declared.event.Event.{Event}
-use Rattle.fio_world.specs.declared.event.Event.TheVariants.{Scan}
+use Rattle.fio_world.specs.declared.event.Event.TheVariants.{Scan, LineSync, Raise, Poll, ToModule, ToCpu}
 use Rattle.fio_world.specs.Link.{Machine, Leads}
 use Rattle.fio_world.specs.Claims.{blocks_in}
 use Rattle.fio_world.specs.Pieces.{Got, piece_of}
@@ -33,30 +33,30 @@ pub record LeadsInTime (settings : Settings) (first scans : ℕ) (machine later 
   pub few : scans_among events ≤ scans
   pub leads : Leads settings first machine events later
 
--- A clean round in time, and whether other polls may have made a block before it.
-pub record IsRoundInTime (settings : Settings) (first : ℕ) (others : Bool) (scans : ℕ)
+-- A clean round in time. Where `untaken` is false, the CPU has taken all blocks when it begins.
+pub record IsRoundInTime (settings : Settings) (first : ℕ) (untaken : Bool) (scans : ℕ)
     (machine begin last : Machine) : Type 0 where
   pub in_time : LeadsInTime settings first scans machine begin
-  pub alone : others ≡ false → blocks_in settings begin ≡ blocks_in settings machine
+  pub all_taken : untaken ≡ false → begin.round ≡ length (blocks_in settings begin)
   pub leads : Leads settings first begin (clean_round begin) last
 
 -- Clean rounds in time lead from one machine to another, each from where the one before it ended.
 -- These are the machines at which they begin, newest first.
 abbrev pub RoundsInTime : Settings → ℕ → Bool → ℕ → Machine → List Machine → Machine → Type 0
-RoundsInTime settings first others scans machine [] last = last ≡ machine
-RoundsInTime settings first others scans machine (begin ∷ begins) last =
-    (done : Machine) × RoundsInTime settings first others scans machine begins done
-    × IsRoundInTime settings first others scans done begin last
+RoundsInTime settings first untaken scans machine [] last = last ≡ machine
+RoundsInTime settings first untaken scans machine (begin ∷ begins) last =
+    (done : Machine) × RoundsInTime settings first untaken scans machine begins done
+    × IsRoundInTime settings first untaken scans done begin last
 
--- how many scans the blocks are behind at most at the end of a clean round: none where clean rounds
--- alone make blocks
+-- how many scans the blocks are behind at most at the end of a clean round: none where each clean
+-- round makes one
 abbrev pub behind_after : Bool → ℕ → ℕ
-behind_after others scans = if others then scans else 0
+behind_after untaken scans = if untaken then scans else 0
 
 -- Polled in time: the CPU had taken all blocks and nothing waited. Since then a clean round has begun
 -- at least once in so many scans, in which the open inputs change no more often than a block takes,
 -- and the module has applied no configuration.
-pub record IsPolledInTime (settings : Settings) (first filter : ℕ) (others : Bool) (scans : ℕ)
+pub record IsPolledInTime (settings : Settings) (first filter : ℕ) (untaken : Bool) (scans : ℕ)
     (machine : Machine) (begins : List Machine) (last : Machine) (later : Life) : Type 0 where
   pub all_taken : machine.round ≡ length (blocks_in settings machine)
   pub nothing_waits : waiting_of settings (life_of machine.history) ≡ []
@@ -66,7 +66,7 @@ pub record IsPolledInTime (settings : Settings) (first filter : ℕ) (others : B
   pub enough :
       open_inputs (filter_events (life_of machine.history)) * scans
       ≤ settings.per_block * filter
-  pub rounds : RoundsInTime settings first others scans machine begins last
+  pub rounds : RoundsInTime settings first untaken scans machine begins last
   -- what has happened to the module since then
   pub since : life_of last.history ≡ later ++ life_of machine.history
   pub not_applied : NoneIsApplied (filter_events later)
@@ -116,10 +116,10 @@ pub record HasArrived (settings : Settings) (filter most behind : ℕ)
 -- Where a link is polled in time, all arrives in time.
 abbrev pub AllArrivesInTime : Settings → ℕ → Machine → Type 0
 AllArrivesInTime settings first machine =
-    (filter : ℕ) (others : Bool) (scans : ℕ) (begins : List Machine) (last : Machine)
+    (filter : ℕ) (untaken : Bool) (scans : ℕ) (begins : List Machine) (last : Machine)
     (later : Life) →
-    IsPolledInTime settings first filter others scans machine begins last later →
-    let behind = behind_after others scans in
+    IsPolledInTime settings first filter untaken scans machine begins last later →
+    let behind = behind_after untaken scans in
     HasArrived settings filter (scans + behind) behind machine begins last
 
 -- Each clean round, and what comes before it since the one before, makes a new block, which the CPU
@@ -136,18 +136,36 @@ RoundsMakeBlocks settings first machine =
     Leads settings first begin (clean_round begin) last →
     MakesBlock settings machine last
 
--- The blocks keep up: where clean rounds alone make them, they are never more scans behind than lie
--- between two clean rounds, and else never more than twice as many, until the next one begins.
+-- The blocks keep up: they are never more scans behind than lie between two clean rounds, and twice as
+-- many where a clean round may begin before the CPU has taken all, until the next one begins.
 abbrev pub RoundsKeepUp : Settings → ℕ → Machine → Type 0
 RoundsKeepUp settings first machine =
-    (filter : ℕ) (others : Bool) (scans : ℕ) (begins : List Machine) (last now : Machine)
+    (filter : ℕ) (untaken : Bool) (scans : ℕ) (begins : List Machine) (last now : Machine)
     (later stretch : Life) →
-    IsPolledInTime settings first filter others scans machine begins last later →
+    IsPolledInTime settings first filter untaken scans machine begins last later →
     LeadsInTime settings first scans last now →
     life_of now.history ≡ stretch ++ (later ++ life_of machine.history) →
     NoneIsApplied (filter_events (stretch ++ later)) →
-    IsKeptUp settings filter scans (scans + behind_after others scans)
+    IsKeptUp settings filter scans (scans + behind_after untaken scans)
     (life_of machine.history) (stretch ++ later)
+
+-- an event that reaches the module past the bus: a scan, a line sync, flags that are raised
+abbrev pub ReachesModule : Event → Type 0
+ReachesModule (Scan raw) = Unit {0}
+ReachesModule LineSync = Unit {0}
+ReachesModule (Raise mask) = Unit {0}
+ReachesModule other = ⊥
+
+-- A poll and its answer take their time: scans after the poll is sent and before it is received lead
+-- where they lead before it is sent, and scans before the answer is received where they lead after.
+abbrev pub ScansMoveOut : Settings → ℕ → Machine → Type 0
+ScansMoveOut settings first machine =
+    (before later : List Event) (command answer : ℕ) (last : Machine) →
+    AllByRecursion ReachesModule before → AllByRecursion ReachesModule later →
+    Leads settings first machine
+    (Poll ∷ (before ++ ToModule command ∷ (later ++ ToCpu answer ∷ []))) last →
+    Leads settings first machine
+    (before ++ Poll ∷ ToModule command ∷ ToCpu answer ∷ later) last
 
 -- all that is promised of what arrives without restarts
 pub record Delivers (settings : Settings) (first : ℕ) (machine : Machine) : Type 0 where
