@@ -13,7 +13,7 @@ use Rattle.fio_tool.specs.TranscriptTexts.{TellsOf, verdict_text, is_good}
 use Rattle.fio_tool.specs.declared.transcript.reading.TraceError.{TraceError}
 use Rattle.fio_tool.specs.declared.transcript.reading.TraceError.TheVariants.{BadLine, Memory}
 use Rattle.fio_tool.specs.declared.transcript.rules.Rule.{Rule}
-use Rattle.fio_tool.specs.declared.transcript.rules.Verdict.TheVariants.{Good, Broken}
+use Rattle.fio_tool.specs.declared.transcript.verdict.Verdict.TheVariants.{Good, Broken}
 
 -- ---- numbers and options
 

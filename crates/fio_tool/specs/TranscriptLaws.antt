@@ -3,7 +3,7 @@ use Rattle.std.specs.Prelude.{◌≡◌, ◌↔◌, ℕ, ◌<◌, Bool, List, Op
 use Rattle.fio_tool.specs.Transcript.{TraceLine, Placed, latest_above}
 use Rattle.fio_tool.specs.TranscriptRules.{IsVerdict}
 use Rattle.fio_tool.specs.TranscriptTexts.{IsCheckText}
-use Rattle.fio_tool.specs.declared.transcript.rules.Verdict.{Verdict}
+use Rattle.fio_tool.specs.declared.transcript.verdict.Verdict.{Verdict}
 
 -- it is said at its place, above this one, and not again between the two
 pub record IsLatestAbove {A : Type 0} (said : ℕ → Option A) (place : ℕ) (found : Placed A)

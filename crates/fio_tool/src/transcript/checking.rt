@@ -2,8 +2,9 @@
 ghost use Rattle.std.specs.Prelude.{◌≡◌, ◌++◌, IfOk, OnOk, string_bytes};
 ghost use Rattle.fio_tool.specs.TranscriptTexts.{IsCheckText, is_good, rule_name, verdict_text};
 
-use super::reading::{TraceError, read_trace};
-use super::rules::{Rule, Verdict, check_trace};
+use super::one_pass::{BadLine, check_lines};
+use super::rules::Rule;
+use super::verdict::Verdict;
 use crate::inputs::{is_too_long, report_too_long};
 use fio_message::Memory;
 use fio_world::Report;
@@ -23,17 +24,15 @@ pub fn check_text(alloc: Global, input: &[u8]) -> Result<Report, Memory>
         return report_too_long(alloc);
     }
     let mut text = String::new(alloc);
-    let good = match read_trace(alloc, input) {
-        Ok(lines) => {
-            let verdict = check_trace(lines.as_slice());
+    let good = match check_lines(input) {
+        Ok(verdict) => {
             push_verdict(&mut text, verdict)?;
             matches!(verdict, Verdict::Good { .. })
         }
-        Err(TraceError::BadLine { line }) => {
+        Err(BadLine { line }) => {
             write!(text, "line {line}: bad line\n")?;
             false
         }
-        Err(TraceError::Memory) => return Err(Memory),
     };
     Ok(Report {
         text: text.into_bytes(),
