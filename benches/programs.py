@@ -75,8 +75,8 @@ class Bench:
             for place, program in enumerate(programs):
                 line = succeed([self.runner, path, 1, program, word])
                 runs[place].append([int(number) for number in line.split()])
-        return [(statistics.median(run[0] for run in some) / 1e6, statistics.median(run[1] for run in some) / 1e3)
-                for some in runs]
+        return [(statistics.median(run[0] for run in some) / 1e6,
+                 statistics.median(run[1] for run in some) * 1024 / 1e6) for some in runs]
 
 
 def folder_for_work():
