@@ -78,6 +78,17 @@ def of_growth(bench, pair):
     return table(['Input', *heads], rows)
 
 
+def of_profile(bench, program):
+    """The functions that take most of the instructions of each input, a function with those that it has inlined."""
+    rows = []
+    for name in workloads.NAMES:
+        path = bench.keep(name, workloads.make(name))
+        if bench.instructions(program, name.split('-', maxsplit=1)[0], path) is None:
+            return ''
+        rows.append([name, ', '.join(f'`{call}` {share:.0f} %' for share, call in bench.shares()[:6] if share >= 2)])
+    return table(['Input', 'functions'], rows).replace('---:', '---')
+
+
 def of_calls(found):
     """Nanoseconds of each call."""
     rows = [[f'`{call}`', case, *compared([one.get((call, case)) for one in found], 1)] for call, case in found[0]]
