@@ -1,6 +1,8 @@
 pub mod LineLemmas
 pub mod CollectedLemmas
 pub mod DigitLemmas
+pub mod OctetLemmas
+pub mod FrameWords
 pub mod RoomLemmas
 pub mod Places
 pub mod RoundNumbers
@@ -21,6 +23,9 @@ pub mod Runs
 pub mod OneLife
 pub mod OneLifeRows
 pub mod Times
+pub mod CleanRounds
+pub mod CatchingUp
+pub mod WholeRecords
 pub mod Promises
 pub mod Examples
 pub mod EndToEndLemmas

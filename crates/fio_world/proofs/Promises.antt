@@ -16,12 +16,16 @@ use Rattle.fio_world.specs.Headline.{RecordIsLog, Headline}
 use Rattle.fio_world.specs.Claims.{blocks_in, StandsAtTaken, RestIsTold, HasTimes, IsTimed, sources_of}
 use Rattle.fio_world.specs.Rounds.{next_round, PollsOf, PollsReceivedHaveRounds, NewestPollMadeNewestBlock, BlockAnswersOf, AnswersCarryBlocks}
 use Rattle.fio_world.specs.Rising.{IsRising}
+use Rattle.fio_world.specs.Delivery.{CleanRoundTakesBlock, Delivers}
 use Rattle.fio_world.specs.Sound.{IsSound, IsSoundRun, HoldsOfRuns, HoldsWithoutRestart}
 use Rattle.fio_world.proofs.MadeBlocks.{each-take}
 use Rattle.fio_world.proofs.PieceLaws.{taken_are_pieces, pieces_begin_log}
 use Rattle.fio_world.proofs.Runs.{invariant, rising, in_sequence, takes}
 use Rattle.fio_world.proofs.OneLife.{recorded_of}
 use Rattle.fio_world.proofs.OneLifeRows.{IsKept, kept, carries_own}
+use Rattle.fio_world.proofs.CleanRounds.{LastWereSent, last_were_sent, clean_round_takes_block}
+use Rattle.fio_world.proofs.CatchingUp.{IsBetween, clean_round_takes_all, clean_rounds_catch_up}
+use Rattle.fio_world.proofs.WholeRecords.{whole_unless_full, gaps_name_times, whole_where_polled_often, whole_after_outage}
 use Rattle.fio_world.proofs.Times.{BlockTimely, blocks_timely, blocks_timed}
 
 -- what a block is in the record, without times
@@ -70,7 +74,7 @@ rest_is_told settings life =
       few_wait = omega (arith, waiting);
     }
 
-module _ (settings : Settings) (range : AreInRange settings) (first : ℕ) (machine : Machine) (k : IsKept settings first machine) where
+module _ (settings : Settings) (range : AreInRange settings) (first : ℕ) (machine : Machine) (s : LastWereSent machine) (k : IsKept settings first machine) where
   -- the CPU has taken no more blocks than were made
   behind : machine.round ≤ length (blocks_in settings machine)
   behind = let made = k.one_life.in_life.made in omega (arith, k.always.answers.behind)
@@ -104,6 +108,20 @@ module _ (settings : Settings) (range : AreInRange settings) (first : ℕ) (mach
       (blocks_timed (take machine.round blocks)
       (each-take BlockTimely machine.round blocks (blocks_timely settings (life_of machine.history))))
 
+  -- what arrives
+  delivers : Delivers settings first machine
+  delivers =
+      let between : IsBetween settings first machine = record { sent = s; kept = k } in
+      let pieces = record_is_log.pieces in
+      record {
+        takes_all = clean_round_takes_all settings range first machine between;
+        catches_up = clean_rounds_catch_up settings range first machine between;
+        unless_full = whole_unless_full settings machine pieces;
+        gaps = gaps_name_times settings machine pieces;
+        polled_often = whole_where_polled_often settings range machine pieces;
+        outage = whole_after_outage settings machine pieces;
+      }
+
   -- all that is promised without restarts
   pub sound : IsSound settings first machine
   sound =
@@ -115,18 +133,21 @@ module _ (settings : Settings) (range : AreInRange settings) (first : ℕ) (mach
         in_sequence = in_sequence settings first machine k.always;
         again = k.one_life.in_life.again;
         times = times;
+        delivers = delivers;
       }
 
 -- every run is sound
 pub runs_are_sound : HoldsOfRuns IsSoundRun
 runs_are_sound settings first events machine range run =
     let i = invariant settings range first events machine run in
+    let s = last_were_sent settings first events machine run in
     record {
       is_run = run;
       rising = rising settings first machine i;
       takes = takes settings range first machine i;
       in_sequence = in_sequence settings first machine i;
-      sound = λ none. sound settings range first machine (kept settings range first events machine run none);
+      clean_round = clean_round_takes_block settings range first machine s;
+      sound = λ none. sound settings range first machine s (kept settings range first events machine run none);
     }
 
 -- the headline
@@ -158,3 +179,12 @@ pub answers_carry_blocks : HoldsWithoutRestart AnswersCarryBlocks
 answers_carry_blocks settings first events machine range run none place answer round has =
     let k = kept settings range first events machine run none in
     carries_own settings range first machine k.always k.one_life place answer round has
+
+-- what arrives
+pub clean_rounds_take_blocks : HoldsOfRuns (λ settings first events machine. CleanRoundTakesBlock settings first machine)
+clean_rounds_take_blocks settings first events machine range run =
+    (runs_are_sound settings first events machine range run).clean_round
+
+pub what_arrives : HoldsWithoutRestart Delivers
+what_arrives settings first events machine range run none =
+    ((runs_are_sound settings first events machine range run).sound none).delivers

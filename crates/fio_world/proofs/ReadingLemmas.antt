@@ -1,9 +1,21 @@
-use Rattle.std.proofs.Common.{◌≡◌, ℕ, ◌+◌, ◌-◌, ◌<◌, zero, suc, Bool, List, [], ◌∷◌, ◌++◌, Result, Ok, Err, refl, ap, sym, append_assoc, append-nil, arith}
+use Rattle.std.proofs.Common.{◌≡◌, ◌≢◌, ℕ, ◌+◌, ◌-◌, ◌<◌, ◌≤◌, length, map, take, zero, suc, Bool, true, false, List, [], ◌∷◌, ◌++◌, Option, Some, None, Result, Ok, Err, codes, refl, ap, sym, append_assoc, append-nil, arith, ◌∙◌}
+use Rattle.std.specs.Option.{option_map_or, ok_or}
+use Rattle.std.proofs.lemmas.List.{take_all, drop_all, length-map, map-append}
+use Rattle.fio_message.specs.Decoding.{decoded_command}
+use Rattle.fio_message.specs.declared.commands.Command.{Command}
+use Rattle.fio_message.specs.declared.faults.DecodeError.{DecodeError}
+use Rattle.fio_module.specs.Settings.{settings_with}
 use Rattle.fio_world.specs.Collected.{collected, with_first}
-use Rattle.fio_world.specs.EventLines.{event_at}
-use Rattle.fio_world.specs.Scripts.{readings}
+use Rattle.fio_world.specs.EventLines.{event_at, plain_event, frame_at, sending_at}
+use Rattle.fio_world.specs.Headers.{header_of}
+use Rattle.fio_world.specs.Hexadecimal.{octets_in}
+use Rattle.fio_world.specs.Lines.{is_skipped, numbered}
+use Rattle.fio_world.specs.Scripts.{Scenario, readings, events_of, HasGoodFront, HaveGoodFront}
+use Rattle.fio_world.specs.Words.{after_prefix}
 use Rattle.fio_world.specs.declared.event.Event.{Event}
+use Rattle.fio_world.specs.declared.headers.Header.{Header}
 use Rattle.fio_world.specs.declared.script.ScriptError.{ScriptError}
+use Rattle.fio_world.specs.declared.script.ScriptError.TheVariants.{BadLine, Memory}
 
 -- no value in front of what comes changes nothing
 with_first-none : {A E : Type 0} (more : Result (List A) E) → with_first [] more ≡ more
@@ -52,3 +64,92 @@ pub read_on-fault : (events : List Event) (count : ℕ) (restarts : Bool) (left 
     → read_on events count restarts left ≡ Err fault
 read_on-fault events count restarts left line lines fault first few gives =
     rw (first, readings-first count restarts line lines few, gives) refl
+
+-- lines that give these events stand above the lines that are left
+pub record HaveRead (restarts : Bool) (all left : List (ℕ × List ℕ)) (events : List Event) : Type 0 where
+  pub above : List (ℕ × List ℕ)
+  pub all_are : all ≡ above ++ left
+  pub give : map (event_at restarts) above ≡ map Ok events
+
+-- above the first line there is none
+pub HaveRead-start : (restarts : Bool) (all left : List (ℕ × List ℕ)) (events : List Event)
+    → left ≡ all → events ≡ [] → HaveRead restarts all left events
+HaveRead-start restarts all left events same none = record { above = []; all_are = sym same; give = rw none refl }
+
+-- a line that is read joins those above
+pub HaveRead-event : (restarts : Bool) (all left lines : List (ℕ × List ℕ)) (events : List Event) (line : ℕ × List ℕ) (event : Event)
+    → HaveRead restarts all left events → left ≡ line ∷ lines → event_at restarts line ≡ Ok event
+    → HaveRead restarts all lines (events ++ event ∷ [])
+HaveRead-event restarts all left lines events line event read first gives = record {
+  above = read.above ++ line ∷ [];
+  all_are = read.all_are ∙ ap (λ ls. read.above ++ ls) first ∙ sym (append_assoc read.above (line ∷ []) lines);
+  give = rw (map-append, map-append, read.give, gives) refl;
+}
+
+-- the first of some numbered lines are the numbered lines of some first lines
+numbered-front : (number : ℕ) (lines : List (List ℕ)) (above left : List (ℕ × List ℕ)) → numbered number lines ≡ above ++ left
+    → (count : ℕ) × (numbered number (take count lines) ≡ above)
+numbered-front number lines [] left same = (0, refl)
+numbered-front number [] (first ∷ above) left same = absurd (cc same)
+numbered-front number (line ∷ lines) (first ∷ above) left same =
+    in_front (is_skipped line) refl (numbered-front (suc number) lines) where
+  in_front : (skipped : Bool) → is_skipped line ≡ skipped
+      → ((above left : List (ℕ × List ℕ)) → numbered (suc number) lines ≡ above ++ left
+      → (count : ℕ) × (numbered (suc number) (take count lines) ≡ above))
+      → (count : ℕ) × (numbered number (take count (line ∷ lines)) ≡ first ∷ above)
+  in_front true says further =
+      let rest = further (first ∷ above) left (rw says at same) in
+      (suc rest.0, rw says rest.1)
+  in_front false says further =
+      let here : (number, line) ∷ numbered (suc number) lines ≡ first ∷ (above ++ left) = rw says at same in
+      let rest = further above left (cc here) in
+      let line_is : (number, line) ≡ first = cc here in
+      (suc rest.0, rw (says, rest.1, line_is) refl)
+
+collected-values : (events : List Event) → collected (map {B = Result Event ScriptError} Ok events) ≡ Ok events
+collected-values [] = refl
+collected-values (event ∷ events) = rw (collected-values events) refl
+
+readings-few : (restarts : Bool) (lines : List (ℕ × List ℕ)) → length lines ≤ 10000
+    → readings 10000 restarts lines ≡ map (event_at restarts) lines
+readings-few restarts lines few = rw (take_all 10000 lines few, drop_all 10000 lines few) (append-nil (map (event_at restarts) lines))
+
+-- where at most 10,000 lines have given events, those lines are a good front
+pub good_front : (restarts : Bool) (lines : List (List ℕ)) (left : List (ℕ × List ℕ)) (events : List Event)
+    → HaveRead restarts (numbered 2 lines) left events → length events ≤ 10000 → events ≢ []
+    → HaveGoodFront restarts lines
+good_front restarts lines left events read few some =
+    let front = numbered-front 2 lines read.above left read.all_are in
+    let as_many : length read.above ≡ length events = sym (length-map read.above (event_at restarts)) ∙ ap length read.give ∙ length-map {A = Event} {B = Result Event ScriptError} events Ok in
+    let good : events_of restarts (take front.0 lines) ≡ Ok events =
+    rw (front.1, readings-few restarts read.above (rw as_many few), read.give) (collected-values events) in
+    (front.0, events, good, some)
+
+-- a header above such lines makes them the front of a script
+pub front_with_header : (header : Header) (line : List ℕ) (lines : List (List ℕ))
+    → header_of line ≡ Some header → HaveGoodFront header.restarts lines → HasGoodFront (line ∷ lines)
+front_with_header header line lines is good =
+    let scenario : Scenario = record { settings = settings_with header.id header.limits; first = header.first; events = good.1 } in
+    (suc good.0, scenario, rw (is, good.2) refl, good.3)
+
+-- no line runs out of memory
+decodes : (number : ℕ) (decoded : Result Command DecodeError) → sending_at number decoded ≡ Err Memory → ⊥
+decodes number (Ok command) is = cc is
+decodes number (Err fault) is = cc is
+
+spells : (number : ℕ) (found : Option (List ℕ)) → frame_at number found ≡ Err Memory → ⊥
+spells number None is = cc is
+spells number (Some octets) is = decodes number (decoded_command octets) is
+
+reads : (number : ℕ) (word : Option (List ℕ)) (plain : Option Event)
+    → option_map_or (λ word. frame_at number (octets_in word)) word (ok_or plain (BadLine number)) ≡ Err Memory → ⊥
+reads number None None is = cc is
+reads number None (Some event) is = cc is
+reads number (Some word) plain is = spells number (octets_in word) is
+
+pub no_memory : (restarts : Bool) (line : ℕ × List ℕ) → event_at restarts line ≡ Err Memory → ⊥
+no_memory restarts line is = reads line.0 (after_prefix (codes "send ") line.1) (plain_event restarts line.1) is
+
+pub more_than_none : (events : List Event) (event : Event) → events ++ event ∷ [] ≢ []
+more_than_none [] event none = cc none
+more_than_none (first ∷ events) event none = cc none

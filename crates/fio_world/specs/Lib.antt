@@ -9,6 +9,7 @@ pub mod Headline
 pub mod Claims
 pub mod Rounds
 pub mod Rising
+pub mod Delivery
 pub mod Sound
 pub mod EndToEnd
 pub mod Ends

@@ -1,5 +1,5 @@
 -- Scripts: the first line is a header, and each further line that says something is an event.
-use Rattle.std.specs.Prelude.{◌≢◌, ℕ, Bool, List, [], ◌∷◌, ◌++◌, map, take, drop, Option, Some, None, IsSome, Result, Ok, Err}
+use Rattle.std.specs.Prelude.{◌≡◌, ◌≢◌, ℕ, Bool, List, [], ◌∷◌, ◌++◌, map, take, drop, Option, Some, None, Result, Ok, Err}
 use Rattle.fio_module.specs.Settings.{Settings, settings_with}
 use Rattle.fio_world.specs.declared.event.Event.{Event}
 use Rattle.fio_world.specs.declared.script.Script.{Script}
@@ -46,10 +46,18 @@ scenario_in (header ∷ lines) = below (header_of header) lines
 abbrev pub script_in : List ℕ → Result Scenario ScriptError
 script_in text = scenario_in (lines_of text)
 
--- there is a header, and a line below it that says something: only then is memory asked for
-abbrev pub HasEventLine : List (List ℕ) → Type 0
-HasEventLine [] = ⊥
-HasEventLine (header ∷ lines) = IsSome (header_of header) × (numbered 2 lines ≢ [])
+-- The first of these lines, through some event, are a script: only below such lines can memory run
+-- out.
+abbrev pub HasGoodFront : List (List ℕ) → Type 0
+HasGoodFront lines =
+    (count : ℕ) × (scenario : Scenario) × (scenario_in (take count lines) ≡ Ok scenario)
+    × (scenario.events ≢ [])
+
+-- the same of the lines below a header
+abbrev pub HaveGoodFront : Bool → List (List ℕ) → Type 0
+HaveGoodFront restarts lines =
+    (count : ℕ) × (events : List Event) × (events_of restarts (take count lines) ≡ Ok events)
+    × (events ≢ [])
 
 -- a script, wherever its events lie in memory
 abbrev pub scenario_of : Script → Scenario

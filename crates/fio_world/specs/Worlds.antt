@@ -14,6 +14,7 @@ use Rattle.fio_world.specs.declared.event.Event.{Event}
 use Rattle.fio_world.specs.declared.event.Event.TheVariants as events
 use Rattle.fio_world.specs.declared.outcome.Outcome.{Outcome}
 use Rattle.fio_world.specs.declared.outcome.Outcome.TheVariants as outcomes
+use Rattle.fio_world.specs.declared.outcome.RunError.{RunError}
 use Rattle.fio_world.specs.declared.outcome.WorldError.{WorldError}
 use Rattle.fio_world.specs.declared.outcome.WorldError.TheVariants as errors
 use Rattle.fio_world.specs.Link.{Machine, Sent, Refusal, NotSent, OutOfOrder, PollIsOurs, refusal, after, number_of, item_numbered, IsRun}
@@ -140,12 +141,18 @@ abbrev pub events_done : List Event → Event → Result Outcome WorldError → 
 events_done events event (Ok outcome) = events ++ event ∷ []
 events_done events event (Err fault) = events
 
--- The events before this place, from 0, were done, and the world shows the machine that they lead
--- to. The event at this place has this fault.
-pub record HasStoppedAt (settings : Settings) (first : ℕ) (events : List Event) (place : ℕ)
+-- the events that have happened once these were done too, or those of them above the first that was
+-- not
+abbrev pub all_done : List Event → List Event → Result Unit RunError → List Event
+all_done before events (Ok done) = before ++ events
+all_done before events (Err stopped) = before ++ take stopped.place events
+
+-- After the events before, those of these above this place, from 0, were done, and the world shows
+-- the machine that they lead to. The event at this place has this fault.
+pub record HasStoppedAt (settings : Settings) (first : ℕ) (before events : List Event) (place : ℕ)
     (fault : WorldError) (world : Ends) : Type 0 where
   pub machine : Machine
-  pub done : IsRun settings first (take place events) machine
+  pub done : IsRun settings first (before ++ take place events) machine
   pub shown : Shows settings first machine world
   pub event : Event
   pub here : slice_get events place ≡ Some event
@@ -156,4 +163,4 @@ pub record HasStoppedAt (settings : Settings) (first : ℕ) (events : List Event
 abbrev pub HasStopped : Settings → ℕ → List Event → ℕ → WorldError → Type 0
 HasStopped settings first events place fault =
     (place ≡ 0) × (fault ≡ errors.Memory)
-    ⊎ ((world : Ends) × HasStoppedAt settings first events place fault world)
+    ⊎ ((world : Ends) × HasStoppedAt settings first [] events place fault world)

@@ -1,41 +1,38 @@
 //! A script's further lines: one event each.
-ghost use Rattle.std.specs.Prelude.{◌≡◌, ◌≢◌, IfOk, IfErr};
+ghost use Rattle.std.specs.Prelude.{◌≡◌};
 ghost use Rattle.fio_world.specs.EventLines.{event_at, frame_at, plain_event};
 ghost use Rattle.fio_world.specs.Hexadecimal.{octets_in};
 
 use crate::event::Event;
 use crate::script::ScriptError;
-use crate::text::{after_prefix, read_inputs, read_number, read_octet, read_octets};
-use fio_message::decode_command;
-use std::alloc::Global;
+use crate::text::{LONGEST, after_prefix, read_frame, read_inputs, read_number, read_octet};
+use fio_message::{DecodeError, decode_command};
 
-/// The event of the line with this number, where the module may restart or not.
-pub(crate) fn read_event(
-    alloc: Global,
-    number: usize,
-    line: &[u8],
-    restarts: bool,
-) -> Result<Event, ScriptError>
-    ensures ok { IfOk result (λ event. event_at restarts (number, line.now) ≡ Ok event) }
-    ensures err { IfErr result (λ fault. fault ≢ ScriptError.Memory
-        → event_at restarts (number, line.now) ≡ Err fault) }
+/// The event of the line with this number, where the module may restart or not. It asks for no memory.
+pub(crate) fn read_event(number: usize, line: &[u8], restarts: bool) -> Result<Event, ScriptError>
+    ensures { result ≡ event_at restarts (number, line.now) }
 {
     if let Some(word) = after_prefix(line, b"send ") {
-        return read_sending(alloc, number, word);
+        return read_sending(number, word);
     }
     read_plain(line, restarts).ok_or(ScriptError::BadLine { line: number })
 }
 
 /// The sending of the command that the word's octets spell.
-fn read_sending(alloc: Global, number: usize, word: &[u8]) -> Result<Event, ScriptError>
-    ensures ok { IfOk result (λ event. frame_at number (octets_in word.now) ≡ Ok event) }
-    ensures err { IfErr result (λ fault. fault ≢ ScriptError.Memory
-        → frame_at number (octets_in word.now) ≡ Err fault) }
+fn read_sending(number: usize, word: &[u8]) -> Result<Event, ScriptError>
+    ensures { result ≡ frame_at number (octets_in word.now) }
 {
-    let Some(octets) = read_octets(alloc, word)? else {
+    let mut room = [0; LONGEST];
+    let Some(count) = read_frame(word, &mut room) else {
         return Err(ScriptError::BadLine { line: number });
     };
-    match decode_command(octets.as_slice()) {
+    if count > LONGEST {
+        return Err(ScriptError::BadFrame {
+            line: number,
+            fault: DecodeError::TooLong { got: count },
+        });
+    }
+    match decode_command(&room[..count]) {
         Ok(command) => Ok(Event::Send(command)),
         Err(fault) => Err(ScriptError::BadFrame {
             line: number,

@@ -8,6 +8,7 @@ ghost use Rattle.fio_world.specs.Headline.{Headline};
 ghost use Rattle.fio_world.specs.Rounds.{PollsOf, PollsReceivedHaveRounds, NewestPollMadeNewestBlock, BlockAnswersOf, AnswersCarryBlocks};
 ghost use Rattle.fio_world.specs.Rising.{IsRising};
 ghost use Rattle.fio_world.specs.Sound.{HoldsOfRuns, HoldsWithoutRestart, IsSoundRun, LeadToOneMachine};
+ghost use Rattle.fio_world.specs.Delivery.{CleanRoundTakesBlock, CleanRoundTakesAll, CleanRoundsCatchUp, IsWholeUnlessFull, GapsNameTimes, IsWholeWherePolledOften, IsWholeAfterOutage};
 ghost use Rattle.std.specs.List.{AllByRecursion};
 ghost use Rattle.fio_world.specs.Collected.{Collects};
 ghost use Rattle.fio_world.specs.Scripts.{Scenario};
@@ -68,6 +69,41 @@ pub fn block_answers_are_in_order()
 /// Without restarts each block answer carries the block of its round.
 pub fn answers_carry_blocks()
     ensures { HoldsWithoutRestart AnswersCarryBlocks }
+{}
+
+/// After any events, restarts included, a clean round takes a block: none of its events is refused,
+/// the module answers, and the CPU takes the answer.
+pub fn clean_rounds_take_blocks()
+    ensures { HoldsOfRuns (λ settings first events machine.
+        CleanRoundTakesBlock settings first machine) }
+{}
+
+/// Without restarts: after one clean round the CPU has taken every block that was made, and after
+/// 1 + k of them with nothing between, where at most k times as many entries waited as a block
+/// takes, nothing waits and the record goes through the end of the transition log.
+pub fn clean_rounds_catch_up()
+    ensures taken { HoldsWithoutRestart CleanRoundTakesAll }
+    ensures caught_up { HoldsWithoutRestart CleanRoundsCatchUp }
+{}
+
+/// Without restarts nothing is lost unless the buffer was full: where never more transitions stood
+/// beyond the newest block than may wait, the record is the front of the transition log, whole; and
+/// a gap mark says that once more did.
+pub fn nothing_is_lost()
+    ensures whole { HoldsWithoutRestart (λ settings first machine.
+        IsWholeUnlessFull settings machine) }
+    ensures gaps { HoldsWithoutRestart (λ settings first machine.
+        GapsNameTimes settings machine) }
+{}
+
+/// Without restarts: where the module is polled often enough, from a time on at which nothing waits,
+/// the record is the front of the transition log, whole; and so it is after an outage for which the
+/// buffer has room.
+pub fn polled_often_is_whole()
+    ensures polled_often { HoldsWithoutRestart (λ settings first machine.
+        IsWholeWherePolledOften settings machine) }
+    ensures outage { HoldsWithoutRestart (λ settings first machine.
+        IsWholeAfterOutage settings machine) }
 {}
 
 /// Events lead to one machine at most.

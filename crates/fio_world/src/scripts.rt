@@ -1,7 +1,7 @@
 //! Texts as scripts.
-ghost use Rattle.std.specs.Prelude.{◌≡◌, ◌≢◌, [], IfOk, IfErr};
-ghost use Rattle.fio_world.specs.Lines.{lines_of, numbered};
-ghost use Rattle.fio_world.specs.Scripts.{events_of, scenario_of, script_in, HasEventLine};
+ghost use Rattle.std.specs.Prelude.{◌≡◌, ◌≢◌, IfOk, IfErr};
+ghost use Rattle.fio_world.specs.Lines.{lines_of};
+ghost use Rattle.fio_world.specs.Scripts.{events_of, scenario_of, script_in, HasGoodFront, HaveGoodFront};
 
 use crate::event::Event;
 use crate::event_lines::read_event;
@@ -16,13 +16,13 @@ const MAX_EVENTS: usize = 10_000;
 /// The script that a text spells.
 ///
 /// # Errors
-/// The fault of the first faulty line; `Memory` where the events or the octets of a frame had to grow
-/// above it and no room was given.
+/// The fault of the first faulty line; `Memory` where the list of events had to grow above it and no
+/// room was given. The line at which that was, and all lines above it, are good.
 pub fn read_script(alloc: Global, text: &[u8]) -> Result<Script, ScriptError>
     ensures ok { IfOk result (λ script. script_in text.now ≡ Ok (scenario_of script)) }
     ensures err { IfErr result (λ fault. fault ≢ ScriptError.Memory
         → script_in text.now ≡ Err fault) }
-    ensures memory { result ≡ Err ScriptError.Memory → HasEventLine (lines_of text.now) }
+    ensures memory { result ≡ Err ScriptError.Memory → HasGoodFront (lines_of text.now) }
 {
     let Some((line, rest)) = split_line(text) else {
         return Err(ScriptError::BadHeader);
@@ -50,14 +50,15 @@ fn read_events(alloc: Global, text: &[u8], restarts: bool) -> Result<Vec<Event>,
     ensures ok { IfOk result (λ events. events_of restarts (lines_of text.now) ≡ Ok events.items) }
     ensures err { IfErr result (λ fault. fault ≢ ScriptError.Memory
         → events_of restarts (lines_of text.now) ≡ Err fault) }
-    ensures memory { result ≡ Err ScriptError.Memory → numbered 2 (lines_of text.now) ≢ [] }
+    ensures memory { result ≡ Err ScriptError.Memory
+        → HaveGoodFront restarts (lines_of text.now) }
 {
     let mut events = Vec::new(alloc);
     'lines: for (number, line) in numbered_lines(text, 2) {
         if events.len() == MAX_EVENTS {
             return Err(ScriptError::TooManyEvents { line: number });
         }
-        let event = read_event(alloc, number, line, restarts)?;
+        let event = read_event(number, line, restarts)?;
         events.push(event)?;
     }
     Ok(events)

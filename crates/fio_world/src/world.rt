@@ -6,7 +6,7 @@ ghost use Rattle.fio_module.specs.Settings.{Settings, standard_settings, setting
 ghost use Rattle.fio_world.specs.declared.event.Event.{Event as Happening};
 ghost use Rattle.fio_world.specs.Link.{Machine, item_numbered};
 ghost use Rattle.fio_world.specs.Headline.{Headline};
-ghost use Rattle.fio_world.specs.Worlds.{Shows, Steps, StandsFor, IsSoundWorld, HasStopped, events_done};
+ghost use Rattle.fio_world.specs.Worlds.{Shows, Steps, StandsFor, IsSoundWorld, HasStopped, HasStoppedAt, all_done, events_done};
 
 mod frames;
 mod happening;
@@ -122,10 +122,8 @@ impl World {
                 fault: WorldError::Memory,
             });
         };
-        match world.happen_all(events) {
-            Ok(()) => Ok(world),
-            Err(error) => Err(error),
-        }
+        world.step_all(events)?;
+        Ok(world)
     }
 
     /// Lets one event happen, or refuses it and changes nothing, so that it may be tried again.
@@ -150,6 +148,31 @@ impl World {
             self.new.poller_end.items }
     {
         self.happen(event)
+    }
+
+    /// Lets these events happen in order, up to the first that is refused. What was done stays, and
+    /// the events from that place on may be tried again.
+    ///
+    /// # Errors
+    /// How many of these events were done, and why the next one was not: the errors of `step`.
+    pub fn step_all(&mut self, events: &[Event]) -> Result<(), RunError>
+        ensures stands { (settings : Settings) (first : ℕ) (before : List Happening)
+            → StandsFor settings first before self.old
+            → IsSoundWorld settings first (all_done before events.now result) self.new }
+        ensures headline { (settings : Settings) (first : ℕ) (before : List Happening)
+            → StandsFor settings first before self.old
+            → Headline settings first (all_done before events.now result)
+            self.new.poller_end.items }
+        ensures err { IfErr result (λ e. (settings : Settings) (first : ℕ)
+            (before : List Happening) → StandsFor settings first before self.old
+            → HasStoppedAt settings first before events.now e.place e.fault self.new) }
+    {
+        for (place, event) in events.iter().enumerate() {
+            if let Err(fault) = self.step(event) {
+                return Err(RunError { place, fault });
+            }
+        }
+        Ok(())
     }
 
     /// The module.

@@ -8,7 +8,13 @@ fn input(rt: &impl Abort, number: u8) -> InputNumber {
     InputNumber::new(number).expect(rt, "below 128")
 }
 
-fn item(rt: &impl Abort, number: u8, ignore: bool, leading: u8, trailing: u8) -> InputItem {
+pub(super) fn item(
+    rt: &impl Abort,
+    number: u8,
+    ignore: bool,
+    leading: u8,
+    trailing: u8,
+) -> InputItem {
     InputItem {
         input: input(rt, number),
         ignore,
@@ -151,7 +157,7 @@ fn answers(rt: &impl Abort) -> [(Answer, &'static [u8]); 17] {
     ]
 }
 
-fn entry(rt: &impl Abort, number: u8, level: bool, stamp: u16) -> Entry {
+pub(super) fn entry(rt: &impl Abort, number: u8, level: bool, stamp: u16) -> Entry {
     Entry {
         input: input(rt, number),
         level,
@@ -169,6 +175,19 @@ fn answers_and_their_octets(rt: HostRuntime) {
         assert_eq!(rt; encode_answer(answer).as_slice(), *octets);
         assert!(rt; matches!(decode_answer(octets), Ok(found) if found == *answer));
         assert_eq!(rt; Some(&answer.code()), octets.first());
+    }
+}
+
+#[test]
+fn messages_written_over_others(rt: HostRuntime) {
+    let mut frame = Frame::new();
+    for (answer, octets) in &answers(&rt) {
+        write_answer(answer, &mut frame);
+        assert_eq!(rt; frame.as_slice(), *octets);
+    }
+    for (command, octets) in &commands(&rt) {
+        write_command(command, &mut frame);
+        assert_eq!(rt; frame.as_slice(), *octets);
     }
 }
 

@@ -3,32 +3,15 @@ ghost use Rattle.std.specs.Prelude.{◌≡◌, ◌+◌, ◌∷◌, ◌++◌, [],
 ghost use Rattle.fio_module.specs.Settings.{Settings};
 ghost use Rattle.fio_world.specs.declared.event.Event.TheVariants as events;
 ghost use Rattle.fio_world.specs.Link.{Machine};
-ghost use Rattle.fio_world.specs.Worlds.{Shows, Steps, IsSoundWorld, HasStoppedAt};
+ghost use Rattle.fio_world.specs.Worlds.{Shows, Steps};
 
 use super::World;
 use super::frames::check_delivery;
 use crate::event::Event;
-use crate::outcome::{Outcome, RunError, WorldError};
+use crate::outcome::{Outcome, WorldError};
 use fio_message::{Command, Frame, Memory, encode_command};
 
 impl World {
-    /// Lets these events happen in order, up to the first that is refused.
-    pub(crate) fn happen_all(&mut self, events: &[Event]) -> Result<(), RunError>
-        ensures ok { OnOk result ((settings : Settings) (first : ℕ)
-            → IsSoundWorld settings first [] self.old
-            → IsSoundWorld settings first events.now self.new) }
-        ensures err { IfErr result (λ e. (settings : Settings) (first : ℕ)
-            → IsSoundWorld settings first [] self.old
-            → HasStoppedAt settings first events.now e.place e.fault self.new) }
-    {
-        for (place, event) in events.iter().enumerate() {
-            if let Err(fault) = self.step(event) {
-                return Err(RunError { place, fault });
-            }
-        }
-        Ok(())
-    }
-
     /// Lets one event happen, or refuses it and changes nothing: `step` without what follows for
     /// runs.
     pub(crate) fn happen(&mut self, event: &Event) -> Result<Outcome, WorldError>

@@ -1,13 +1,13 @@
 use Rattle.std.proofs.Common.{◌≡◌, ◌≤◌, [], vec_len}
 use Rattle.fio_world.specs.Lines.{lines_of, numbered}
 use Rattle.fio_world.specs.Scripts.{events_of}
-use Rattle.fio_world.proofs.ReadingLemmas.{read_on}
+use Rattle.fio_world.proofs.ReadingLemmas.{read_on, HaveRead}
 use Rattle.fio_world.proofs.scripts.read_events.Given as goal
 
 abbrev pub invariant-lines : goal.invariant-lines
 invariant-lines l = record {
   events :
       read_on l.events.items (vec_len l.events) l.restarts l.number-iterator ≡ events_of l.restarts (lines_of l.text);
-  left : numbered 2 (lines_of l.text) ≡ [] → l.number-iterator ≡ [];
+  front : HaveRead l.restarts (numbered 2 (lines_of l.text)) l.number-iterator l.events.items;
   few : vec_len l.events ≤ 10000;
 }

@@ -1,0 +1,99 @@
+-- The record is whole where no block says that entries were lost.
+use Rattle.std.proofs.Common.{◌≡◌, ℕ, zero, suc, ◌+◌, ◌-◌, ◌≤◌, true, false, List, [], ◌∷◌, length, take, drop, map, Some, slice_get, refl, ap, sym, subst, ◌∙◌, arith}
+use Rattle.std.specs.Prelude.{Contains, option_map}
+use Rattle.std.specs.List.{AllByRecursion}
+use Rattle.std.proofs.lemmas.Option.{slice_get-map, slice_get_read}
+use Rattle.fio_module.specs.Settings.{Settings, AreInRange}
+use Rattle.fio_module.specs.Life.{Life, life_of}
+use Rattle.fio_module.specs.Log.{entry_of, log_of}
+use Rattle.fio_module.specs.Blocks.{MadeBlock, blocks_of}
+use Rattle.fio_module.specs.Delivery.{NeverTooMany, NoBlockLost, WasMade, HadTooMany}
+use Rattle.fio_module.proofs.Losses.{nothing_is_lost, losses_name_times}
+use Rattle.fio_module.proofs.Polling.{polled_often_stays_few}
+use Rattle.fio_module.proofs.Outages.{outage_stays_few}
+use Rattle.fio_world.specs.Link.{Machine}
+use Rattle.fio_world.specs.Pieces.{Piece, Gap, Got, piece_of, HasLoss, ArePieces}
+use Rattle.fio_world.specs.Headline.{end_taken}
+use Rattle.fio_world.specs.Delivery.{IsWholeUnlessFull, GapsNameTimes, IsWholeWherePolledOften, IsWholeAfterOutage}
+use Rattle.fio_world.proofs.MadeBlocks.{each-at}
+use Rattle.fio_world.proofs.PieceLaws.{drop_found}
+
+-- what holds of each element holds of one that is contained
+each-contained : (P : MadeBlock → Type 0) (blocks : List MadeBlock) (block : MadeBlock) → AllByRecursion P blocks
+    → Contains blocks block → P block
+each-contained P blocks block all here =
+    each-at P blocks here.0 block all (slice_get_read blocks (length blocks) here.0 block refl here.1 (sym here.2))
+
+-- pieces without gap marks, from one place of a list of entries to another
+abbrev ArePart : Settings → Life → ℕ → List Piece → ℕ → Type 0
+ArePart settings life from pieces to =
+    (from ≤ to) × (pieces ≡ map Got (take (to - from) (drop from (map entry_of (log_of life)))))
+
+-- where no block says that entries were lost, pieces are a part of the log
+part_of_log : (settings : Settings) (life : Life) (from : ℕ) (pieces : List Piece) (to : ℕ) → NoBlockLost settings life
+    → ArePieces settings life from pieces to → ArePart settings life from pieces to
+part_of_log settings life from [] to none p =
+    let nothing : to - from ≡ 0 = omega arith in
+    (omega arith, ap (λ n. map Got (take n (drop from (map entry_of (log_of life))))) (sym nothing))
+part_of_log settings life from (Got entry ∷ pieces) to none p =
+    let rest = part_of_log settings life (from + 1) pieces to none p.1 in
+    let further : from + 1 ≤ to = rest.0 in
+    let count : to - from ≡ suc (to - (from + 1)) = omega arith in
+    let entries = map entry_of (log_of life) in
+    let whole : map Got (take (to - from) (drop from entries)) ≡ Got entry ∷ map Got (take (to - (from + 1)) (drop (from + 1) entries)) =
+    ap (λ n. map Got (take n (drop from entries))) count
+    ∙ ap (λ es. map Got (take (suc (to - (from + 1))) es)) (drop_found entries from entry p.0) in
+    (omega arith, ap (λ ps. Got entry ∷ ps) rest.1 ∙ sym whole)
+part_of_log settings life from (Gap ∷ pieces) to none p =
+    let loss = p.1 in
+    absurd (cc (loss.said, each-contained (λ block. block.lost ≡ false) (blocks_of settings life) loss.block none loss.is_made))
+
+-- the record, as pieces of the log
+abbrev pub RecordIsPieces : Settings → Machine → Type 0
+RecordIsPieces settings machine =
+    ArePieces settings (life_of machine.history) 0 (map piece_of machine.items) (end_taken settings machine)
+
+-- the record is whole
+pub whole_unless_full : (settings : Settings) (machine : Machine) → RecordIsPieces settings machine
+    → IsWholeUnlessFull settings machine
+whole_unless_full settings machine pieces few =
+    let life = life_of machine.history in
+    let to = end_taken settings machine in
+    let all : to - 0 ≡ to = omega arith in
+    (part_of_log settings life 0 (map piece_of machine.items) to (nothing_is_lost settings life few) pieces).1
+    ∙ ap (λ n. map Got (take n (map entry_of (log_of life)))) all
+
+-- a gap mark among pieces is from a block that says that entries were lost
+gap_is_loss : (settings : Settings) (life : Life) (from : ℕ) (pieces : List Piece) (to place : ℕ)
+    → ArePieces settings life from pieces to → slice_get pieces place ≡ Some Gap → HadTooMany settings life
+gap_is_loss settings life from [] to place p is = absurd (cc is)
+gap_is_loss settings life from (Got entry ∷ pieces) to zero p is = absurd (cc is)
+gap_is_loss settings life from (Got entry ∷ pieces) to (suc place) p is =
+    gap_is_loss settings life (from + 1) pieces to place p.1 is
+gap_is_loss settings life from (Gap ∷ pieces) to zero p is =
+    let loss = p.1 in
+    let made = each-contained (WasMade settings life) (blocks_of settings life) loss.block (losses_name_times settings life) loss.is_made in
+    record { later = made.later; earlier = made.earlier; at = made.at; more = made.overflowed loss.said }
+gap_is_loss settings life from (Gap ∷ pieces) to (suc place) p is =
+    gap_is_loss settings life p.0 pieces to place p.2 is
+
+-- a gap mark in the record names a time
+pub gaps_name_times : (settings : Settings) (machine : Machine) → RecordIsPieces settings machine
+    → GapsNameTimes settings machine
+gaps_name_times settings machine pieces place is =
+    gap_is_loss settings (life_of machine.history) 0 (map piece_of machine.items) _ place pieces
+    (slice_get-map piece_of machine.items place ∙ ap (option_map piece_of) is)
+
+-- where the module is polled often
+pub whole_where_polled_often : (settings : Settings) → AreInRange settings → (machine : Machine)
+    → RecordIsPieces settings machine → IsWholeWherePolledOften settings machine
+whole_where_polled_often settings range machine pieces filter scans life later is few often =
+    whole_unless_full settings machine pieces
+    (subst (NeverTooMany settings) (sym is) (polled_often_stays_few settings filter scans life later range often few))
+
+-- after an outage
+pub whole_after_outage : (settings : Settings) (machine : Machine)
+    → RecordIsPieces settings machine → IsWholeAfterOutage settings machine
+whole_after_outage settings machine pieces filter life later is few outage =
+    whole_unless_full settings machine pieces
+    (subst (NeverTooMany settings) (sym is) (outage_stays_few settings filter life later outage few))

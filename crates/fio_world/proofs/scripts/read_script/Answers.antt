@@ -1,0 +1,10 @@
+use Rattle.std.proofs.Common.{Err, sym, ap, ◌∙◌}
+use Rattle.std.proofs.lemmas.Result.{err_from_is_err_and}
+use Rattle.fio_world.proofs.ReadingLemmas.{front_with_header}
+use Rattle.fio_world.proofs.scripts.read_script.Goals as goal
+
+pub returns-in_err-events-clause-memory : goal.returns-in_err-events-clause-memory
+returns-in_err-events-clause-memory c told =
+    let fault = err_from_is_err_and c.from_residual.result c.from_residual.ensures.1 in
+    let header = sym c.read_header.ensures ∙ c.in-Some-read_header.is in
+    rw c.in-Some.ensures.first (front_with_header c.in-Some-read_header.header _ _ header (c.in_err-events.ensures.memory (cc (told, fault.1, fault.2))))

@@ -1,0 +1,113 @@
+-- What arrives: clean rounds bring blocks, nothing is lost unless the buffer was full, and it never
+-- is where the module is polled often.
+use Rattle.std.specs.Prelude.{◌≡◌, ℕ, zero, suc, ◌+◌, ◌*◌, ◌≤◌, List, [], ◌∷◌, ◌++◌, map, length, take, slice_get, Some}
+use Rattle.fio_message.specs.Blocks.{Block}
+use Rattle.fio_module.specs.Settings.{Settings}
+use Rattle.fio_module.specs.Life.{Life, life_of}
+use Rattle.fio_module.specs.Log.{entry_of, log_of}
+use Rattle.fio_module.specs.Blocks.{MadeBlock, waiting_of}
+use Rattle.fio_module.specs.Delivery.{NeverTooMany, HadTooMany, IsPolledOften, IsOutage}
+use Rattle.fio_cpu.specs.declared.items.Item.TheVariants as items
+use Rattle.fio_cpu.specs.Record.{recorded}
+use Rattle.fio_world.specs.declared.event.Event.{Event}
+use Rattle.fio_world.specs.declared.event.Event.TheVariants.{Poll, ToModule, ToCpu}
+use Rattle.fio_world.specs.Link.{Machine, Leads}
+use Rattle.fio_world.specs.Frames.{HasBlock}
+use Rattle.fio_world.specs.Claims.{blocks_in}
+use Rattle.fio_world.specs.Rounds.{CarriesBlock}
+use Rattle.fio_world.specs.Pieces.{Got, piece_of}
+use Rattle.fio_world.specs.Headline.{end_taken}
+
+-- a clean round of a machine: the CPU polls, the module receives the frame just sent, and the CPU
+-- hears the answer just sent
+abbrev pub clean_round : Machine → List Event
+clean_round machine =
+    Poll ∷ ToModule (length machine.to_module + 1) ∷ ToCpu (length machine.to_cpu + 1) ∷ []
+
+-- A clean round takes a block: none of its events is refused, the module answers, and the CPU takes
+-- the answer.
+pub record TakesBlock (settings : Settings) (first : ℕ) (machine later : Machine) : Type 0 where
+  pub leads : Leads settings first machine (clean_round machine) later
+  -- the answer just sent is a block answer to a poll of the CPU's round
+  pub answer : Block
+  pub answered : HasBlock later.to_cpu (length machine.to_cpu) answer machine.round
+  -- the round is one more, and the record is longer by what the block adds
+  pub round : later.round ≡ machine.round + 1
+  pub items : later.items ≡ machine.items ++ recorded answer
+  -- it carries the newest block of the module's present life
+  pub earlier : List MadeBlock
+  pub block : MadeBlock
+  pub newest : blocks_in settings later ≡ earlier ++ block ∷ []
+  pub carried : CarriesBlock answer block
+
+abbrev pub CleanRoundTakesBlock : Settings → ℕ → Machine → Type 0
+CleanRoundTakesBlock settings first machine =
+    (later : Machine) × TakesBlock settings first machine later
+
+-- after one clean round the CPU has taken every block that was made
+abbrev pub CleanRoundTakesAll : Settings → ℕ → Machine → Type 0
+CleanRoundTakesAll settings first machine = (later : Machine) →
+    Leads settings first machine (clean_round machine) later →
+    later.round ≡ length (blocks_in settings later)
+
+-- so many clean rounds with nothing between lead from one machine to another
+abbrev pub CleanRounds : Settings → ℕ → ℕ → Machine → Machine → Type 0
+CleanRounds settings first zero machine last = last ≡ machine
+CleanRounds settings first (suc n) machine last =
+    (next : Machine) × Leads settings first machine (clean_round machine) next
+    × CleanRounds settings first n next last
+
+-- nothing waits, and the record goes through the end of the transition log, which is still that of
+-- the machine before
+pub record HasCaughtUp (settings : Settings) (before machine : Machine) : Type 0 where
+  pub same_log : log_of (life_of machine.history) ≡ log_of (life_of before.history)
+  pub nothing_waits : waiting_of settings (life_of machine.history) ≡ []
+  pub all_taken : end_taken settings machine ≡ length (log_of (life_of machine.history))
+
+-- after 1 + k clean rounds with nothing between, where at most k times `per_block` entries waited,
+-- the CPU has caught up
+abbrev pub CleanRoundsCatchUp : Settings → ℕ → Machine → Type 0
+CleanRoundsCatchUp settings first machine = (k : ℕ) →
+    length (waiting_of settings (life_of machine.history)) ≤ k * settings.per_block →
+    (later : Machine) × CleanRounds settings first (suc k) machine later
+    × HasCaughtUp settings machine later
+
+-- the record has no gap mark, and is the front of the transition log, whole, through the last block
+-- taken
+abbrev pub RecordIsWhole : Settings → Machine → Type 0
+RecordIsWhole settings machine =
+    map piece_of machine.items
+    ≡ map Got (take (end_taken settings machine) (map entry_of (log_of (life_of machine.history))))
+
+-- Nothing is lost unless the buffer was full: the record is whole where never more stood beyond the
+-- newest block than may wait.
+abbrev pub IsWholeUnlessFull : Settings → Machine → Type 0
+IsWholeUnlessFull settings machine =
+    NeverTooMany settings (life_of machine.history) → RecordIsWhole settings machine
+
+-- conversely, a gap mark says that once more did
+abbrev pub GapsNameTimes : Settings → Machine → Type 0
+GapsNameTimes settings machine = (place : ℕ) →
+    slice_get machine.items place ≡ Some items.Gap → HadTooMany settings (life_of machine.history)
+
+-- Poll often enough, and nothing is lost, ever: the record is whole where the module is polled often
+-- from a time of its life on at which nothing waits.
+abbrev pub IsWholeWherePolledOften : Settings → Machine → Type 0
+IsWholeWherePolledOften settings machine = (filter scans : ℕ) (life later : Life) →
+    life_of machine.history ≡ later ++ life → NeverTooMany settings life →
+    IsPolledOften settings filter scans life later → RecordIsWhole settings machine
+
+-- so is it after an outage that the buffer has room for
+abbrev pub IsWholeAfterOutage : Settings → Machine → Type 0
+IsWholeAfterOutage settings machine = (filter : ℕ) (life later : Life) →
+    life_of machine.history ≡ later ++ life → NeverTooMany settings life →
+    IsOutage settings filter life later → RecordIsWhole settings machine
+
+-- all that is promised of what arrives without restarts
+pub record Delivers (settings : Settings) (first : ℕ) (machine : Machine) : Type 0 where
+  pub takes_all : CleanRoundTakesAll settings first machine
+  pub catches_up : CleanRoundsCatchUp settings first machine
+  pub unless_full : IsWholeUnlessFull settings machine
+  pub gaps : GapsNameTimes settings machine
+  pub polled_often : IsWholeWherePolledOften settings machine
+  pub outage : IsWholeAfterOutage settings machine
