@@ -87,18 +87,12 @@ fn push_taken(
 {
     let status = [status];
     let status = Hexadecimal(&status);
-    let line =
-        format!(in *text.allocator(); "{number} block entries {entries} status {status}\n")?;
+    let line = format!(in *text.allocator(); "{number} block entries {entries} status {status}\n")?;
     text.extend_from_slice(line.as_bytes())
 }
 
 /// An event's number, a word, and a number.
-fn push_short(
-    text: &mut Vec<u8>,
-    number: usize,
-    word: &[u8],
-    told: u8,
-) -> Result<(), AllocError>
+fn push_short(text: &mut Vec<u8>, number: usize, word: &[u8], told: u8) -> Result<(), AllocError>
     requires { length word.now ≤ 40 }
     ensures { OnOk result (text.new.items
         ≡ text.old.items ++ (decimal number ++ (word.now ++ (decimal told ++ codes "\n")))) }
@@ -160,8 +154,7 @@ fn push_counts(
         ≡ text.old.items ++ ending_lines counter number waiting items.now) }
 {
     let count = items.len();
-    let head = format!(
-        in *text.allocator();
+    let head = format!(in *text.allocator();
         "counter {counter}\nnumber {number}\nwaiting {waiting}\nrecord {count}\n"
     )?;
     text.extend_from_slice(head.as_bytes())?;

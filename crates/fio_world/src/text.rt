@@ -11,8 +11,8 @@ pub use fixed::{LONGEST, read_frame};
 pub use lines::{is_skipped, split_line};
 pub use numbering::{NumberedLines, numbered_lines};
 pub use printing::{FaultWords, Hexadecimal};
-pub use writing::{end_with, push_hexadecimal, put, put_decimal, put_octet};
 pub use words::{
-    after_prefix, read_inputs, read_number, read_octet, read_octets, read_octets_into, read_small_number,
-    split_at_blank,
+    after_prefix, read_inputs, read_number, read_octet, read_octets, read_octets_into,
+    read_small_number, split_at_blank,
 };
+pub use writing::{end_with, push_hexadecimal, put, put_decimal, put_octet};
