@@ -1,19 +1,30 @@
-# Builds the program, and puts it in place with its manual page and its completions for bash:
+# Builds the program, puts it in place with its manual page and its completions for bash, zsh and fish, and makes
+# packages of it:
 #
 #     make
 #     make install PREFIX=/usr/local
 #     make uninstall PREFIX=/usr/local
+#     make dist
+#     make deb
 #
-# DESTDIR, where it is given, stands before each path, as for a package.
+# DESTDIR, where it is given, stands before each path, as for a package. LIB, ZSH and TOOLS are the folders of
+# libraries, of zsh's completions and of tools/ below PREFIX. DIST is the folder of the packages.
 
 PREFIX = /usr/local
 DESTDIR =
+LIB = lib
+ZSH = share/zsh/site-functions
+TOOLS = share/fio2070
+DIST = dist
 
-bin = $(DESTDIR)$(PREFIX)/bin
-man = $(DESTDIR)$(PREFIX)/share/man/man1
-completions = $(DESTDIR)$(PREFIX)/share/bash-completion/completions
+root = $(DESTDIR)$(PREFIX)
+bin = $(root)/bin
+man = $(root)/share/man/man1
+bash = $(root)/share/bash-completion/completions
+zsh = $(root)/$(ZSH)
+fish = $(root)/share/fish/vendor_completions.d
 
-.PHONY: all test install uninstall
+.PHONY: all test install uninstall dist deb
 
 # Proves and builds the program where that is not done yet.
 all:
@@ -24,10 +35,50 @@ test:
 	@./test
 
 install: all
-	install -d '$(bin)' '$(man)' '$(completions)'
+	install -d '$(bin)' '$(man)' '$(bash)' '$(zsh)' '$(fish)'
 	install -m 755 crates/fio2070/out/fio2070 '$(bin)/fio2070'
 	install -m 644 man/fio2070.1 '$(man)/fio2070.1'
-	install -m 644 completions/fio2070.bash '$(completions)/fio2070'
+	install -m 644 completions/fio2070.bash '$(bash)/fio2070'
+	install -m 644 completions/fio2070.zsh '$(zsh)/_fio2070'
+	install -m 644 completions/fio2070.fish '$(fish)/fio2070.fish'
 
 uninstall:
-	rm -f '$(bin)/fio2070' '$(man)/fio2070.1' '$(completions)/fio2070'
+	rm -f '$(bin)/fio2070' '$(man)/fio2070.1' '$(bash)/fio2070' '$(zsh)/_fio2070' '$(fish)/fio2070.fish'
+
+# The library for C and its headers, and the tools, where they are there.
+
+libraries = $(wildcard libfio2070.a)
+headers = $(wildcard include/*.h include/*.hpp)
+tools = $(wildcard tools/*)
+
+.PHONY: install-more uninstall-more
+
+install: install-more
+uninstall: uninstall-more
+
+install-more:
+ifneq ($(libraries),)
+	install -d '$(root)/$(LIB)'
+	install -m 644 $(libraries) '$(root)/$(LIB)'
+endif
+ifneq ($(headers),)
+	install -d '$(root)/include'
+	install -m 644 $(headers) '$(root)/include'
+endif
+ifneq ($(tools),)
+	install -d '$(root)/$(TOOLS)'
+	cp -R tools '$(root)/$(TOOLS)'
+	@echo 'The Wireshark dissector is installed. To enable it:'
+	@echo "    mkdir -p ~/.local/lib/wireshark/plugins"
+	@echo "    ln -sf '$(PREFIX)/$(TOOLS)/tools/wireshark/fio2070.lua' ~/.local/lib/wireshark/plugins/"
+endif
+
+uninstall-more:
+	rm -f $(foreach file,$(notdir $(libraries)),'$(root)/$(LIB)/$(file)')
+	rm -f $(foreach file,$(notdir $(headers)),'$(root)/include/$(file)')
+	rm -rf '$(root)/$(TOOLS)/tools'
+
+# The archive and the Debian package: the same files give the same octets each time.
+
+dist deb: all
+	@packaging/$@ '$(DIST)'

@@ -1,4 +1,5 @@
-# Completions of bash for fio2070: the subcommands and options, and after a subcommand its option.
+# Completions of bash for fio2070: the subcommands and options, and after a subcommand its option. Elsewhere,
+# as behind `<`, file names are completed.
 
 _fio2070() {
     local word=${COMP_WORDS[COMP_CWORD]} words=
@@ -9,4 +10,4 @@ _fio2070() {
     COMPREPLY=($(compgen -W "$words" -- "$word"))
 }
 
-complete -F _fio2070 fio2070
+complete -o default -F _fio2070 fio2070

@@ -6,6 +6,14 @@ import sys
 
 TOP = os.path.dirname(os.path.dirname(os.path.dirname(os.path.realpath(__file__))))
 
+# The most octets of an input.
+MOST_OCTETS = 1_048_576
+
+
+def lines_that_fit(line, above=''):
+    """How many such lines an input may have below the text above."""
+    return (MOST_OCTETS - len(above)) // len(line)
+
 
 def told(tool, text):
     """What the program writes for an input, and its exit status."""

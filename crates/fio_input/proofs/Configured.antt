@@ -47,7 +47,7 @@ module _ (old : Filters) (item : InputItem) (ignored : ℕ) (items : List InputI
   at_item =
       let i = item.input in
       record {
-        run_length = get_or-set_same old.run_lengths i 0 0 (omega arith);
+        run_length = inr (get_or-set_same old.run_lengths i 0 0 (omega arith));
         leading = get_or-set_same old.leading i item.leading 0 (omega arith);
         trailing = get_or-set_same old.trailing i item.trailing 0 (omega arith);
         leading_fits = leading_fits;
@@ -61,7 +61,11 @@ module _ (old : Filters) (item : InputItem) (ignored : ℕ) (items : List InputI
   at_other i h other =
       let at = s.inputs i h in
       record {
-        run_length = get_or-set_other old.run_lengths item.input i 0 0 other ∙ at.run_length;
+        run_length =
+            elim at.run_length [
+              | inl settled ↦ inl settled
+              | inr counted ↦ inr (get_or-set_other old.run_lengths item.input i 0 0 other ∙ counted)
+            ];
         leading = get_or-set_other old.leading item.input i item.leading 0 other ∙ at.leading;
         trailing = get_or-set_other old.trailing item.input i item.trailing 0 other ∙ at.trailing;
         leading_fits = at.leading_fits;

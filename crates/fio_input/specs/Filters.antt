@@ -1,15 +1,17 @@
 -- What the filters of the inputs stand for.
-use Rattle.std.specs.Prelude.{ℕ, ◌≡◌, ◌<◌, ◌≤◌, min, Bool, slice_index, List}
+use Rattle.std.specs.Prelude.{ℕ, ◌≡◌, ◌<◌, ◌≤◌, ◌⊎◌, min, Bool, slice_index, List}
 use Rattle.fio_message.specs.Bits.{is_set}
 use Rattle.fio_input.specs.declared.filters.Filters.{Filters}
 use Rattle.fio_input.specs.Filtering.{Setting}
 use Rattle.fio_input.specs.Runs.{run_length}
 use Rattle.fio_input.specs.FilterHistory.{FilterEvent, setting, samples, state, raw_levels}
 
--- what the filters keep of one input
+-- what the filters keep of one input: the length of its latest run only where the run is towards
+-- another state
 pub record Keeps (filters : Filters) (input : ℕ)
     (setting : Setting) (samples : List Bool) (state : Bool) : Type 0 where
-  pub run_length : slice_index filters.run_lengths input ≡ min (run_length samples) 255
+  pub run_length : (is_set filters.raw input ≡ state)
+      ⊎ (slice_index filters.run_lengths input ≡ min (run_length samples) 255)
   pub leading : slice_index filters.leading input ≡ setting.leading
   pub trailing : slice_index filters.trailing input ≡ setting.trailing
   pub leading_fits : setting.leading ≤ 255

@@ -119,6 +119,17 @@ fn append_command_fields(frame: &mut Frame, command: &Command)
     }
 }
 
+/// Writes the octets that a command spells, in place of what the frame holds. They are those of
+/// `encode_command`, with no frame moved.
+#[inline(always)]
+pub fn write_command(command: &Command, frame: &mut Frame)
+    ensures { SpellsCommand command.now frame.new.items }
+{
+    frame.clear();
+    frame.push(command.code());
+    append_command_fields(frame, command);
+}
+
 /// The octets that a command spells: its type, then its fields in the order of TEES 2009, with the
 /// lengths of this project's own profile. It always succeeds, with 1 to 773 octets.
 #[inline(always)]
@@ -126,8 +137,7 @@ pub fn encode_command(command: &Command) -> Frame
     ensures { SpellsCommand command.now result.items }
 {
     let mut frame = Frame::new();
-    frame.push(command.code());
-    append_command_fields(&mut frame, command);
+    write_command(command, &mut frame);
     frame
 }
 
@@ -180,6 +190,17 @@ fn append_answer_fields(frame: &mut Frame, answer: &Answer)
     }
 }
 
+/// Writes the octets that an answer spells, in place of what the frame holds. They are those of
+/// `encode_answer`, with no frame moved.
+#[inline(always)]
+pub fn write_answer(answer: &Answer, frame: &mut Frame)
+    ensures { SpellsAnswer answer.now frame.new.items }
+{
+    frame.clear();
+    frame.push(answer.code());
+    append_answer_fields(frame, answer);
+}
+
 /// The octets that an answer spells: its type, then its fields in the order of TEES 2009, with the
 /// lengths of this project's own profile. It always succeeds, with 1 to 773 octets.
 #[inline(always)]
@@ -187,7 +208,6 @@ pub fn encode_answer(answer: &Answer) -> Frame
     ensures { SpellsAnswer answer.now result.items }
 {
     let mut frame = Frame::new();
-    frame.push(answer.code());
-    append_answer_fields(&mut frame, answer);
+    write_answer(answer, &mut frame);
     frame
 }

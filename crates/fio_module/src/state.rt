@@ -10,7 +10,7 @@ use crate::sent::{SentBlock, first_status};
 use crate::waiting::{front, push_changed};
 use fio_input::{Counter, Filters};
 use fio_message::{
-    Answer, Body, Command, Frame, InputItem, OtherAnswer, decode_command, encode_answer,
+    Answer, Body, Command, Frame, InputItem, OtherAnswer, decode_command, write_answer,
 };
 
 /// P in the status flags: the module was reset.
@@ -159,7 +159,7 @@ impl ModuleState {
             → IsAfterHistory settings self.old (R.held ring.old) history
             → Encodes (reply_to settings history octets.now) (frame_if result frame.new) }
     {
-        match decode_command(octets) {
+        match &decode_command(octets) {
             Ok(command) => self.obey(ring, command, frame),
             Err(_) => false,
         }
@@ -167,19 +167,19 @@ impl ModuleState {
 
     /// Each command has a function of its own, which is not inlined and writes into the one frame:
     /// room for a frame of its own would be cleared at each entry.
-    fn obey<R: EntryRing>(&mut self, ring: &mut R, command: Command, frame: &mut Frame) -> bool
-        ensures { Obeys self.old (R.held ring.old) self.new (R.held ring.new) command
+    fn obey<R: EntryRing>(&mut self, ring: &mut R, command: &Command, frame: &mut Frame) -> bool
+        ensures { Obeys self.old (R.held ring.old) self.new (R.held ring.new) command.now
             (frame_if result frame.new) }
     {
         match command {
-            Command::Status { clear } => self.clear_flags(clear, frame),
-            Command::LoadCounter { load } => self.load_counter(load, frame),
+            Command::Status { clear } => self.clear_flags(*clear, frame),
+            Command::LoadCounter { load } => self.load_counter(*load, frame),
             Command::ConfigureInputs { items } => self.configure(items.as_slice(), frame),
             Command::RawInputs => self.raw_inputs(frame),
             Command::FilteredInputs => self.filtered_inputs(frame),
-            Command::Poll { block } => self.poll(ring, block, frame),
-            Command::SetOutputs { levels, controls } => self.set_outputs(levels, controls, frame),
-            Command::Watchdog { timeout } => self.set_watchdog(timeout, frame),
+            Command::Poll { block } => self.poll(ring, *block, frame),
+            Command::SetOutputs { levels, controls } => self.set_outputs(*levels, *controls, frame),
+            Command::Watchdog { timeout } => self.set_watchdog(*timeout, frame),
             Command::Identify => self.identify(frame),
             Command::Other { .. } => return false,
         }
@@ -192,12 +192,15 @@ impl ModuleState {
             → Obeys self.old ring self.new ring (Command.Status clear) (Some frame.new) }
     {
         self.flags &= !clear;
-        *frame = encode_answer(&Answer::Status {
-            flags: self.flags,
-            receive_errors: 0,
-            transmit_errors: 0,
-            stamp: self.counter.now(),
-        });
+        write_answer(
+            &Answer::Status {
+                flags: self.flags,
+                receive_errors: 0,
+                transmit_errors: 0,
+                stamp: self.counter.now(),
+            },
+            frame,
+        );
     }
 
     #[inline(never)]
@@ -206,7 +209,7 @@ impl ModuleState {
             → Obeys self.old ring self.new ring (Command.LoadCounter load) (Some frame.new) }
     {
         self.counter.ask_load(load);
-        *frame = encode_answer(&Answer::LoadCounter { status: 0 });
+        write_answer(&Answer::LoadCounter { status: 0 }, frame);
     }
 
     #[inline(never)]
@@ -218,7 +221,7 @@ impl ModuleState {
             Ok(()) => 0,
             Err(_) => 1,
         };
-        *frame = encode_answer(&Answer::ConfigureInputs { status });
+        write_answer(&Answer::ConfigureInputs { status }, frame);
     }
 
     #[inline(never)]
@@ -226,10 +229,13 @@ impl ModuleState {
         ensures { (ring : Buffer (List ℕ))
             → Obeys self.now ring self.now ring Command.RawInputs (Some frame.new) }
     {
-        *frame = encode_answer(&Answer::RawInputs {
-            inputs: self.filters.raw(),
-            stamp: self.counter.now(),
-        });
+        write_answer(
+            &Answer::RawInputs {
+                inputs: self.filters.raw(),
+                stamp: self.counter.now(),
+            },
+            frame,
+        );
     }
 
     #[inline(never)]
@@ -237,10 +243,13 @@ impl ModuleState {
         ensures { (ring : Buffer (List ℕ))
             → Obeys self.now ring self.now ring Command.FilteredInputs (Some frame.new) }
     {
-        *frame = encode_answer(&Answer::FilteredInputs {
-            inputs: self.filters.filtered(),
-            stamp: self.counter.now(),
-        });
+        write_answer(
+            &Answer::FilteredInputs {
+                inputs: self.filters.filtered(),
+                stamp: self.counter.now(),
+            },
+            frame,
+        );
     }
 
     #[inline(never)]
@@ -294,7 +303,7 @@ impl ModuleState {
     {
         self.outputs = Outputs { levels, controls };
         let [a, b, c, d] = self.counter.now().to_be_bytes();
-        *frame = other_answer(OtherAnswer::SetOutputs, &[0, a, b, c, d]);
+        write_other_answer(OtherAnswer::SetOutputs, &[0, a, b, c, d], frame);
     }
 
     #[inline(never)]
@@ -304,7 +313,7 @@ impl ModuleState {
     {
         let status = if self.watchdog != 0 { 1 } else { 0 };
         self.watchdog = timeout.max(10).min(100);
-        *frame = encode_answer(&Answer::Watchdog { status });
+        write_answer(&Answer::Watchdog { status }, frame);
     }
 
     #[inline(never)]
@@ -312,7 +321,7 @@ impl ModuleState {
         ensures { (ring : Buffer (List ℕ))
             → Obeys self.now ring self.now ring Command.Identify (Some frame.new) }
     {
-        *frame = other_answer(OtherAnswer::Identify, &[self.id]);
+        write_other_answer(OtherAnswer::Identify, &[self.id], frame);
     }
 
     /// What the outputs are set to, all 0 before the first command that sets them (own profile).
@@ -358,13 +367,13 @@ impl ModuleState {
     }
 }
 
-/// The answer with these octets after its type.
-fn other_answer(kind: OtherAnswer, octets: &[u8]) -> Frame
+/// Writes the answer with these octets after its type.
+fn write_other_answer(kind: OtherAnswer, octets: &[u8], frame: &mut Frame)
     requires { length octets.now ≤ 772 }
-    ensures { SpellsAnswer (Answer.Other kind (record { items = octets.now })) result.items }
+    ensures { SpellsAnswer (Answer.Other kind (record { items = octets.now })) frame.new.items }
 {
     match Body::try_from(octets) {
-        Ok(body) => encode_answer(&Answer::Other { kind, body }),
+        Ok(body) => write_answer(&Answer::Other { kind, body }, frame),
         Err(_) => unreachable!(),
     }
 }

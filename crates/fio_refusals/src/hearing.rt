@@ -1,7 +1,7 @@
 //! Blocks that the CPU hears.
 use crate::answers::Answer;
 use fio_cpu::{Heard, Poller};
-use fio_message::Memory;
+use fio_message::{DecodeError, Memory};
 use std::alloc::Global;
 
 /// Block 5 with one entry, input 12 to 1 at 999, status 0, stamp 1000.
@@ -48,6 +48,34 @@ pub(crate) fn gap(alloc: Global) -> Answer {
             status: 4,
         },
     )
+}
+
+/// Octets that add no item to the record: of no answer, of another one, of an old block, and of a block
+/// without entries.
+pub(crate) fn nothing(alloc: Global) -> Answer {
+    let mut poller = Poller::new(alloc, 5);
+    let unknown = DecodeError::UnknownType { code: 54 };
+    let empty = Heard::Block {
+        entries: 0,
+        status: 0,
+    };
+    let rows: [(&[u8], Heard); 4] = [
+        (&[0x36, 5], Heard::Unreadable(unknown)),
+        (&[0xb3, 0], Heard::Other { code: 179 }),
+        (
+            &[0xb6, 4, 1, 0x8c, 3, 0xe7, 0, 0, 0, 3, 0xe8],
+            Heard::Stale { block: 4 },
+        ),
+        (&[0xb6, 5, 0, 0, 0, 0, 3, 0xe8], empty),
+    ];
+    for (octets, wanted) in rows {
+        match poller.hear(octets) {
+            Ok(heard) if heard == wanted => (),
+            Err(Memory) => return Answer::refused_if(poller.items().is_empty()),
+            Ok(_) => return Answer::Wrong,
+        }
+    }
+    Answer::right_if(poller.number() == 6 && poller.items().is_empty())
 }
 
 /// The octets are taken, at last the second time, and so many items are recorded. Where memory was

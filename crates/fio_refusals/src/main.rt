@@ -19,89 +19,107 @@ use samples::{LOST_ANSWER, NINE_ROUNDS, ONE_ENTRY};
 use std::alloc::Global;
 use std::process::ExitCode;
 
-/// What is told of a call, or that memory was refused before it was made.
-type Row = (&'static str, Result<Answer, Memory>);
-
 fn main(rt: HostRuntime) -> ExitCode {
-    let parts = are_right(&rt, &rows_of_parts(rt.alloc()));
-    let ends = are_right(&rt, &rows_of_ends(rt.alloc()));
-    let tools = are_right(&rt, &rows_of_tools(rt.alloc()));
-    ExitCode::from(u8::from(!(parts && ends && tools)))
+    let mut rows = Rows {
+        rt: &rt,
+        are_right: true,
+    };
+    report_parts(&mut rows, rt.alloc());
+    report_ends(&mut rows, rt.alloc());
+    report_texts(&mut rows, rt.alloc());
+    report_tools(&mut rows, rt.alloc());
+    ExitCode::from(u8::from(!rows.are_right))
 }
 
-/// Tells of each row, and whether none is wrong.
-fn are_right(rt: &HostRuntime, rows: &[Row]) -> bool {
-    let mut is_right = true;
-    for (name, answer) in rows {
-        let told = match answer {
-            Ok(Answer::Right) => println!(rt; "{name}: right"),
-            Ok(Answer::Refused(place)) => println!(rt; "{name}: refused at {place}"),
-            Ok(Answer::Wrong) => println!(rt; "{name}: wrong"),
-            Err(Memory) => println!(rt; "{name}: not begun"),
+/// A line of output for each call, written before the next call is made: `tests/refused-memory` sees by it
+/// which call met the refusal.
+#[derive(Drop)]
+struct Rows<'a> {
+    rt: &'a HostRuntime,
+    /// No answer was wrong, and each was written.
+    are_right: bool,
+}
+
+impl Rows<'_> {
+    /// Reports how a call answered, or that memory was refused before it was made.
+    fn report(&mut self, name: &str, answer: Result<Answer, Memory>) {
+        let written = match answer {
+            Ok(Answer::Right) => println!(self.rt; "{name}: right"),
+            Ok(Answer::Refused(place)) => println!(self.rt; "{name}: refused at {place}"),
+            Ok(Answer::Wrong) => println!(self.rt; "{name}: wrong"),
+            Err(Memory) => println!(self.rt; "{name}: not begun"),
         };
-        is_right = is_right && told.is_ok() && !matches!(answer, Ok(Answer::Wrong));
+        let is_wrong = matches!(answer, Ok(Answer::Wrong)) || written.is_err();
+        self.are_right = self.are_right && !is_wrong;
     }
-    is_right
 }
 
-/// The calls of the module and of the CPU's end, and of the words of texts.
-fn rows_of_parts(alloc: Global) -> [Row; 9] {
-    [
-        ("Module::new", Ok(modules::new(alloc))),
-        ("Module::with_limits", Ok(modules::with_limits(alloc))),
-        ("Poller::hear of one entry", Ok(hearing::one_entry(alloc))),
-        (
-            "Poller::hear of 255 entries",
-            Ok(hearing::most_entries(alloc)),
-        ),
-        ("Poller::hear of a gap", Ok(hearing::gap(alloc))),
-        ("push_fault", texts::push_words(alloc)),
-        ("read_octets", Ok(texts::octets(alloc))),
-        ("choose of a tool", Ok(command_lines::tool(alloc))),
-        ("choose of another word", Ok(command_lines::other(alloc))),
-    ]
+/// The calls of the module and of the CPU's end, and command lines.
+fn report_parts(rows: &mut Rows<'_>, alloc: Global) {
+    rows.report("Module::new", Ok(modules::new(alloc)));
+    rows.report("Module::with_limits", Ok(modules::with_limits(alloc)));
+    rows.report("other calls of Module", modules::others(alloc));
+    rows.report("Poller::hear of one entry", Ok(hearing::one_entry(alloc)));
+    rows.report(
+        "Poller::hear of 255 entries",
+        Ok(hearing::most_entries(alloc)),
+    );
+    rows.report("Poller::hear of a gap", Ok(hearing::gap(alloc)));
+    rows.report(
+        "Poller::hear that adds nothing",
+        Ok(hearing::nothing(alloc)),
+    );
+    rows.report("choose of a tool", Ok(command_lines::tool(alloc)));
+    rows.report("choose of another word", Ok(command_lines::other(alloc)));
 }
 
-/// The calls of both ends together, and of their texts.
-fn rows_of_ends(alloc: Global) -> [Row; 11] {
-    [
-        ("World::new", Ok(worlds::new(alloc))),
-        ("World::with_limits", Ok(worlds::with_limits(alloc))),
-        ("World::step", worlds::step(alloc, &LOST_ANSWER)),
-        (
-            "World::step of nine rounds",
-            worlds::step(alloc, &NINE_ROUNDS),
-        ),
-        ("World::step with limits", worlds::step(alloc, &ONE_ENTRY)),
-        ("World::run", worlds::run(alloc, &LOST_ANSWER)),
-        (
-            "World::run of nine rounds",
-            worlds::run(alloc, &NINE_ROUNDS),
-        ),
-        (
-            "World::run_with_limits",
-            worlds::run_with_limits(alloc, &ONE_ENTRY),
-        ),
-        ("read_script", Ok(texts::script(alloc))),
-        ("report", texts::told(alloc)),
-        ("read_trace", Ok(texts::transcript(alloc))),
-    ]
+/// The calls of both ends together.
+fn report_ends(rows: &mut Rows<'_>, alloc: Global) {
+    rows.report("World::new", Ok(worlds::new(alloc)));
+    rows.report("World::with_limits", Ok(worlds::with_limits(alloc)));
+    rows.report("World::step", worlds::step(alloc, &LOST_ANSWER));
+    rows.report(
+        "World::step of nine rounds",
+        worlds::step(alloc, &NINE_ROUNDS),
+    );
+    rows.report("World::step with limits", worlds::step(alloc, &ONE_ENTRY));
+    rows.report(
+        "World::step that adds nothing",
+        worlds::adding_nothing(alloc),
+    );
+    rows.report("World::run", worlds::run(alloc, &LOST_ANSWER));
+    rows.report(
+        "World::run of nine rounds",
+        worlds::run(alloc, &NINE_ROUNDS),
+    );
+    rows.report(
+        "World::run_with_limits",
+        worlds::run_with_limits(alloc, &ONE_ENTRY),
+    );
+}
+
+/// Texts that are read and made.
+fn report_texts(rows: &mut Rows<'_>, alloc: Global) {
+    rows.report("push_fault", texts::push_words(alloc));
+    rows.report("read_octets", Ok(texts::octets(alloc)));
+    rows.report("read_script", Ok(texts::script(alloc)));
+    rows.report("report", texts::told(alloc));
+    rows.report("read_trace", Ok(texts::transcript(alloc)));
+    rows.report("check_trace", texts::verdict(alloc));
 }
 
 /// The calls of the tools.
-fn rows_of_tools(alloc: Global) -> [Row; 9] {
-    [
-        ("show_text", Ok(tools::text(alloc, Tool::Show))),
-        ("simulate_text", Ok(tools::text(alloc, Tool::Simulate))),
-        ("check_text", Ok(tools::text(alloc, Tool::Check))),
-        ("show", tools::streams(alloc, Tool::Show)),
-        ("simulate", tools::streams(alloc, Tool::Simulate)),
-        ("check", tools::streams(alloc, Tool::Check)),
-        ("run_program show", tools::program(alloc, Tool::Show)),
-        (
-            "run_program simulate",
-            tools::program(alloc, Tool::Simulate),
-        ),
-        ("run_program check", tools::program(alloc, Tool::Check)),
-    ]
+fn report_tools(rows: &mut Rows<'_>, alloc: Global) {
+    rows.report("show_text", Ok(tools::text(alloc, Tool::Show)));
+    rows.report("simulate_text", Ok(tools::text(alloc, Tool::Simulate)));
+    rows.report("check_text", Ok(tools::text(alloc, Tool::Check)));
+    rows.report("show", tools::streams(alloc, Tool::Show));
+    rows.report("simulate", tools::streams(alloc, Tool::Simulate));
+    rows.report("check", tools::streams(alloc, Tool::Check));
+    rows.report("run_program show", tools::program(alloc, Tool::Show));
+    rows.report(
+        "run_program simulate",
+        tools::program(alloc, Tool::Simulate),
+    );
+    rows.report("run_program check", tools::program(alloc, Tool::Check));
 }

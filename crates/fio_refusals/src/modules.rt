@@ -26,3 +26,72 @@ fn made(module: Result<Module, Memory>) -> Answer {
     };
     Answer::right_if(frame.as_slice() == [0xbc, 2].as_slice())
 }
+
+/// Every call that takes no memory, on a module in which more entries wait than may.
+pub(crate) fn others(alloc: Global) -> Result<Answer, Memory> {
+    let mut module = Module::new(alloc, 2)?;
+    let opens_all = opens_all_inputs();
+    let rows: [(&[u8], &[u8]); 13] = [
+        (&opens_all, &[0xb3, 0]),
+        (&[0x31, 0x80], &[0xb1, 0, 0, 0, 0, 0, 0, 0]),
+        (&[0x32, 0, 0, 0, 5], &[0xb2, 0]),
+        (
+            &[0x34],
+            &[0xb4, 255, 255, 255, 255, 255, 255, 255, 255, 0, 0, 0, 0],
+        ),
+        (
+            &[0x35],
+            &[0xb5, 255, 255, 255, 255, 255, 255, 255, 255, 0, 0, 0, 0],
+        ),
+        (&[0x36, 0], &[0xb6, 0, 0, 0, 0, 0, 0, 0]),
+        (&[0x36, 0], &[0xb6, 0, 0, 2, 0, 0, 0, 0]),
+        (
+            &[0x37, 1, 1, 1, 1, 1, 1, 1, 1, 1, 1, 1, 1, 1, 1, 1, 1],
+            &[0xb7, 0, 0, 0, 0, 0],
+        ),
+        (&[0x38], &[]),
+        (&[0x3a, 5], &[0xba, 0]),
+        (&[0x3b], &[]),
+        (&[0x3c], &[0xbc, 2]),
+        (&[0x30], &[]),
+    ];
+    for (octets, wanted) in rows {
+        if !is_answered(&mut module, octets, wanted) {
+            return Ok(Answer::Wrong);
+        }
+    }
+    module.raise(1);
+    module.line_sync();
+    for _ in 0..9 {
+        module.scan(0);
+        module.scan(u64::MAX);
+    }
+    // 1,152 entries, of which 1,024 wait; then a block takes 255 of them.
+    let is_full = module.waiting() == 1024 && module.counter() == 23;
+    let is_sent = module
+        .receive(&[0x36, 1])
+        .is_some_and(|frame| frame.len() == 773);
+    let is_left = module.waiting() == 769;
+    module.restart();
+    let is_new = module.waiting() == 0 && module.counter() == 0;
+    Ok(Answer::right_if(is_full && is_sent && is_left && is_new))
+}
+
+/// The octets of a configuration: each input is reported, and one sample changes its state.
+fn opens_all_inputs() -> [u8; 194] {
+    let mut octets = [1; 194];
+    octets[0] = 0x33;
+    octets[1] = 64;
+    for (item, input) in octets[2..].chunks_exact_mut(3).zip(0..64) {
+        item[0] = input;
+    }
+    octets
+}
+
+/// The module answers octets as it is wanted, and not at all where nothing is wanted.
+fn is_answered(module: &mut Module, octets: &[u8], wanted: &[u8]) -> bool {
+    match module.receive(octets) {
+        Some(frame) => frame.as_slice() == wanted,
+        None => wanted.is_empty(),
+    }
+}

@@ -2,7 +2,7 @@
 use crate::answers::Answer;
 use crate::samples::{LOST_ANSWER, LOST_ANSWER_REPORT, TRANSCRIPT};
 use fio_message::{DecodeError, Memory};
-use fio_tool::{TraceError, read_trace};
+use fio_tool::{TraceError, Verdict, check_trace, read_trace};
 use fio_world::text::read_octets;
 use fio_world::{ScriptError, push_fault, read_script, report};
 use std::alloc::Global;
@@ -58,4 +58,13 @@ pub(crate) fn transcript(alloc: Global) -> Answer {
         Ok(lines) => Answer::right_if(lines.len() == 5),
         Err(fault) => Answer::refused_if(fault == TraceError::Memory),
     }
+}
+
+/// The lines of that transcript, checked.
+pub(crate) fn verdict(alloc: Global) -> Result<Answer, Memory> {
+    let Ok(lines) = read_trace(alloc, TRANSCRIPT) else {
+        return Err(Memory);
+    };
+    let is_wanted = check_trace(lines.as_slice()) == Verdict::Good { frames: 5 };
+    Ok(Answer::right_if(is_wanted))
 }

@@ -1,9 +1,10 @@
 //! Both ends and the bus.
 use crate::answers::Answer;
-use crate::samples::Sample;
-use fio_message::Memory;
+use crate::samples::{LOST_ANSWER, Sample};
+use fio_cpu::Heard;
+use fio_message::{Command, Memory};
 use fio_module::Limits;
-use fio_world::{RunError, Script, World, WorldError, read_script};
+use fio_world::{Event, Outcome, RunError, Script, World, WorldError, read_script};
 use std::alloc::Global;
 
 /// A world in which nothing has happened.
@@ -86,6 +87,46 @@ pub(crate) fn step(alloc: Global, sample: &Sample) -> Result<Answer, Memory> {
     } else {
         Answer::Wrong
     })
+}
+
+/// Events that take no memory, at the end of a sample: those of the module alone, a delivery that adds
+/// nothing to the record, and refused ones.
+pub(crate) fn adding_nothing(alloc: Global) -> Result<Answer, Memory> {
+    let script = script_of(alloc, &LOST_ANSWER)?;
+    let mut world = match World::run(alloc, script.id, script.first, script.events.as_slice()) {
+        Ok(world) => world,
+        Err(_) => return Err(Memory),
+    };
+    let rows = [
+        (Event::Scan(0), Ok(Outcome::Quiet)),
+        (Event::LineSync, Ok(Outcome::Quiet)),
+        (Event::Raise(1), Ok(Outcome::Quiet)),
+        (
+            Event::ToCpu(4),
+            Ok(Outcome::Heard(Heard::Stale { block: 0 })),
+        ),
+        (Event::ToCpu(5), Err(WorldError::NotSent { index: 5 })),
+        (Event::ToModule(0), Err(WorldError::NotSent { index: 0 })),
+        (
+            Event::ToModule(3),
+            Err(WorldError::OutOfOrder { index: 3, last: 4 }),
+        ),
+        (
+            Event::Send(Command::Poll { block: 1 }),
+            Err(WorldError::PollIsOurs),
+        ),
+        (Event::Restart, Ok(Outcome::Quiet)),
+    ];
+    for (place, (event, wanted)) in rows.iter().enumerate() {
+        let found = world.step(event);
+        if found == Err(WorldError::Memory) {
+            return Ok(Answer::Refused(place));
+        }
+        if found != *wanted {
+            return Ok(Answer::Wrong);
+        }
+    }
+    Ok(Answer::right_if(counts(&world) == [4, 4, 4, 4, 2, 1, 0, 0]))
 }
 
 /// The script of a sample, as far as there is memory for it.

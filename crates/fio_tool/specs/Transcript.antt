@@ -1,5 +1,5 @@
 -- A transcript: the frames that the CPU's end of the link sent and heard, one a line, in order.
-use Rattle.std.specs.Prelude.{ℕ, zero, suc, Bool, true, false, List, map, codes, Option, Some, None, Result, slice_get, option_map, option_and_then, if◌then◌else◌}
+use Rattle.std.specs.Prelude.{◌≡◌, ℕ, zero, suc, Bool, true, false, List, ◌∷◌, ◌++◌, map, codes, Option, Some, None, Result, Ok, slice_get, option_map, option_and_then, if◌then◌else◌}
 use Rattle.std.specs.Option.{ok_or, option_map_or, option_or}
 use Rattle.fio_message.specs.Blocks.{Block}
 use Rattle.fio_message.specs.Decoding.{command_in, answer_in, polled_number, answered_block}
@@ -41,6 +41,13 @@ line_in (number, line) = ok_or
 -- the lines of a transcript, or the first line that is no frame
 abbrev pub trace_in : List ℕ → Result (List TraceLine) TraceError
 trace_in text = collected (map line_in (numbered 1 (lines_of text)))
+
+-- some line is a frame, and all lines above it are: it is these that a list of lines asks room for
+pub record HasFrameToKeep (text : List ℕ) : Type 0 where
+  pub above : List TraceLine
+  pub line : TraceLine
+  pub below : List (Result TraceLine TraceError)
+  pub frames : map line_in (numbered 1 (lines_of text)) ≡ map Ok above ++ (Ok line ∷ below)
 
 -- ---- what a line says
 

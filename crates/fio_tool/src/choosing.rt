@@ -19,6 +19,9 @@ const VERSION: &str = "1.0.0";
 const ABOUT: &str =
     "Reads the messages between the CPU and the field I/O module of a Model 2070 controller";
 
+/// How the program is called.
+const USAGE: &str = "fio2070 COMMAND < FILE";
+
 /// The tool that the words of a command line name, the program's name first: `None` where they name
 /// no subcommand.
 ///
@@ -47,6 +50,7 @@ fn command_line<'a>(alloc: Global) -> Result<Command<'a>, AllocError>
 {
     let mut command = Command::new(alloc, "fio2070")
         .about(ABOUT)
+        .override_usage(USAGE)
         .after_help(help::PROGRAM)
         .version(VERSION)
         .disable_help_subcommand(true);
@@ -63,8 +67,12 @@ fn subcommand<'a>(alloc: Global, tool: Tool) -> Command<'a>
 {
     let name: &'a str = tool.name();
     let about: &'a str = tool.about();
+    let usage: &'a str = tool.usage();
     let after: &'a str = tool.after_help();
-    Command::new(alloc, name).about(about).after_help(after)
+    Command::new(alloc, name)
+        .about(about)
+        .override_usage(usage)
+        .after_help(after)
 }
 
 /// The tool of a subcommand.

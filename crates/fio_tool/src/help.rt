@@ -2,15 +2,16 @@
 
 /// What all tools read and write, the statuses, an example.
 pub(crate) const PROGRAM: &str = "\
-Each subcommand reads standard input and writes its text to standard output. What it
-reads and writes, its statuses and an example: fio2070 show --help, and so on.
+Each subcommand reads standard input to its end, and then writes its text to standard
+output. It takes no file as an argument. What it reads and writes, its statuses and an
+example: fio2070 show --help, and so on.
 
 Exit status:
-  0  the text tells of no fault; help and version
-  1  the text tells of a fault: a faulty line, a refused event, a broken rule, an input
+  0  the text reports no fault; help and version
+  1  the text reports a fault: a faulty line, a refused event, a broken rule, an input
      of more than 1048576 octets
-  2  the words name no subcommand, or have another fault
-  3  a read or a write failed, or there was no memory
+  2  the command line names no subcommand, or is invalid
+  3  a read or a write failed, or memory ran out
 
 Example:
   $ echo 3605 | fio2070 show
@@ -18,15 +19,25 @@ Example:
 
 /// What `show` reads and writes, its statuses, an example.
 pub(crate) const SHOW: &str = "\
-Reads:   frames, one a line, each octet as two hexadecimal digits. A line that is empty
-         or begins with # is skipped.
+Reads:   frames, one a line, each octet as two hexadecimal digits, with no blank, no 0x
+         and no carriage return. A line that is empty or begins with # is skipped. For
+         captures in other forms see docs/CAPTURES.md.
 Writes:  what each frame says. A line with a fault gives `line N: ` and the fault, and
          the lines below it are shown all the same.
+
+In a block:
+  status  four bits have names: 08 C, more entries waited than this block takes; 04 F,
+          entries directly before this block were pushed out by an overflow; 02 E, the
+          same block number was asked for again; 01 G, the block number is not the one
+          before plus one
+  stamp   the module's counter in milliseconds: of a block when it was made, 32 bits; of
+          an entry when its input changed, the low 16 bits
+  wide    the time of an entry in 32 bits, which follows from both stamps
 
 Exit status:
   0  no line has a fault
   1  a line has a fault, or the input has more than 1048576 octets
-  3  a read or a write failed, or there was no memory
+  3  a read or a write failed, or memory ran out
 
 Example:
   $ echo 3605 | fio2070 show
@@ -48,14 +59,16 @@ Reads:   a script. Its first line is `fio2070 script 1 ID FIRST`: the identifica
            to-cpu N       the bus delivers the Nth frame sent to the CPU
            restart        the module restarts
          A line that is empty or begins with # is skipped, but for the first.
-Writes:  a line for what each event brings, then the counter, the CPU's block number,
-         how many entries wait, and the CPU's record. A refused event is the last line.
+Writes:  a line with the outcome of each event, then the counter, the CPU's block number,
+         how many entries wait, and the CPU's record: `gap` where an overflow pushed
+         entries out, and each entry with its stamp and its wide time. A refused event is
+         the last line. For status, stamp and wide see fio2070 show --help.
 
 Exit status:
   0  each event is done
   1  the script has a fault, an event is refused, or the input has more than 1048576
      octets
-  3  a read or a write failed, or there was no memory
+  3  a read or a write failed, or memory ran out
 
 Example:
   $ printf 'fio2070 script 1 2 0\\npoll\\nto-module 1\\nto-cpu 1\\n' | fio2070 simulate
@@ -74,15 +87,15 @@ Reads:   a transcript of what a CPU's end sent and heard, in order, a frame a li
          empty or begins with # is skipped.
 Writes:  `good N frames`, or `line N breaks RULE` for the first line that breaks a rule
          and the first rule that it breaks: readable, pair, number, advance, same,
-         sequence, limits, rest or refusal. They suppose a bus that doubles nothing and
-         brings an answer before the next command or never, a module with the standard
-         limits that was not restarted, and a CPU that did not want memory. Where a line
-         is no frame, `line N: bad line`.
+         sequence, limits, rest or refusal. They suppose a bus that repeats no frame and
+         delivers an answer before the next command or never, a module with the standard
+         limits that was not restarted, and a CPU that never ran out of memory. Where a
+         line is no frame, `line N: bad line`.
 
 Exit status:
   0  the transcript keeps the rules
   1  it breaks one, a line is no frame, or the input has more than 1048576 octets
-  3  a read or a write failed, or there was no memory
+  3  a read or a write failed, or memory ran out
 
 Example:
   $ printf '> 3605\\n< b6050000000003e8\\n> 3605\\n' | fio2070 check

@@ -45,14 +45,23 @@ impl Tool {
     pub(crate) fn about(self) -> &'static str {
         match self {
             Tool::Show => {
-                "Tells what the frames on standard input say, a line of hexadecimal digits each"
+                "Reports what the frames on standard input say, a line of hexadecimal digits each"
             }
             Tool::Simulate => {
-                "Runs a script of events on both ends of the link, and tells what each event brings"
+                "Runs a script of events on both ends of the link, and reports their outcomes"
             }
             Tool::Check => {
-                "Tells whether a transcript on standard input keeps the rules of the link"
+                "Reports whether a transcript on standard input keeps the rules of the link"
             }
+        }
+    }
+
+    /// How the tool is called.
+    pub(crate) fn usage(self) -> &'static str {
+        match self {
+            Tool::Show => "fio2070 show < FILE",
+            Tool::Simulate => "fio2070 simulate < FILE",
+            Tool::Check => "fio2070 check < FILE",
         }
     }
 
@@ -84,8 +93,8 @@ pub fn show<R: Read, W: Write>(
     ensures unwritten { IfErr result (λ fault. fault ≢ ToolFault.Write
         → Keeps (W.contents writer.old) (W.contents writer.new)) }
 {
-    let input = read_input(alloc, reader)?;
-    let report = show_text(alloc, input.as_slice())?;
+    let frames = read_input(alloc, reader)?;
+    let report = show_text(alloc, frames.as_slice())?;
     write_report(writer, &report)
 }
 
@@ -107,8 +116,8 @@ pub fn simulate<R: Read, W: Write>(
     ensures unwritten { IfErr result (λ fault. fault ≢ ToolFault.Write
         → Keeps (W.contents writer.old) (W.contents writer.new)) }
 {
-    let input = read_input(alloc, reader)?;
-    let report = simulate_text(alloc, input.as_slice())?;
+    let script = read_input(alloc, reader)?;
+    let report = simulate_text(alloc, script.as_slice())?;
     write_report(writer, &report)
 }
 
@@ -131,7 +140,7 @@ pub fn check<R: Read, W: Write>(
     ensures unwritten { IfErr result (λ fault. fault ≢ ToolFault.Write
         → Keeps (W.contents writer.old) (W.contents writer.new)) }
 {
-    let input = read_input(alloc, reader)?;
-    let report = check_text(alloc, input.as_slice())?;
+    let transcript = read_input(alloc, reader)?;
+    let report = check_text(alloc, transcript.as_slice())?;
     write_report(writer, &report)
 }

@@ -1,6 +1,7 @@
 pub mod LineLemmas
 pub mod CollectedLemmas
 pub mod DigitLemmas
+pub mod OctetLemmas
 pub mod FrameWords
 pub mod Places
 pub mod RoundNumbers

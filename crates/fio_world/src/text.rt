@@ -3,6 +3,7 @@
 mod fixed;
 mod lines;
 mod numbering;
+mod octets;
 mod printing;
 mod words;
 mod writing;
@@ -10,6 +11,7 @@ mod writing;
 pub use fixed::{LONGEST, read_frame};
 pub use lines::{is_skipped, split_line};
 pub use numbering::{NumberedLines, numbered_lines};
+pub use octets::{is_octets, read_octets_to};
 pub use printing::{FaultWords, Hexadecimal};
 pub use words::{
     after_prefix, read_inputs, read_number, read_octet, read_octets, read_octets_into,

@@ -8,7 +8,13 @@ fn input(rt: &impl Abort, number: u8) -> InputNumber {
     InputNumber::new(number).expect(rt, "below 128")
 }
 
-fn item(rt: &impl Abort, number: u8, ignore: bool, leading: u8, trailing: u8) -> InputItem {
+pub(super) fn item(
+    rt: &impl Abort,
+    number: u8,
+    ignore: bool,
+    leading: u8,
+    trailing: u8,
+) -> InputItem {
     InputItem {
         input: input(rt, number),
         ignore,
@@ -151,7 +157,7 @@ fn answers(rt: &impl Abort) -> [(Answer, &'static [u8]); 17] {
     ]
 }
 
-fn entry(rt: &impl Abort, number: u8, level: bool, stamp: u16) -> Entry {
+pub(super) fn entry(rt: &impl Abort, number: u8, level: bool, stamp: u16) -> Entry {
     Entry {
         input: input(rt, number),
         level,

@@ -1,5 +1,6 @@
 //! Transcripts as lines.
 use fio_tool::{Line, Rule, TraceError, Verdict, check_trace, read_trace};
+use std::alloc::{AllocError, Global};
 use std::test::*;
 
 #[test]
@@ -40,5 +41,29 @@ fn lines_that_are_checked(rt: HostRuntime) -> Result<(), Fail> {
     assert_eq!(rt; check_trace(&lines), verdict);
     assert_eq!(rt; check_trace(&lines[..1]), Verdict::Good { frames: 1 });
     assert_eq!(rt; check_trace(&[]), Verdict::Good { frames: 0 });
+    Ok(())
+}
+
+/// The text of so many frames that the CPU sent. No contract says what it is, so that no proof of a test
+/// writes it out.
+fn frames(alloc: Global, count: usize) -> Result<Vec<u8>, AllocError> {
+    let mut text = Vec::new(alloc);
+    for _ in 0..count {
+        text.extend_from_slice(b"> 34\n")?;
+    }
+    Ok(text)
+}
+
+#[test]
+fn more_lines_than_sixteen_bits_count(rt: HostRuntime) -> Result<(), Fail> {
+    for count in [65_536, 65_537] {
+        let text = frames(rt.alloc(), count)?;
+        let lines = read_trace(rt.alloc(), text.as_slice())?;
+        assert_eq!(rt; lines.len(), count);
+        assert_eq!(rt;
+            check_trace(lines.as_slice()),
+            Verdict::Good { frames: count }
+        );
+    }
     Ok(())
 }

@@ -1,10 +1,9 @@
 //! The lines of a transcript, read from its text.
-ghost use Rattle.std.specs.Prelude.{◌≡◌, ◌≢◌, [], Ok, Err, IfOk, IfErr, option_map};
-ghost use Rattle.fio_world.specs.Lines.{lines_of, numbered};
-ghost use Rattle.fio_tool.specs.Transcript.{frame_in, line_in, trace_in};
+ghost use Rattle.std.specs.Prelude.{◌≡◌, ◌≢◌, Ok, Err, None, IfOk, IfErr, IfSome, IfNone, is_ok, true};
+ghost use Rattle.fio_tool.specs.Transcript.{HasFrameToKeep, frame_in, frame_with, line_in, trace_in};
 
 use fio_message::Memory;
-use fio_world::text::{after_prefix, numbered_lines, read_octets};
+use fio_world::text::{after_prefix, is_octets, numbered_lines, read_octets};
 use std::alloc::{AllocFailed, Global};
 use std::marker::Model;
 use thiserror::Error;
@@ -70,13 +69,14 @@ impl<T: Drop> From<AllocFailed<T>> for TraceError {
 /// `> HEX`, a frame that the CPU sent, or `< HEX`, one that it heard. A text of any length is read.
 ///
 /// # Errors
-/// `BadLine` for the first line that is neither; `Memory` where there was none for a line above it or
-/// for it.
+/// The first that applies: `BadLine` for the first line that is neither; `Memory` where the room for
+/// a line was refused. Room is asked for a line only once it is known to be a frame, so `Memory` never
+/// stands for a bad line, nor for a line below one.
 pub fn read_trace(alloc: Global, text: &[u8]) -> Result<Vec<Line>, TraceError>
     ensures ok { IfOk result (λ lines. trace_in text.now ≡ Ok lines.items) }
     ensures err { IfErr result (λ fault. fault ≢ TraceError.Memory
         → trace_in text.now ≡ Err fault) }
-    ensures memory { result ≡ Err TraceError.Memory → numbered 1 (lines_of text.now) ≢ [] }
+    ensures memory { result ≡ Err TraceError.Memory → HasFrameToKeep text.now }
 {
     let mut lines = Vec::new(alloc);
     'lines: for (number, line) in numbered_lines(text, 1) {
@@ -91,8 +91,16 @@ fn read_line(alloc: Global, number: usize, line: &[u8]) -> Result<Line, TraceErr
     ensures ok { IfOk result (λ found. line_in (number, line.now) ≡ Ok found) }
     ensures err { IfErr result (λ fault. fault ≢ TraceError.Memory
         → line_in (number, line.now) ≡ Err fault) }
+    ensures memory { result ≡ Err TraceError.Memory
+        → is_ok (line_in (number, line.now)) ≡ true }
 {
-    let Some((from_cpu, octets)) = read_frame(alloc, line)? else {
+    let Some((from_cpu, word)) = frame_word(line) else {
+        return Err(TraceError::BadLine { line: number });
+    };
+    if !is_octets(word) {
+        return Err(TraceError::BadLine { line: number });
+    }
+    let Some(octets) = read_octets(alloc, word)? else {
         return Err(TraceError::BadLine { line: number });
     };
     Ok(Line {
@@ -102,18 +110,15 @@ fn read_line(alloc: Global, number: usize, line: &[u8]) -> Result<Line, TraceErr
     })
 }
 
-/// Whether the CPU sent the frame of a line, and its octets; `None` where the line is no frame.
-fn read_frame(alloc: Global, line: &[u8]) -> Result<Option<(bool, Vec<u8>)>, Memory>
-    ensures { IfOk result (λ found.
-        option_map (λ frame. (frame.0, frame.1.items)) found ≡ frame_in line.now) }
+/// Whether the CPU sent the frame of a line, and the digits of its octets; `None` for a line that
+/// begins neither with `> ` nor with `< `.
+pub(crate) fn frame_word(line: &[u8]) -> Option<(bool, &[u8])>
+    ensures none { IfNone result (frame_in line.now ≡ None) }
+    ensures some { IfSome result (λ found. frame_in line.now ≡ frame_with found.0 found.1.now) }
 {
-    let (from_cpu, word) = match (after_prefix(line, b"> "), after_prefix(line, b"< ")) {
-        (Some(word), _) => (true, word),
-        (None, Some(word)) => (false, word),
-        (None, None) => return Ok(None),
-    };
-    match read_octets(alloc, word)? {
-        Some(octets) => Ok(Some((from_cpu, octets))),
-        None => Ok(None),
+    match (after_prefix(line, b"> "), after_prefix(line, b"< ")) {
+        (Some(word), _) => Some((true, word)),
+        (None, Some(word)) => Some((false, word)),
+        (None, None) => None,
     }
 }

@@ -1,4 +1,4 @@
-use Rattle.std.proofs.Common.{refl, arith}
+use Rattle.std.proofs.Common.{refl, arith, inr}
 use Rattle.std.proofs.lemmas.Simd.{get_or-replicate}
 use Rattle.fio_message.proofs.Bits.{is_set-ones}
 use Rattle.fio_input.proofs.filters.Filters.new.Goals as goal
@@ -8,7 +8,7 @@ returns c =
     record {
       raw = refl;
       inputs = λ i h. record {
-        run_length = get_or-replicate 64 i 0 0 h;
+        run_length = inr (get_or-replicate 64 i 0 0 h);
         leading = get_or-replicate 64 i 5 0 h;
         trailing = get_or-replicate 64 i 5 0 h;
         leading_fits = omega arith;

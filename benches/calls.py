@@ -1,0 +1,73 @@
+"""Single calls of the libraries, timed beside those of another implementation.
+
+Both programs that time them are made of the same text, `calls/operations.rs` and `calls/timings.rs`, which is Rattle as
+well as Rust. They are made outside the repository, since no gate needs them."""
+
+import os
+import shutil
+import statistics
+from pathlib import Path
+
+from programs import TOP, succeed
+
+TEXTS = Path(__file__).resolve().parent / 'calls'
+CRATES = ['fio_message', 'fio_input', 'fio_module', 'fio_cpu', 'fio_world']
+MANIFEST = '''[package]
+name = "fio_timing"
+version = "0.1.0"
+edition = "2024"
+
+[dependencies]
+fio2070 = {{ path = "{}/fio2070" }}
+
+[profile.release]
+opt-level = 3
+lto = "fat"
+codegen-units = 1
+panic = "abort"
+
+[workspace]
+'''
+
+
+def text(head):
+    """A program that times calls, with this beginning."""
+    return ''.join((TEXTS / name).read_text() for name in [head, 'operations.rs', 'timings.rs'])
+
+
+def build_ours(folder):
+    """The program that times the calls of this repository. It stands on copies of the crates, with what was proved."""
+    crates = folder / 'ours/crates'
+    for name in CRATES:
+        for part in ['src', 'specs', 'proofs', 'out/rlib']:
+            shutil.rmtree(crates / name / part, ignore_errors=True)
+            shutil.copytree(TOP / 'crates' / name / part, crates / name / part, symlinks=True)
+    lines = [line for line in (TOP / 'crates.txt').read_text().splitlines() if line.split(':')[0] in CRATES]
+    (folder / 'ours/crates.txt').write_text('\n'.join([*lines, f'fio_timing: {" ".join(CRATES)}']) + '\n')
+    source = crates / 'fio_timing/src/main.rt'
+    source.parent.mkdir(parents=True, exist_ok=True)
+    source.write_text(text('proved.txt'))
+    succeed(['rt', 'run'], cwd=crates / 'fio_timing')
+    return crates / 'fio_timing/out/fio_timing'
+
+
+def build_peer(folder, peer):
+    """The program that times the calls of another implementation."""
+    source = folder / 'peer/src/main.rs'
+    source.parent.mkdir(parents=True, exist_ok=True)
+    source.write_text(text('plain.rs'))
+    manifest = folder / 'peer/Cargo.toml'
+    manifest.write_text(MANIFEST.format(Path(peer).resolve()))
+    succeed(['cargo', 'build', '--release', '--manifest-path', manifest], cwd=peer)
+    return folder / 'peer/target/release/fio_timing'
+
+
+def times(programs, rounds):
+    """Nanoseconds of each call, by its name, for each of the programs: medians of runs in turns."""
+    found = [{} for _ in programs]
+    for _ in range(rounds):
+        for place, program in enumerate(programs):
+            for line in succeed([program]).splitlines():
+                call, case, nanoseconds, count, _ = line.split('\t')
+                found[place].setdefault((call, case), []).append(int(nanoseconds) / int(count))
+    return [{name: statistics.median(some) for name, some in one.items()} for one in found]

@@ -1,0 +1,53 @@
+//! Times calls of another implementation, one by one.
+
+use fio2070::{cpu as fio_cpu, input as fio_input, message as fio_message, module as fio_module, world as fio_world};
+use fio_cpu::{Heard, Poller};
+use fio_input::Filters;
+use fio_message::{
+    Answer, Command, Frame, decode_answer, decode_command, encode_answer, encode_command, read_block,
+};
+use fio_module::Module;
+use fio_world::{CommandFrame, Event, World};
+use std::time::Instant;
+use std::{env, io};
+
+type HostRuntime = ();
+
+macro_rules! timed {
+    ($rt:expr, $call:expr, $name:expr, $calls:expr, $run:expr) => {{
+        let start = Instant::now();
+        let result = $run;
+        let spent = start.elapsed().as_nanos();
+        println!("{}\t{}\t{}\t{}\t{:?}", $call, $name, spent, $calls, result);
+    }};
+}
+
+fn out_of_memory() -> io::Error {
+    io::Error::from(io::ErrorKind::OutOfMemory)
+}
+
+fn new_module(_rt: &HostRuntime) -> io::Result<Module> {
+    Module::new(2).map_err(|_| out_of_memory())
+}
+
+fn new_modules(rt: &HostRuntime) -> io::Result<Vec<Module>> {
+    (0..16).map(|_| new_module(rt)).collect()
+}
+
+fn new_poller(_rt: &HostRuntime) -> Poller {
+    Poller::new(0)
+}
+
+fn new_world(_rt: &HostRuntime) -> io::Result<World> {
+    let mut world = World::new(2, 0).map_err(|_| out_of_memory())?;
+    if let Ok(command) = CommandFrame::read(&configure_frame(1)) {
+        let _ = world.step(&Event::Send(command));
+        let _ = world.step(&Event::ToModule(1));
+    }
+    Ok(world)
+}
+
+fn main() -> io::Result<()> {
+    time_all(&(), env::args().count())
+}
+

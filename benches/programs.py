@@ -1,0 +1,86 @@
+"""The program, another implementation of it, and what a run of either costs."""
+
+import os
+import re
+import shlex
+import shutil
+import statistics
+import subprocess
+import tempfile
+from pathlib import Path
+
+TOP = Path(__file__).resolve().parent.parent
+RUNNER = Path(__file__).resolve().parent / 'run.c'
+COLLECTED = re.compile(r'Collected : (\d+)')
+
+
+class Failed(Exception):
+    """A command failed, and so there is nothing to report."""
+
+
+def succeed(command, **options):
+    """What a command writes to standard output. It has to end with status 0."""
+    done = subprocess.run([str(word) for word in command], capture_output=True, text=True, check=False, **options)
+    if done.returncode != 0:
+        raise Failed(f'{shlex.join(str(word) for word in command)}\n{done.stdout}{done.stderr}')
+    return done.stdout
+
+
+def build_ours():
+    """The program of this repository, proved and built where it is not yet."""
+    succeed([TOP / 'fio2070', '--version'])
+    return TOP / 'crates/fio2070/out/fio2070'
+
+
+def build_peer(folder):
+    """The program of a Cargo workspace with the crate `fio2070`, hexadecimal text by the crate `hex`."""
+    succeed(['cargo', 'build', '--release', '-p', 'fio2070', '--features', 'fio2070/crate-hex'], cwd=folder)
+    return Path(folder).resolve() / 'target/release/fio2070'
+
+
+class Bench:
+    """Measures runs of programs. A run has one word and an input."""
+
+    def __init__(self, folder):
+        self.folder = Path(folder)
+        self.runner = self.folder / 'run'
+        compiler = shlex.split(os.environ.get('CC') or 'cc')
+        succeed([*compiler, '-O2', '-o', self.runner, RUNNER])
+
+    def keep(self, name, text):
+        """A file with this text."""
+        path = self.folder / f'{name}.in'
+        path.write_text(text)
+        return path
+
+    def instructions(self, program, word, path):
+        """How many instructions a run takes, `None` where there is no valgrind."""
+        if shutil.which('valgrind') is None:
+            return None
+        notes = self.folder / 'callgrind.out'
+        command = ['valgrind', '--tool=callgrind', f'--callgrind-out-file={notes}', program, word]
+        with path.open() as text:
+            done = subprocess.run(command, stdin=text, stdout=subprocess.DEVNULL, stderr=subprocess.PIPE, text=True,
+                                  check=False)
+        found = COLLECTED.search(done.stderr)
+        if found is None:
+            raise Failed(f'{shlex.join(map(str, command))}\n{done.stderr}')
+        return int(found.group(1))
+
+    def times(self, programs, word, path, rounds):
+        """The median of a run's milliseconds, and of the most memory that it holds in MB, for each of the programs,
+        which run in turns."""
+        runs = [[] for _ in programs]
+        for _ in range(rounds):
+            for place, program in enumerate(programs):
+                line = succeed([self.runner, path, 1, program, word])
+                runs[place].append([int(number) for number in line.split()])
+        return [(statistics.median(run[0] for run in some) / 1e6, statistics.median(run[1] for run in some) / 1e3)
+                for some in runs]
+
+
+def folder_for_work():
+    """A folder that lasts until the next start of the machine, so that a second call builds less."""
+    folder = Path(tempfile.gettempdir()) / f'fio2070-bench-{os.getuid()}'
+    folder.mkdir(exist_ok=True)
+    return folder

@@ -1,0 +1,97 @@
+"""Tables of what was measured, in Markdown."""
+
+import re
+import subprocess
+from pathlib import Path
+
+import workloads
+from programs import TOP
+
+PAGE = TOP / 'docs/PERFORMANCE.md'
+PARTS = [(0.25, 'a quarter'), (0.5, 'a half'), (1, 'whole')]
+
+
+def table(heads, rows):
+    """Lines of a table. All columns but the first have numbers."""
+    lines = [heads, ['---'] + ['---:'] * (len(heads) - 1), *rows]
+    return ''.join('| ' + ' | '.join(line) + ' |\n' for line in lines)
+
+
+def figure(value, digits):
+    """A number, or a dash where it is not known."""
+    return '-' if value is None else f'{value:.{digits}f}'
+
+
+def compared(values, digits):
+    """Our number, and with another one beside it that number and the ratio."""
+    cells = [figure(value, digits) for value in values]
+    if len(values) == 2:
+        ours, other = values
+        cells.append('-' if ours is None or not other else f'{ours / other:.2f}')
+    return cells
+
+
+def heads_of(name, pair):
+    """The heads of the columns of one quantity."""
+    return [name] if len(pair) == 1 else [name, 'peer', 'ratio']
+
+
+def millions(bench, program, word, path):
+    """Instructions of a run in millions."""
+    count = bench.instructions(program, word, path)
+    return None if count is None else count / 1e6
+
+
+def of_programs(bench, pair, inputs, rounds):
+    """Instructions, time and memory of each input."""
+    rows = []
+    for name in workloads.NAMES:
+        path = Path(inputs) / f'{name}.in' if inputs else bench.keep(name, workloads.make(name))
+        word = name.split('-', maxsplit=1)[0]
+        counts = [millions(bench, program, word, path) for program in pair]
+        runs = bench.times(pair, word, path, rounds)
+        rows.append([name, *compared(counts, 2), *compared([run[0] for run in runs], 2),
+                     *compared([run[1] for run in runs], 1)])
+    heads = ['Input', *heads_of('instructions, millions', pair), *heads_of('time, ms', pair),
+             *heads_of('memory, MB', pair)]
+    return table(heads, rows)
+
+
+def of_growth(bench, pair):
+    """Instructions, or times where there is no valgrind, at three sizes of each input."""
+    rows = []
+    for name in workloads.NAMES:
+        word = name.split('-', maxsplit=1)[0]
+        paths = [bench.keep(f'{name}-{part}', workloads.make(name, part)) for part, _ in PARTS]
+        row = [name]
+        for program in pair:
+            row += [figure(millions(bench, program, word, path), 2) for path in paths]
+        rows.append(row)
+    heads = [f'instructions, millions: {size}' for _, size in PARTS]
+    heads += [f'peer: {size}' for _, size in PARTS] if len(pair) == 2 else []
+    return table(['Input', *heads], rows)
+
+
+def of_calls(found):
+    """Nanoseconds of each call."""
+    rows = [[f'`{call}`', case, *compared([one.get((call, case)) for one in found], 1)] for call, case in found[0]]
+    heads = ['Call', 'case', *heads_of('ns', found)]
+    return table(heads, rows).replace('| --- | ---: |', '| --- | --- |', 1)
+
+
+def machine():
+    """The name of this machine's processor, and how busy the machine was."""
+    name = re.search(r'Model name:\s*(.*)', subprocess.run(['lscpu'], capture_output=True, text=True, check=True).stdout)
+    with open('/proc/loadavg', encoding='utf-8') as loads:
+        load = loads.read().split()[0]
+    return f'{name.group(1)}, load {load} at the end\n'
+
+
+def write(found):
+    """Replaces the tables of the page, each between its two marks."""
+    page = PAGE.read_text()
+    for part, lines in {**found, 'machine': machine()}.items():
+        marks = f'<!-- {part} -->\n', f'<!-- end of {part} -->'
+        before, rest = page.split(marks[0])
+        page = before + marks[0] + '\n' + lines + '\n' + marks[1] + rest.split(marks[1], maxsplit=1)[1]
+    PAGE.write_text(page)

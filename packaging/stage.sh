@@ -1,0 +1,44 @@
+# What the makers of packages share: sourced by them at the top of the repository.
+
+# fail WORD..: says why there is no package, and ends.
+fail() {
+    echo "packaging: $*" >&2
+    exit 1
+}
+
+# needs COMMAND..: ends where a command is not there.
+needs() {
+    for command in "$@"; do
+        [ -n "$(command -v "$command")" ] || fail "this needs the command $command"
+    done
+}
+
+# The version that the built program tells.
+version() { crates/fio2070/out/fio2070 --version | cut -d ' ' -f 2; }
+
+# The time that all files of a package have: that of the last commit, or what SOURCE_DATE_EPOCH says.
+epoch() { echo "${SOURCE_DATE_EPOCH:-$(git log -1 --format=%ct 2>/dev/null || stat -c %Y CHANGELOG.md)}"; }
+
+# stage FOLDER SETTING..: installs into a new folder, by `make install` with these settings, without symbols.
+stage() {
+    folder=$1
+    shift
+    umask 022
+    env -u MAKEFLAGS -u MAKELEVEL -u MFLAGS make -s install DESTDIR="$folder" "$@" >/dev/null ||
+        fail 'make install failed'
+    find "$folder" -path '*/bin/fio2070' -exec strip --strip-unneeded '{}' ';' \
+        -o -name '*.a' -exec strip --strip-debug --enable-deterministic-archives '{}' ';' || fail 'strip failed'
+}
+
+# stage_documents FOLDER: puts the documents and the examples into a folder, with the links between them whole.
+stage_documents() {
+    install -d "$1/docs" "$1/examples"
+    install -m 644 README.md "$1"
+    install -m 644 docs/*.md "$1/docs"
+    (cd examples && find . -type f) | while read -r file; do
+        install -D -m 644 "examples/$file" "$1/examples/$file"
+    done
+}
+
+# set_times FOLDER: gives all files and folders the time of the package.
+set_times() { find "$1" -exec touch -h -d "@$(epoch)" '{}' +; }

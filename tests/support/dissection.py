@@ -1,0 +1,203 @@
+"""What the Wireshark dissector is to say of frames: the lines that `show` writes of each, and the links between
+commands and answers as a search through the whole transcript finds them."""
+
+import re
+
+from support.tables import told
+from support.tshark import FIELDS
+
+FAULT = re.compile(r'empty|too long got \d+|unknown type \d+|wrong length needed \d+ got \d+')
+ITEM = ('input', 'ignore', 'leading', 'trailing')
+ENTRY = ('input', 'state', 'stamp', 'wide')
+LARGEST_INPUT = 1_000_000
+
+# The first line of `show` for each type, by the names of fields; `:x` is one octet in hexadecimal, `:o` octets.
+FIRST_LINES = {
+    49: 'status clear {clear:x}', 50: 'load counter {load}', 51: 'configure inputs {items}', 52: 'raw inputs',
+    53: 'filtered inputs', 54: 'poll block {block.number}',
+    55: 'set outputs data {outputs.data:o} control {outputs.control:o}', 58: 'watchdog ms {watchdog.timeout}',
+    60: 'identify',
+    177: 'status flags {flags:x} receive {errors.receive} transmit {errors.transmit} stamp {stamp}',
+    178: 'counter load status {status:x}', 179: 'configure status {status:x}',
+    180: 'raw inputs {inputs:o} stamp {stamp}', 181: 'filtered inputs {inputs:o} stamp {stamp}',
+    182: 'block {block.number} entries {block.entries} status {block.flags:x} stamp {stamp}',
+    186: 'watchdog status {watchdog.status:x}',
+}
+
+
+def shown(frames):
+    """For each frame the lines that `show` writes, without `line N: ` in front."""
+    groups, start = [], 0
+    while start < len(frames):
+        end, size = start, 0
+        while end < len(frames) and size + 2 * len(frames[end]) < LARGEST_INPUT:
+            size += 2 * len(frames[end]) + 1
+            end += 1
+        pieces = []
+        for line in told('show', ''.join(frame.hex() + '\n' for frame in frames[start:end]))[0].splitlines():
+            if line.startswith('  '):
+                pieces[-1].append(line)
+            else:
+                pieces.append([line.removeprefix('line %d: ' % (len(pieces) + 1))])
+        assert len(pieces) == end - start, 'show wrote another number of lines'
+        groups, start = groups + pieces, end
+    return groups
+
+
+def values(row, name):
+    """The values of a field that can stand more than once in a frame."""
+    return row[name].split('|') if row[name] else []
+
+
+def is_true(word):
+    """The value of a Boolean field; later versions of tshark write words."""
+    return {'True': True, 'False': False, '1': True, '0': False}.get(word)
+
+
+def spelled(row):
+    """The lines of `show`, written anew from the fields of a frame alone."""
+    def word(match):
+        text = row['fio2070.' + match.group(1)]
+        if match.group(2) == ':x':
+            return '%02x' % int(text, 16)
+        return text.replace(':', '') if match.group(2) == ':o' else text
+
+    kind = int(row['fio2070.type'])
+    other = 'other %d body %s' % (kind, row['fio2070.body'].replace(':', '') or '-')
+    lines = [re.sub(r'\{([a-z.]+)(:[xo])?\}', word, FIRST_LINES.get(kind, other))]
+    for group, names in (('item', ITEM), ('entry', ENTRY)):
+        columns = [values(row, 'fio2070.%s.%s' % (group, name)) for name in names]
+        if len(set(map(len, columns))) != 1:
+            raise ValueError('columns of unequal length')
+        lines += [spelled_element(names, element) for element in zip(*columns)]
+    return lines
+
+
+def spelled_element(names, element):
+    """The line of an item or an entry."""
+    return '  ' + ' '.join('%s %s' % pair for pair in zip(names, element))
+
+
+def facts_of_frame(row, octets):
+    """What the dissector says of a frame, by name."""
+    notices = values(row, '_ws.expert.message')
+    refused = bool(FAULT.fullmatch(row['_ws.col.Info']))
+    decoded = [name for name in FIELDS if row[name] and re.match(r'fio2070\.(?!octets|type|undecoded)', name)]
+    facts = {
+        'Info': row['_ws.col.Info'],
+        'protocol': row['_ws.col.Protocol'],
+        'octets': row['fio2070.octets'].replace(':', ''),
+        'type': row['fio2070.type'],
+        'answer': is_true(row['fio2070.type.answer']),
+        'faults': [text for text in notices if FAULT.fullmatch(text)],
+        'malformed': row['_ws.malformed'] != '',
+        'undecoded': row['fio2070.undecoded'].replace(':', ''),
+        'inputs above 63': sum(bool(re.fullmatch(r'input \d+ is above 63', text)) for text in notices),
+        'lines': decoded if refused else spelled(row),
+    }
+    if octets[0] == 182 and not refused:
+        for letter in 'CFEG':
+            facts[letter] = is_true(row['fio2070.block.flags.' + letter.lower()])
+            facts['notice ' + letter] = any(text.startswith(letter + ': ') for text in notices)
+    return facts
+
+
+def wanted_of_frame(octets, lines):
+    """What it is to say, from the octets and the lines of `show`."""
+    refused = bool(FAULT.fullmatch(lines[0]))
+    inputs = [int(line.split()[1]) for line in lines[1:]]
+    facts = {
+        'Info': lines[0],
+        'protocol': 'FIO2070',
+        'octets': octets.hex(),
+        'type': str(octets[0]),
+        'answer': octets[0] >= 128,
+        'faults': [lines[0]] if refused else [],
+        'malformed': refused,
+        'undecoded': octets[1:].hex() if refused else '',
+        'inputs above 63': sum(number > 63 for number in inputs),
+        'lines': [] if refused else lines,
+    }
+    if octets[0] == 182 and not refused:
+        for letter, bit in zip('CFEG', (8, 4, 2, 1)):
+            facts[letter] = facts['notice ' + letter] = bool(octets[-5] & bit)
+    return facts
+
+
+def fault_of_frame(octets, lines, row):
+    """The first difference between what the dissector says of a frame and what it is to say, or None."""
+    try:
+        found = facts_of_frame(row, octets)
+    except ValueError as fault:
+        return 'fields of %s: %s' % (octets.hex()[:40], fault)
+    for name, wanted in wanted_of_frame(octets, lines).items():
+        if found.get(name) != wanted:
+            return '%s of %s: %r, wanted %r' % (name, octets.hex()[:40], found.get(name), wanted)
+    return None
+
+
+def kinds_of(frames, shows):
+    """The type of each frame, None where it spells no message."""
+    return [None if FAULT.fullmatch(lines[0]) else octets[0] for octets, lines in zip(frames, shows)]
+
+
+def commands_of(frames, kinds):
+    """For each answer that was asked for, the place of its command: the last above it of its type and, for a block
+    answer, with its number."""
+    found = {}
+    for place, octets in enumerate(frames):
+        if kinds[place] is None or kinds[place] < 128:
+            continue
+        asked = [above for above in range(place) if kinds[above] == kinds[place] - 128
+                 and (kinds[place] != 182 or frames[above][1] == octets[1])]
+        if asked:
+            found[place] = asked[-1]
+    return found
+
+
+def wanted_links(frames, shows):
+    """For each frame: the place of its first answer, of its command, and of the poll that it repeats; whether it skips
+    a block, was not asked for, or is a further answer."""
+    kinds = kinds_of(frames, shows)
+    commands = commands_of(frames, kinds)
+    links, last_poll = [], None
+    for place, octets in enumerate(frames):
+        answers = [answer for answer in sorted(commands) if commands[answer] == place]
+        repeated, skips = None, False
+        if kinds[place] == 54:
+            if last_poll is not None and frames[last_poll] == octets:
+                repeated = last_poll
+            elif last_poll is not None:
+                answered = any(commands[answer] == last_poll and answer < place for answer in commands)
+                skips = (octets[1] - frames[last_poll][1]) % 256 != 1 or not answered
+            last_poll = place
+        command = commands.get(place)
+        unasked = kinds[place] is not None and kinds[place] >= 128 and command is None
+        further = command is not None and any(commands[answer] == command for answer in commands if answer < place)
+        links.append((answers[0] if answers else None, command, repeated, skips, unasked, further))
+    return links
+
+
+def links_of(row):
+    """The same as the dissector says it of a frame."""
+    notices = values(row, '_ws.expert.message')
+
+    def said(form):
+        return any(re.fullmatch(form, text) for text in notices)
+
+    places = [int(row['fio2070.' + name]) - 1 if row['fio2070.' + name] else None
+              for name in ('response_in', 'response_to', 'repeat_of')]
+    if said(r'poll of block \d+ again') != (places[2] is not None):
+        return 'a notice of a repeat that does not fit'
+    skips = said(r'block \d+ is asked for after block \d+') or said(r'block \d+ was given up: .*')
+    return (*places, skips, said('no command in this capture asks for this answer'), said('further answer to .*'))
+
+
+def fault_of_links(frames, shows, rows):
+    """The first difference in the links of a transcript whose frames are a millisecond apart, or None."""
+    for place, (wanted, row) in enumerate(zip(wanted_links(frames, shows), rows, strict=True)):
+        if links_of(row) != wanted:
+            return 'links of frame %d: %r, wanted %r' % (place + 1, links_of(row), wanted)
+        if wanted[1] is not None and round(float(row['fio2070.time']) * 1000) != place - wanted[1]:
+            return 'time of frame %d: %s' % (place + 1, row['fio2070.time'])
+    return None
