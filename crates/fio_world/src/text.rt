@@ -1,6 +1,5 @@
 //! What the texts of the program share: lines and words, how they are read, and what is printed.
 
-mod fixed;
 mod lines;
 mod numbering;
 mod octets;
@@ -8,7 +7,6 @@ mod printing;
 mod words;
 mod writing;
 
-pub use fixed::{LONGEST, read_frame};
 pub use lines::{is_skipped, split_line};
 pub use numbering::{NumberedLines, numbered_lines};
 pub use octets::{is_octets, read_octets_to};
