@@ -30,16 +30,10 @@ pub fn report(alloc: Global, script: &Script) -> Result<Report, Memory>
             Ok(outcome) => push_outcome(&mut text, place + 1, &outcome)?,
             Err(fault) => {
                 push_refusal(&mut text, place + 1, fault)?;
-                return Ok(Report {
-                    text,
-                    good: false,
-                });
+                return Ok(Report { text, good: false });
             }
         }
     }
     push_ending(&mut text, &world)?;
-    Ok(Report {
-        text,
-        good: true,
-    })
+    Ok(Report { text, good: true })
 }

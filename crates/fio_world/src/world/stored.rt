@@ -28,7 +28,7 @@ impl Model for StoredFrames {
     ghost view = { λ f. record {
       frames = frames_in f.octets.items 0 f.ends.items;
       has_room = nat_lt (vec_len f.ends) (vec_capacity f.ends)
-        && nat_le (vec_len f.octets + 773) (vec_capacity f.octets);
+          && nat_le (vec_len f.octets + 773) (vec_capacity f.octets);
     } };
 
     ghost invariant = { λ f. is_cut 0 f.ends.items (length f.octets.items) ≡ true };
