@@ -1,16 +1,16 @@
 -- What a stretch of a life does, in which blocks are made.
-use Rattle.std.proofs.Common.{◌≡◌, ℕ, zero, suc, ◌+◌, ◌-◌, ◌<◌, ◌≤◌, min, max, Bool, true, false, List, [], ◌∷◌, ◌++◌, length, take, drop, refl, ap, sym, subst, ◌∙◌, arith, append_assoc, append-nil, length-append, length-take, if◌then◌else◌}
+use Rattle.std.proofs.Common.{◌≡◌, ℕ, zero, suc, ◌+◌, ◌-◌, ◌<◌, ◌≤◌, Bool, true, false, List, [], ◌∷◌, ◌++◌, length, take, drop, refl, ap, sym, ◌∙◌, arith, append_assoc, append-nil, length-take}
 use Rattle.std.specs.List.{AllByRecursion, flat_map}
-use Rattle.std.proofs.Math.Seq.{take-add, drop-length, take-length}
+use Rattle.std.proofs.Math.Seq.{take-add}
 use Rattle.std.proofs.lemmas.List.{take-append-le, drop-append-le}
 use Rattle.std.proofs.lemmas.Grind.{flat_map-append}
 use Rattle.fio_message.specs.declared.commands.Command.TheVariants.{Poll, ConfigureInputs}
 use Rattle.fio_input.specs.Delivery.{scans_in}
 use Rattle.fio_module.specs.Settings.{Settings}
-use Rattle.fio_module.specs.Life.{Life, Occurrence, Scanned, Commanded, scans_of, filter_events}
+use Rattle.fio_module.specs.Life.{Life, Scanned, Commanded, scans_of, filter_events}
 use Rattle.fio_module.specs.Log.{Transition, transitions_below, log_of}
 use Rattle.fio_module.specs.Blocks.{MadeBlock, latest_poll, is_new, blocks_of, last_end, next_block, newest_end, start_after, count_from, waiting_of}
-use Rattle.fio_module.specs.Delivery.{AtEachTime, FewBeyond}
+use Rattle.fio_module.specs.Delivery.{AtEachTime}
 use Rattle.fio_module.specs.KeepingUp.{scans_behind, IsYoung, KeepsUp}
 use Rattle.fio_module.proofs.Ends.{last_end-append}
 use Rattle.fio_module.proofs.BlockLaws.{blocks_end_within}

@@ -1,44 +1,38 @@
 -- What a link that is polled in time delivers.
-use Rattle.std.proofs.Common.{◌≡◌, ℕ, zero, suc, ◌+◌, ◌-◌, ◌*◌, ◌%◌, ◌^◌, ◌<◌, ◌≤◌, Bool, true, false, List, [], ◌∷◌, ◌++◌, length, take, drop, map, Option, Some, None, slice_get, refl, ap, sym, subst, ◌∙◌, arith, inl, inr, append_assoc, length-append, length-take, length-drop, if◌then◌else◌}
+use Rattle.std.proofs.Common.{◌≡◌, ℕ, zero, suc, ◌+◌, ◌-◌, ◌*◌, ◌%◌, ◌^◌, ◌≤◌, Bool, true, false, List, [], ◌∷◌, ◌++◌, length, take, drop, map, Option, Some, None, refl, ap, sym, subst, ◌∙◌, arith, length-drop, if◌then◌else◌}
 use Rattle.std.specs.List.{AllByRecursion, flat_map}
-use Rattle.std.proofs.Math.Nat.{mul-le-mul_left, mul-le-mul_right}
+use Rattle.std.proofs.Math.Nat.{mul-le-mul_left}
 use Rattle.std.proofs.Math.Seq.{drop-length}
-use Rattle.std.proofs.lemmas.Bool.{cases_lt}
 use Rattle.std.proofs.lemmas.Grind.{flat_map-append}
 use Rattle.std.proofs.lemmas.List.{map-append, take_all, drop-take, drop-append-le}
 use Rattle.fio_message.specs.declared.commands.Command.TheVariants.{Poll}
 use Rattle.fio_message.specs.declared.commands.Command.TheVariants as commands
 use Rattle.fio_input.specs.Counter.{asked_number, one_more_if_loaded}
 use Rattle.fio_input.specs.FilterHistory.{is_reported}
-use Rattle.fio_input.specs.Widening.{widened}
-use Rattle.fio_input.specs.Delivery.{scans_in, open_inputs, OpenHaveFiltersOf, NoneIsApplied}
-use Rattle.fio_input.proofs.FewReports.{open_inputs-few}
+use Rattle.fio_input.specs.Delivery.{open_inputs}
 use Rattle.fio_module.specs.Settings.{Settings, AreInRange}
-use Rattle.fio_module.specs.Life.{Life, Scanned, LineSynced, Commanded, life_of, counter_events, loads_of, scans_of, filter_events}
+use Rattle.fio_module.specs.Life.{Life, Scanned, LineSynced, Commanded, life_of, counter_events, loads_of, filter_events}
 use Rattle.fio_module.specs.Log.{Transition, entry_of, log_of, transition_at, transitions_below}
 use Rattle.fio_module.specs.Blocks.{MadeBlock, latest_poll, is_new, blocks_of, next_block, end_of, newest_end, waiting_from, waiting_of}
 use Rattle.fio_module.specs.Delivery.{AtEachTime, FewBeyond}
 use Rattle.fio_module.specs.KeepingUp.{scans_behind, IsKeptUp, IsYoung, KeepsUp}
-use Rattle.fio_module.proofs.BlockLaws.{blocks_end_within}
 use Rattle.fio_module.proofs.Losses.{holds_now}
 use Rattle.fio_module.proofs.Outages.{ends-grow}
-use Rattle.fio_module.proofs.Pace.{each-front, each-back, none_before, nothing_left}
-use Rattle.fio_module.proofs.Polling.{kept_up_keeps_up, has_room}
-use Rattle.fio_module.proofs.Stretches.{log-grown, behind_each, end_after_block, transitions_in, IsPunctual, HasMade, has_made, each-push}
-use Rattle.fio_cpu.specs.declared.items.Item.{Item}
+use Rattle.fio_module.proofs.Pace.{each-front, each-back, nothing_left}
+use Rattle.fio_module.proofs.Polling.{kept_up_keeps_up}
+use Rattle.fio_module.proofs.Stretches.{log-grown, transitions_in, IsPunctual, HasMade, has_made, each-push}
 use Rattle.fio_cpu.specs.declared.items.Item.TheVariants as items
 use Rattle.fio_cpu.specs.Record.{item_of}
-use Rattle.fio_world.specs.Link.{Machine, Leads}
+use Rattle.fio_world.specs.Link.{Machine}
 use Rattle.fio_world.specs.Claims.{blocks_in, IsInTime}
 use Rattle.fio_world.specs.Pieces.{Got, piece_of}
 use Rattle.fio_world.specs.Headline.{end_taken}
-use Rattle.fio_world.specs.Delivery.{clean_round}
-use Rattle.fio_world.specs.InTime.{LeadsInTime, RoundsInTime, IsPolledInTime, timed_item, arrived, HasArrived, AllArrivesInTime, MakesBlock, RoundsMakeBlocks, RoundsKeepUp}
+use Rattle.fio_world.specs.InTime.{timed_item, arrived}
 use Rattle.fio_world.proofs.MadeBlocks.{each-append, each-take, each-map}
-use Rattle.fio_world.proofs.OneLife.{recorded_of, record_of}
+use Rattle.fio_world.proofs.OneLife.{recorded_of}
 use Rattle.fio_world.proofs.Times.{BlockTimely, IsTimely, blocks_timely, wide_time}
 use Rattle.fio_world.proofs.CatchingUp.{IsBetween}
-use Rattle.fio_world.proofs.InTime.{Grows, grows, HasStretch, has_stretch, IsReached, reached_start, reached_next}
+use Rattle.fio_world.proofs.InTime.{IsReached}
 
 -- the blocks of a life were made after no more loads than it has
 loads-later : (life : Life) (asked : Option ℕ) (loads : ℕ) → loads ≤ one_more_if_loaded asked loads

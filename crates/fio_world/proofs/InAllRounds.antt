@@ -1,24 +1,23 @@
 -- All clean rounds of a link that is polled in time.
-use Rattle.std.proofs.Common.{◌≡◌, ℕ, zero, suc, ◌+◌, ◌-◌, ◌*◌, ◌≤◌, min, Bool, true, false, List, [], ◌∷◌, ◌++◌, length, Option, Some, slice_get, refl, ap, sym, subst, ◌∙◌, arith, inl, inr, append_assoc, if◌then◌else◌}
+use Rattle.std.proofs.Common.{◌≡◌, ℕ, zero, suc, ◌+◌, ◌-◌, ◌*◌, ◌≤◌, min, Bool, true, false, List, [], ◌∷◌, ◌++◌, length, Some, slice_get, refl, ap, sym, subst, ◌∙◌, arith}
 use Rattle.std.proofs.Math.Nat.{mul-le-mul_left, mul-le-mul_right}
 use Rattle.std.proofs.lemmas.List.{append_cancel_right}
 use Rattle.fio_input.specs.Delivery.{open_inputs, OpenHaveFiltersOf, NoneIsApplied}
 use Rattle.fio_input.proofs.FewReports.{open_inputs-few}
 use Rattle.fio_module.specs.Settings.{Settings, AreInRange}
 use Rattle.fio_module.specs.Life.{Life, life_of, filter_events}
-use Rattle.fio_module.specs.Log.{Transition, log_of}
+use Rattle.fio_module.specs.Log.{log_of}
 use Rattle.fio_module.specs.Blocks.{blocks_of, newest_end, waiting_of}
 use Rattle.fio_module.specs.Delivery.{AtEachTime}
 use Rattle.fio_module.specs.KeepingUp.{scans_behind, IsKeptUp}
 use Rattle.fio_module.proofs.Pace.{none_before}
 use Rattle.fio_module.proofs.Polling.{has_room}
 use Rattle.fio_module.proofs.Stretches.{log-grown, behind_each, end_after_block}
-use Rattle.fio_world.specs.Link.{Machine, Leads}
+use Rattle.fio_world.specs.Link.{Machine}
 use Rattle.fio_world.specs.Claims.{blocks_in}
-use Rattle.fio_world.specs.Delivery.{clean_round}
-use Rattle.fio_world.specs.InTime.{LeadsInTime, RoundsInTime, behind_after, IsPolledInTime, HasArrived, AllArrivesInTime, RoundsMakeBlocks, RoundsKeepUp}
+use Rattle.fio_world.specs.InTime.{LeadsInTime, RoundsInTime, behind_after, HasArrived}
 use Rattle.fio_world.proofs.CatchingUp.{IsBetween}
-use Rattle.fio_world.proofs.InTime.{Grows, grows, HasStretch, stretch_of, has_stretch, IsReached, reached_start, reached_next}
+use Rattle.fio_world.proofs.InTime.{grows, HasStretch, stretch_of, has_stretch, IsReached, reached_start, reached_next}
 use Rattle.fio_world.proofs.Arrivals.{whole, times, young, few_left, taken_end}
 
 -- What a block takes of what had been logged before an earlier time: all, or so many whole blocks of

@@ -1,5 +1,5 @@
 -- Clean rounds that come in time keep up with the scans.
-use Rattle.std.proofs.Common.{◌≡◌, ℕ, zero, suc, ◌+◌, ◌-◌, ◌*◌, ◌<◌, ◌≤◌, ◌==◌, Bool, true, false, List, [], ◌∷◌, ◌++◌, length, Option, Some, None, refl, ap, sym, subst, ◌∙◌, arith, append_assoc, if◌then◌else◌}
+use Rattle.std.proofs.Common.{◌≡◌, ℕ, ◌+◌, ◌<◌, ◌≤◌, ◌==◌, Bool, true, false, List, [], ◌∷◌, ◌++◌, length, Option, Some, None, refl, ap, sym, subst, ◌∙◌, arith, append_assoc, if◌then◌else◌}
 use Rattle.fio_message.specs.declared.commands.Command.{Command}
 use Rattle.fio_message.specs.declared.commands.Command.TheVariants.{ConfigureInputs}
 use Rattle.fio_message.specs.declared.commands.Command.TheVariants as commands
@@ -16,7 +16,7 @@ use Rattle.fio_module.proofs.Pace.{scans_in-append}
 use Rattle.fio_cpu.specs.Record.{recorded}
 use Rattle.fio_world.specs.declared.event.Event.{Event}
 use Rattle.fio_world.specs.declared.event.Event.TheVariants as events
-use Rattle.fio_world.specs.Link.{Sent, Machine, number_of, item_numbered, refusal, received, with_block, heard, after, Leads}
+use Rattle.fio_world.specs.Link.{Sent, Machine, number_of, item_numbered, received, with_block, heard, after, Leads}
 use Rattle.fio_world.specs.Headline.{IsNotRestart, HaveNoRestart}
 use Rattle.fio_world.specs.Claims.{blocks_in}
 use Rattle.fio_world.specs.Delivery.{clean_round}
