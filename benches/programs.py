@@ -22,7 +22,10 @@ class Failed(Exception):
 
 def succeed(command, **options):
     """What a command writes to standard output. It has to end with status 0."""
-    done = subprocess.run([str(word) for word in command], capture_output=True, text=True, check=False, **options)
+    try:
+        done = subprocess.run([str(word) for word in command], capture_output=True, text=True, check=False, **options)
+    except OSError as fault:
+        raise Failed(f'{command[0]}: {fault.strerror}') from fault
     if done.returncode != 0:
         raise Failed(f'{shlex.join(str(word) for word in command)}\n{done.stdout}{done.stderr}')
     return done.stdout
