@@ -362,9 +362,45 @@ end
 sdlc.fields = {
   ProtoField.uint8("fio2070_sdlc.address", "Address", base.HEX),
   ProtoField.uint8("fio2070_sdlc.control", "Control", base.HEX),
-  ProtoField.uint16("fio2070_sdlc.check", "Frame check (not verified)", base.HEX),
+  ProtoField.uint16("fio2070_sdlc.check", "Frame check", base.HEX),
 }
+local bad_check = ProtoExpert.new("fio2070_sdlc.bad_check", "wrong frame check", expert.group.CHECKSUM, expert.severity.ERROR)
+sdlc.experts = { bad_check }
 sdlc.prefs.check = Pref.bool("Two octets of frame check", true, "Each frame ends with two octets of frame check")
+
+local function xor(one, other)
+  local result, place = 0, 1
+  while one > 0 or other > 0 do
+    if one % 2 ~= other % 2 then result = result + place end
+    one, other, place = math.floor(one / 2), math.floor(other / 2), place * 2
+  end
+  return result
+end
+
+local check_of_octet = {}       -- the part of FCS-16 that each octet adds, lowest bit first
+for octet = 0, 255 do
+  local check = octet
+  for _ = 1, 8 do
+    check = check % 2 == 1 and xor(math.floor(check / 2), 0x8408) or math.floor(check / 2)
+  end
+  check_of_octet[octet] = check
+end
+
+-- The frame check that these octets need.
+local function frame_check(range)
+  local check, octets = 0xffff, range:bytes()
+  for place = 0, octets:len() - 1 do
+    check = xor(check_of_octet[xor(check % 256, octets:get_index(place))], math.floor(check / 256))
+  end
+  return xor(check, 0xffff)
+end
+
+local function add_check(tvb, tree, place)
+  local item, needed = tree:add_le(sdlc.fields[3], tvb(place, 2)), frame_check(tvb(0, place))
+  if tvb(place, 2):le_uint() ~= needed then
+    item:add_proto_expert_info(bad_check, ("frame check %04x is not %04x"):format(tvb(place, 2):le_uint(), needed))
+  end
+end
 
 function sdlc.dissector(tvb, pinfo, tree)
   local whole = tvb:len() == tvb:reported_len()
@@ -374,7 +410,7 @@ function sdlc.dissector(tvb, pinfo, tree)
   local root = tree:add(sdlc, tvb(0, 2))
   root:add(sdlc.fields[1], tvb(0, 1))
   root:add(sdlc.fields[2], tvb(1, 1))
-  if behind > 0 then root:add(sdlc.fields[3], tvb(2 + length, 2)) end
+  if behind > 0 then add_check(tvb, root, 2 + length) end
   if length == 0 then
     pinfo.cols.protocol, pinfo.cols.info = "FIO2070", "frame without a message"
   else

@@ -3,6 +3,7 @@ pub mod CollectedLemmas
 pub mod DigitLemmas
 pub mod OctetLemmas
 pub mod FrameWords
+pub mod RoomLemmas
 pub mod Places
 pub mod RoundNumbers
 pub mod Spelled

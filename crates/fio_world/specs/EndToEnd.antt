@@ -1,5 +1,5 @@
 -- Frames that stand end to end, and where each ends.
-use Rattle.std.specs.Prelude.{◌==◌, ◌&&◌, nat_le, ◌-◌, ℕ, zero, suc, Bool, List, [], ◌∷◌, length, take, drop}
+use Rattle.std.specs.Prelude.{◌==◌, ◌&&◌, nat_le, ◌-◌, ℕ, zero, suc, Bool, List, [], ◌∷◌, take, drop}
 
 -- the octets between two places
 abbrev pub between : List ℕ → ℕ → ℕ → List ℕ

@@ -1,4 +1,4 @@
-use Rattle.std.proofs.Common.{◌<◌, ◌≤◌, length, ap, ◌∙◌, sym, rules}
+use Rattle.std.proofs.Common.{◌<◌, ◌≤◌, length, ap, sym, rules}
 use Rattle.fio_world.proofs.ReportLemmas.{TellsOn-done, TellsOn-refused, TellsOn-end}
 use Rattle.fio_world.proofs.reporting.report.Goals as goal
 
