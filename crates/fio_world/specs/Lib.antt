@@ -13,6 +13,7 @@ pub mod Delivery
 pub mod Sound
 pub mod EndToEnd
 pub mod Ends
+pub mod Done
 pub mod Worlds
 pub mod Forms
 pub mod Headers
