@@ -19,7 +19,8 @@ version() { crates/fio2070/out/fio2070 --version | cut -d ' ' -f 2; }
 # The time that all files of a package have: that of the last commit, or what SOURCE_DATE_EPOCH says.
 epoch() { echo "${SOURCE_DATE_EPOCH:-$(git log -1 --format=%ct 2>/dev/null || stat -c %Y CHANGELOG.md)}"; }
 
-# stage FOLDER SETTING..: installs into a new folder, by `make install` with these settings, without symbols.
+# stage FOLDER SETTING..: installs into a new folder, by `make install` with these settings, without symbols. All can
+# be read by everyone, whatever the settings of who cloned the repository.
 stage() {
     folder=$1
     shift
@@ -28,6 +29,7 @@ stage() {
         fail 'make install failed'
     find "$folder" -path '*/bin/fio2070' -exec strip --strip-unneeded '{}' ';' \
         -o -name '*.a' -exec strip --strip-debug --enable-deterministic-archives '{}' ';' || fail 'strip failed'
+    chmod -R u=rwX,go=rX "$folder"
 }
 
 # stage_documents FOLDER: puts the documents and the examples into a folder, with the links between them whole.

@@ -77,6 +77,16 @@ fn encode_commands(commands: &Both<Command>, count: u32, place: usize) -> u32 {
 }
 
 #[inline(never)]
+fn write_commands(commands: &Both<Command>, frame: &mut Frame, count: u32, place: usize) -> u32 {
+    let mut sum = 0u32;
+    for turn in 0..count {
+        write_command(&commands[(turn % 2) as usize], frame);
+        sum = sum.wrapping_add(octet_at(frame, place));
+    }
+    sum
+}
+
+#[inline(never)]
 fn decode_answers(frames: &Both<Frame>, count: u32, place: usize) -> u32 {
     let mut sum = 0u32;
     for turn in 0..count {
@@ -94,6 +104,16 @@ fn encode_answers(answers: &Both<Answer>, count: u32, place: usize) -> u32 {
     for turn in 0..count {
         let frame = encode_answer(&answers[(turn % 2) as usize]);
         sum = sum.wrapping_add(octet_at(&frame, place));
+    }
+    sum
+}
+
+#[inline(never)]
+fn write_answers(answers: &Both<Answer>, frame: &mut Frame, count: u32, place: usize) -> u32 {
+    let mut sum = 0u32;
+    for turn in 0..count {
+        write_answer(&answers[(turn % 2) as usize], frame);
+        sum = sum.wrapping_add(octet_at(frame, place));
     }
     sum
 }

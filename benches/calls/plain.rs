@@ -22,6 +22,16 @@ macro_rules! timed {
     }};
 }
 
+/// The other implementation has no such call.
+fn write_command(command: &Command, frame: &mut Frame) {
+    *frame = encode_command(command);
+}
+
+/// The other implementation has no such call.
+fn write_answer(answer: &Answer, frame: &mut Frame) {
+    *frame = encode_answer(answer);
+}
+
 fn out_of_memory() -> io::Error {
     io::Error::from(io::ErrorKind::OutOfMemory)
 }

@@ -35,6 +35,8 @@ fn time_command(rt: &HostRuntime, name: &str, octets: &[u8], count: u32, place: 
         timed!(rt, "decode_command", name, count, decode_commands(&frames, count, place));
         let _ = encode_commands(&commands, count, place.wrapping_add(1));
         timed!(rt, "encode_command", name, count, encode_commands(&commands, count, place));
+        let mut frame = Frame::new();
+        timed!(rt, "write_command", name, count, write_commands(&commands, &mut frame, count, place));
     }
     Ok(())
 }
@@ -48,6 +50,8 @@ fn time_answer(rt: &HostRuntime, name: &str, octets: &[u8], count: u32, place: u
         timed!(rt, "decode_answer", name, count, decode_answers(&frames, count, place));
         let _ = encode_answers(&answers, count, place.wrapping_add(1));
         timed!(rt, "encode_answer", name, count, encode_answers(&answers, count, place));
+        let mut frame = Frame::new();
+        timed!(rt, "write_answer", name, count, write_answers(&answers, &mut frame, count, place));
     }
     Ok(())
 }

@@ -93,6 +93,7 @@ def facts_of_frame(row, octets):
         'malformed': row['_ws.malformed'] != '',
         'undecoded': row['fio2070.undecoded'].replace(':', ''),
         'inputs above 63': sum(bool(re.fullmatch(r'input \d+ is above 63', text)) for text in notices),
+        'frame checks': [text for text in notices if text.startswith('frame check ')],
         'lines': decoded if refused else spelled(row),
     }
     if octets[0] == 182 and not refused:
@@ -116,6 +117,7 @@ def wanted_of_frame(octets, lines):
         'malformed': refused,
         'undecoded': octets[1:].hex() if refused else '',
         'inputs above 63': sum(number > 63 for number in inputs),
+        'frame checks': [],
         'lines': [] if refused else lines,
     }
     if octets[0] == 182 and not refused:

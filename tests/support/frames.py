@@ -1,6 +1,7 @@
 """Frames and transcripts for the checks of the tools outside the proof: those of the protocol's tables, those of
 `examples/`, and random ones."""
 
+import binascii
 import glob
 import os
 import random
@@ -23,6 +24,15 @@ LONG_MESSAGES = ['b605ff' + '8c03e7' * 255 + '08000003e8', '33ff' + '0c0503' * 2
 # How many octets follow the type; a type that is missing here has a body of any length.
 LENGTHS = {49: 1, 50: 4, 52: 0, 53: 0, 54: 1, 55: 16, 58: 1, 60: 0, 177: 7, 178: 1, 179: 1, 180: 12, 181: 12, 186: 1}
 KNOWN = list(range(49, 61)) + list(range(177, 189))
+
+
+def frame_check(octets):
+    """FCS-16, low octet first, by the CRC of the standard library, whose bits run the other way."""
+    def turned(number, bits):
+        return int(format(number, '0%db' % bits)[::-1], 2)
+
+    check = binascii.crc_hqx(bytes(turned(octet, 8) for octet in octets), 0xffff)
+    return (turned(check, 16) ^ 0xffff).to_bytes(2, 'little')
 
 
 def table_frames():

@@ -6,6 +6,7 @@ import re
 import struct
 import subprocess
 
+from support.frames import frame_check
 from support.tables import TOP
 
 DISSECTOR = os.path.join(TOP, 'tools', 'wireshark', 'fio2070.lua')
@@ -30,7 +31,8 @@ def over_udp(octets):
 
 def in_sdlc(octets):
     """A frame with an address and a control octet in front and two octets of frame check behind."""
-    return b'\x14\x83' + octets + b'\xaa\x55'
+    framed = b'\x14\x83' + octets
+    return framed + frame_check(framed)
 
 
 class Way:

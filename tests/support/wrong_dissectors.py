@@ -48,5 +48,8 @@ WRONG_DISSECTORS = (
     ('directions turned round', 'code >= FIRST_ANSWER', 'code < FIRST_ANSWER'),
     ('the frame check taken for the message',
      'local length = tvb:len() - 2 - behind', 'local length = tvb:len() - 2'),
+    ('the frame check without address and control', 'frame_check(tvb(0, place))', 'frame_check(tvb(2, place - 2))'),
+    ('the frame check with its high octet first',
+     'if tvb(place, 2):le_uint() ~= needed', 'if tvb(place, 2):uint() ~= needed'),
     ('the octets of the frame without its type', 'field["octets"], tvb()', 'field["octets"], tvb(0, 1)'),
 )

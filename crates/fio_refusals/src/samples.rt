@@ -1,4 +1,6 @@
 //! Scripts with their ends, and the texts of the tools with what they write.
+use fio_message::DecodeError;
+use fio_world::ScriptError;
 
 /// A script, and what can be counted of both ends when it is done.
 #[derive(Drop)]
@@ -95,3 +97,36 @@ pub(crate) const TRANSCRIPT: &[u8] = b"> 3605\n\
 
 /// What `check` tells of it.
 pub(crate) const VERDICT: &[u8] = b"good 5 frames\n";
+
+/// Scripts whose second line is faulty, and its fault.
+pub(crate) const FAULTY_SCRIPTS: [(&[u8], ScriptError); 5] = [
+    (
+        b"fio2070 script 1 2 0\nsend zz\n",
+        ScriptError::BadLine { line: 2 },
+    ),
+    (
+        b"fio2070 script 1 2 0\nsend 333\n",
+        ScriptError::BadLine { line: 2 },
+    ),
+    (
+        b"fio2070 script 1 2 0\nsend 33\n",
+        ScriptError::BadFrame {
+            line: 2,
+            fault: DecodeError::WrongLength { needed: 2, got: 1 },
+        },
+    ),
+    (
+        b"fio2070 script 1 2 0\nsend b300\n",
+        ScriptError::BadFrame {
+            line: 2,
+            fault: DecodeError::UnknownType { code: 179 },
+        },
+    ),
+    (
+        b"fio2070 script 1 2 0\nscan zz\n",
+        ScriptError::BadLine { line: 2 },
+    ),
+];
+
+/// Transcripts whose first line is no frame.
+pub(crate) const FAULTY_TRANSCRIPTS: [&[u8]; 4] = [b"> zz", b"< 360", b"> 3605zz\n", b"? 3605\n"];

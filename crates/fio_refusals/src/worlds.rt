@@ -89,6 +89,28 @@ pub(crate) fn step(alloc: Global, sample: &Sample) -> Result<Answer, Memory> {
     })
 }
 
+/// The events of a sample, together: where memory is refused at one of them, those above it are done, and
+/// the rest is tried again.
+pub(crate) fn step_all(alloc: Global, sample: &Sample) -> Result<Answer, Memory> {
+    let script = script_of(alloc, sample)?;
+    let mut world = World::with_limits(alloc, script.id, script.first, script.limits)?;
+    let mut answer = Answer::Right;
+    if let Err(error) = world.step_all(script.events.as_slice()) {
+        let Some(rest) = script.events.as_slice().get(error.place..) else {
+            return Ok(Answer::Wrong);
+        };
+        if error.fault != WorldError::Memory || world.step_all(rest).is_err() {
+            return Ok(Answer::Wrong);
+        }
+        answer = Answer::Refused(error.place);
+    }
+    if counts(&world) == sample.end {
+        Ok(answer)
+    } else {
+        Ok(Answer::Wrong)
+    }
+}
+
 /// Events that take no memory, at the end of a sample: those of the module alone, a delivery that adds
 /// nothing to the record, and refused ones.
 pub(crate) fn adding_nothing(alloc: Global) -> Result<Answer, Memory> {

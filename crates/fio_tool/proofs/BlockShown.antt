@@ -1,17 +1,12 @@
 -- A block answer that is read in place, as the message that is shown.
-use Rattle.std.proofs.Common.{◌≡◌, ◌↔◌, ℕ, ◌∷◌, ◌++◌, [], List, Result, Ok, Err, ap, refl, slice_index_or, codes, decimal}
+use Rattle.std.proofs.Common.{◌≡◌, ◌↔◌, ℕ, List, Result, Ok, ap, slice_index_or}
 use Rattle.fio_message.specs.declared.faults.DecodeError.{DecodeError}
 use Rattle.fio_message.specs.Octets.{IsOctets}
 use Rattle.fio_message.specs.Blocks.{Block, block_answer, SpellsBlock}
-use Rattle.fio_message.specs.Decoding.{decoded_answer, message_in}
+use Rattle.fio_message.specs.Decoding.{decoded_answer}
 use Rattle.fio_message.proofs.MessageLaws.{answer_decoded}
 use Rattle.fio_tool.specs.Show.{shown_frame}
 use Rattle.fio_tool.specs.ShowAnswers.{block_text}
-
--- a poll is shown as its line
-pub poll_shown : (block : ℕ) → shown_frame (54 ∷ block ∷ []) ≡ Ok (codes "poll block " ++ (decimal block ++ codes "\n"))
-unfolding message_in
-poll_shown block = refl
 
 module _ {octets : List ℕ} {view : Result Block DecodeError}
     (accepted : (block : Block) → (view ≡ Ok block) ↔ SpellsBlock block octets) where

@@ -1,6 +1,7 @@
 pub mod Inputs
 pub mod ShowCommands
 pub mod ShowAnswers
+pub mod ShowShort
 pub mod Show
 pub mod Simulation
 pub mod Transcript

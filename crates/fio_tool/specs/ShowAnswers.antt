@@ -1,31 +1,36 @@
 -- The lines that tell of each answer.
-use Rattle.std.specs.Prelude.{ℕ, List, [], ◌∷◌, ◌++◌, length, codes, decimal}
+use Rattle.std.specs.Prelude.{ℕ, List, ◌++◌, length, codes, decimal}
 use Rattle.std.specs.List.{flat_map}
-use Rattle.hex.specs.Hex.{encode_lower}
 use Rattle.fio_message.specs.Octets.{inputs_octets}
 use Rattle.fio_message.specs.Answers.{other_answer_code}
 use Rattle.fio_message.specs.declared.fields.Entry.{Entry}
 use Rattle.fio_message.specs.declared.answers.Answer.{Answer}
 use Rattle.fio_message.specs.declared.answers.Answer.TheVariants.{Status, LoadCounter, ConfigureInputs, RawInputs, FilteredInputs, Block, Watchdog, Other}
 use Rattle.fio_input.specs.Widening.{widened}
+use Rattle.fio_world.specs.Hexadecimal.{digits_of, octet_digits}
 use Rattle.fio_world.specs.ReportLines.{entry_line}
 use Rattle.fio_tool.specs.ShowCommands.{other_text}
 
+-- how many errors there were, and when
+abbrev pub errors_text : ℕ → ℕ → ℕ → List ℕ
+errors_text receive_errors transmit_errors stamp =
+    codes " receive " ++ (decimal receive_errors
+    ++ (codes " transmit " ++ (decimal transmit_errors
+    ++ (codes " stamp " ++ (decimal stamp ++ codes "\n")))))
+
 abbrev pub flags_text : ℕ → ℕ → ℕ → ℕ → List ℕ
 flags_text flags receive_errors transmit_errors stamp =
-    codes "status flags " ++ (encode_lower (flags ∷ [])
-    ++ (codes " receive " ++ (decimal receive_errors
-    ++ (codes " transmit " ++ (decimal transmit_errors
-    ++ (codes " stamp " ++ (decimal stamp ++ codes "\n")))))))
+    codes "status flags "
+    ++ (octet_digits flags ++ errors_text receive_errors transmit_errors stamp)
 
 -- a status octet, behind the name of the answer that has it
 abbrev pub status_text : List ℕ → ℕ → List ℕ
-status_text name status = name ++ (codes " status " ++ (encode_lower (status ∷ []) ++ codes "\n"))
+status_text name status = name ++ (codes " status " ++ (octet_digits status ++ codes "\n"))
 
 -- the levels of all inputs, behind their name
 abbrev pub levels_text : List ℕ → ℕ → ℕ → List ℕ
 levels_text name inputs stamp =
-    name ++ (codes " inputs " ++ (encode_lower (inputs_octets inputs)
+    name ++ (codes " inputs " ++ (digits_of (inputs_octets inputs)
     ++ (codes " stamp " ++ (decimal stamp ++ codes "\n"))))
 
 -- an entry of a block answer with this stamp: as the record tells it, behind two blanks
@@ -38,7 +43,7 @@ abbrev pub block_head_text : ℕ → ℕ → ℕ → ℕ → List ℕ
 block_head_text block count status stamp =
     codes "block " ++ (decimal block
     ++ (codes " entries " ++ (decimal count
-    ++ (codes " status " ++ (encode_lower (status ∷ [])
+    ++ (codes " status " ++ (octet_digits status
     ++ (codes " stamp " ++ (decimal stamp ++ codes "\n")))))))
 
 abbrev pub block_text : ℕ → List Entry → ℕ → ℕ → List ℕ

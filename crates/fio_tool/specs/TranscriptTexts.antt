@@ -7,8 +7,8 @@ use Rattle.fio_tool.specs.declared.transcript.reading.TraceError.{TraceError}
 use Rattle.fio_tool.specs.declared.transcript.reading.TraceError.TheVariants.{BadLine, Memory}
 use Rattle.fio_tool.specs.declared.transcript.rules.Rule.{Rule}
 use Rattle.fio_tool.specs.declared.transcript.rules.Rule.TheVariants.{Readable, Pair, Number, Advance, Same, Sequence, Limits, Rest, Refusal}
-use Rattle.fio_tool.specs.declared.transcript.rules.Verdict.{Verdict}
-use Rattle.fio_tool.specs.declared.transcript.rules.Verdict.TheVariants.{Good, Broken}
+use Rattle.fio_tool.specs.declared.transcript.verdict.Verdict.{Verdict}
+use Rattle.fio_tool.specs.declared.transcript.verdict.Verdict.TheVariants.{Good, Broken}
 
 abbrev pub rule_name : Rule → List ℕ
 rule_name Readable = codes "readable"

@@ -1,11 +1,12 @@
 //! The lines that tell of each answer.
-ghost use Rattle.std.specs.Prelude.{◌≡◌, ◌++◌, [], ◌∷◌, codes, OnOk};
-ghost use Rattle.fio_tool.specs.ShowAnswers.{answer_text, block_head_text, block_text, entry_text, flags_text, levels_text, status_text};
+ghost use Rattle.std.specs.Prelude.{◌≡◌, ◌++◌, [], ◌∷◌, ◌≤◌, length, codes, OnOk};
+ghost use Rattle.fio_tool.specs.ShowAnswers.{answer_text, block_head_text, block_text, entry_text, errors_text, flags_text, levels_text, status_text};
 
 use crate::commands::push_other;
 use fio_input::widen;
 use fio_message::{Answer, BlockView, Entry, inputs_to_octets};
-use fio_world::text::{Hexadecimal, end_with, put, put_decimal};
+use fio_world::push_line;
+use fio_world::text::EntryLines;
 use std::alloc::AllocError;
 
 /// Appends the lines for an answer.
@@ -20,11 +21,11 @@ pub(crate) fn push_answer(text: &mut Vec<u8>, answer: &Answer) -> Result<(), All
             transmit_errors,
             stamp,
         } => push_flags(text, *flags, *receive_errors, *transmit_errors, *stamp),
-        Answer::LoadCounter { status } => push_status(text, "counter load", *status),
-        Answer::ConfigureInputs { status } => push_status(text, "configure", *status),
-        Answer::RawInputs { inputs, stamp } => push_levels(text, "raw", *inputs, *stamp),
+        Answer::LoadCounter { status } => push_status(text, b"counter load", *status),
+        Answer::ConfigureInputs { status } => push_status(text, b"configure", *status),
+        Answer::RawInputs { inputs, stamp } => push_levels(text, b"raw", *inputs, *stamp),
         Answer::FilteredInputs { inputs, stamp } => {
-            push_levels(text, "filtered", *inputs, *stamp)
+            push_levels(text, b"filtered", *inputs, *stamp)
         }
         Answer::Block {
             block,
@@ -32,12 +33,13 @@ pub(crate) fn push_answer(text: &mut Vec<u8>, answer: &Answer) -> Result<(), All
             status,
             stamp,
         } => push_block(text, *block, entries, *status, *stamp),
-        Answer::Watchdog { status } => push_status(text, "watchdog", *status),
+        Answer::Watchdog { status } => push_status(text, b"watchdog", *status),
         Answer::Other { kind, body } => push_other(text, kind.code(), body),
     }
 }
 
-fn push_flags(
+/// Appends the line for the flags and the counts of errors.
+pub(crate) fn push_flags(
     text: &mut Vec<u8>,
     flags: u8,
     receive_errors: u8,
@@ -47,35 +49,48 @@ fn push_flags(
     ensures { OnOk result (text.new.items
         ≡ text.old.items ++ flags_text flags receive_errors transmit_errors stamp) }
 {
-    let flags = [flags];
-    let flags = Hexadecimal(&flags);
-    let line = format!(
-        in *text.allocator();
-        "status flags {flags} receive {receive_errors} transmit {transmit_errors} stamp {stamp}\n"
-    )?;
-    text.extend_from_slice(line.as_bytes())
+    push_line!(text; b"status flags " [flags])?;
+    push_errors(text, receive_errors, transmit_errors, stamp)
 }
 
-/// Appends the line for an answer that has a status alone.
-fn push_status(text: &mut Vec<u8>, name: &str, status: u8) -> Result<(), AllocError>
+/// Appends the end of that line.
+fn push_errors(
+    text: &mut Vec<u8>,
+    receive_errors: u8,
+    transmit_errors: u8,
+    stamp: u32,
+) -> Result<(), AllocError>
+    ensures { OnOk result (text.new.items
+        ≡ text.old.items ++ errors_text receive_errors transmit_errors stamp) }
+{
+    push_line!(
+        text;
+        b" receive " {receive_errors} b" transmit " {transmit_errors} b" stamp " {stamp} b"\n"
+    )
+}
+
+/// Appends the line for an answer that has a status alone, behind its name of at most 40 octets.
+pub(crate) fn push_status(text: &mut Vec<u8>, name: &[u8], status: u8) -> Result<(), AllocError>
+    requires { length name.now ≤ 40 }
     ensures { OnOk result (text.new.items
         ≡ text.old.items ++ status_text name.now status) }
 {
-    let status = [status];
-    let status = Hexadecimal(&status);
-    let line = format!(in *text.allocator(); "{name} status {status}\n")?;
-    text.extend_from_slice(line.as_bytes())
+    push_line!(text; (name) b" status " [status] b"\n")
 }
 
-/// Appends the line for the levels of all inputs.
-fn push_levels(text: &mut Vec<u8>, name: &str, inputs: u64, stamp: u32) -> Result<(), AllocError>
+/// Appends the line for the levels of all inputs, behind their name of at most 40 octets.
+pub(crate) fn push_levels(
+    text: &mut Vec<u8>,
+    name: &[u8],
+    inputs: u64,
+    stamp: u32,
+) -> Result<(), AllocError>
+    requires { length name.now ≤ 40 }
     ensures { OnOk result (text.new.items
         ≡ text.old.items ++ levels_text name.now inputs stamp) }
 {
     let inputs = inputs_to_octets(inputs);
-    let inputs = Hexadecimal(&inputs);
-    let line = format!(in *text.allocator(); "{name} inputs {inputs} stamp {stamp}\n")?;
-    text.extend_from_slice(line.as_bytes())
+    push_line!(text; (name) b" inputs " [&inputs] b" stamp " {stamp} b"\n")
 }
 
 fn push_block(
@@ -89,8 +104,9 @@ fn push_block(
         ≡ text.old.items ++ block_text block entries.now status stamp) }
 {
     push_block_head(text, block, entries.len(), status, stamp)?;
+    let mut entry_lines = EntryLines::new();
     for entry in entries {
-        push_entry(text, *entry, stamp)?;
+        push_entry(text, &mut entry_lines, *entry, stamp)?;
     }
     Ok(())
 }
@@ -102,8 +118,9 @@ pub(crate) fn push_block_view(text: &mut Vec<u8>, block: &BlockView<'_>) -> Resu
 {
     let stamp = block.stamp();
     push_block_head(text, block.block(), block.len(), block.status(), stamp)?;
+    let mut entry_lines = EntryLines::new();
     for entry in block.entries() {
-        push_entry(text, entry, stamp)?;
+        push_entry(text, &mut entry_lines, entry, stamp)?;
     }
     Ok(())
 }
@@ -118,35 +135,23 @@ fn push_block_head(
     ensures { OnOk result (text.new.items
         ≡ text.old.items ++ block_head_text block count status stamp) }
 {
-    let status = [status];
-    let status = Hexadecimal(&status);
-    let line = format!(
-        in *text.allocator();
-        "block {block} entries {count} status {status} stamp {stamp}\n"
-    )?;
-    text.extend_from_slice(line.as_bytes())
+    push_line!(
+        text;
+        b"block " {block} b" entries " {count as u64}
+        b" status " [status] b" stamp " {stamp} b"\n"
+    )
 }
 
 /// Appends the line for an entry of a block answer with this stamp.
-fn push_entry(text: &mut Vec<u8>, entry: Entry, stamp: u32) -> Result<(), AllocError>
+fn push_entry(
+    text: &mut Vec<u8>,
+    entry_lines: &mut EntryLines,
+    entry: Entry,
+    stamp: u32,
+) -> Result<(), AllocError>
     ensures { OnOk result (text.new.items
         ≡ text.old.items ++ entry_text stamp entry) }
 {
     let wide = widen(stamp, entry.stamp);
-    let Entry {
-        input,
-        level,
-        stamp,
-    } = entry;
-    let mut line = [0; 128];
-    let at = end_with(&mut line, b"\n");
-    let at = put_decimal(&mut line, at, u64::from(wide));
-    let at = put(&mut line, at, b" wide ");
-    let at = put_decimal(&mut line, at, u64::from(stamp));
-    let at = put(&mut line, at, b" stamp ");
-    let at = put_decimal(&mut line, at, u64::from(level));
-    let at = put(&mut line, at, b" state ");
-    let at = put_decimal(&mut line, at, u64::from(input.get()));
-    let at = put(&mut line, at, b"  input ");
-    text.extend_from_slice(&line[at..])
+    entry_lines.push(text, b"  ", entry, wide)
 }

@@ -1,11 +1,10 @@
 //! The lines that tell of each command.
-ghost use Rattle.std.specs.Prelude.{◌≡◌, ◌++◌, [], ◌∷◌, length, codes, ◌≤◌, decimal, OnOk};
-ghost use Rattle.std.specs.List.{flat_map};
-ghost use Rattle.hex.specs.Hex.{encode_lower};
-ghost use Rattle.fio_tool.specs.ShowCommands.{clearing_text, command_text, configuration_text, item_text, other_text, outputs_text};
+ghost use Rattle.std.specs.Prelude.{◌≡◌, ◌++◌, ◌≤◌, length, codes, OnOk};
+ghost use Rattle.fio_tool.specs.ShowCommands.{body_text, clearing_text, command_text, configuration_text, item_text, number_text, other_text, outputs_text};
 
 use fio_message::{Command, InputItem};
-use fio_world::text::{Hexadecimal, end_with, put, put_decimal};
+use fio_world::push_line;
+use fio_world::text::push_hexadecimal;
 use std::alloc::AllocError;
 
 /// Appends the lines for a command.
@@ -27,26 +26,19 @@ pub(crate) fn push_command(text: &mut Vec<u8>, command: &Command) -> Result<(), 
     }
 }
 
-/// Appends the line for a command that has one number.
+/// Appends the line for a message that has one number, behind its name of at most 40 octets.
 pub(crate) fn push_number(text: &mut Vec<u8>, name: &[u8], number: u32) -> Result<(), AllocError>
     requires { length name.now ≤ 40 }
-    ensures { OnOk result (text.new.items
-        ≡ text.old.items ++ (name.now ++ (decimal number ++ codes "\n"))) }
+    ensures { OnOk result (text.new.items ≡ text.old.items ++ number_text name.now number) }
 {
-    let mut line = [0; 128];
-    let at = end_with(&mut line, b"\n");
-    let at = put_decimal(&mut line, at, u64::from(number));
-    let at = put(&mut line, at, name);
-    text.extend_from_slice(&line[at..])
+    push_line!(text; (name) {number} b"\n")
 }
 
-fn push_clearing(text: &mut Vec<u8>, clear: u8) -> Result<(), AllocError>
+/// Appends the line for the flags to clear.
+pub(crate) fn push_clearing(text: &mut Vec<u8>, clear: u8) -> Result<(), AllocError>
     ensures { OnOk result (text.new.items ≡ text.old.items ++ clearing_text clear) }
 {
-    let octets = [clear];
-    let octets = Hexadecimal(&octets);
-    let line = format!(in *text.allocator(); "status clear {octets}\n")?;
-    text.extend_from_slice(line.as_bytes())
+    push_line!(text; b"status clear " [clear] b"\n")
 }
 
 fn push_configuration(text: &mut Vec<u8>, items: &[InputItem]) -> Result<(), AllocError>
@@ -61,46 +53,36 @@ fn push_configuration(text: &mut Vec<u8>, items: &[InputItem]) -> Result<(), All
 }
 
 fn push_count(text: &mut Vec<u8>, count: usize) -> Result<(), AllocError>
-    ensures { OnOk result (text.new.items ≡ text.old.items
-        ++ (codes "configure inputs " ++ (decimal count ++ codes "\n"))) }
+    ensures { OnOk result (text.new.items
+        ≡ text.old.items ++ number_text (codes "configure inputs ") count) }
 {
-    let mut line = [0; 128];
-    let at = end_with(&mut line, b"\n");
-    let at = put_decimal(&mut line, at, count as u64);
-    let at = put(&mut line, at, b"configure inputs ");
-    text.extend_from_slice(&line[at..])
+    push_line!(text; b"configure inputs " {count as u64} b"\n")
 }
 
 fn push_item(text: &mut Vec<u8>, item: InputItem) -> Result<(), AllocError>
     ensures { OnOk result (text.new.items ≡ text.old.items ++ item_text item) }
 {
-    let InputItem {
-        input,
-        ignore,
-        leading,
-        trailing,
-    } = item;
-    let mut line = [0; 128];
-    let at = end_with(&mut line, b"\n");
-    let at = put_decimal(&mut line, at, u64::from(trailing));
-    let at = put(&mut line, at, b" trailing ");
-    let at = put_decimal(&mut line, at, u64::from(leading));
-    let at = put(&mut line, at, b" leading ");
-    let at = put_decimal(&mut line, at, u64::from(ignore));
-    let at = put(&mut line, at, b" ignore ");
-    let at = put_decimal(&mut line, at, u64::from(input.get()));
-    let at = put(&mut line, at, b"  input ");
-    text.extend_from_slice(&line[at..])
+    push_line!(
+        text;
+        b"  input " {item.input.get()} b" ignore " {item.ignore}
+        b" leading " {item.leading} b" trailing " {item.trailing} b"\n"
+    )
 }
 
-fn push_outputs(text: &mut Vec<u8>, levels: &[u8], controls: &[u8]) -> Result<(), AllocError>
+/// Appends the line for the levels and the controls of all outputs.
+pub(crate) fn push_outputs(
+    text: &mut Vec<u8>,
+    levels: &[u8],
+    controls: &[u8],
+) -> Result<(), AllocError>
     ensures { OnOk result (text.new.items
         ≡ text.old.items ++ outputs_text levels.now controls.now) }
 {
-    let levels = Hexadecimal(levels);
-    let controls = Hexadecimal(controls);
-    let line = format!(in *text.allocator(); "set outputs data {levels} control {controls}\n")?;
-    text.extend_from_slice(line.as_bytes())
+    text.extend_from_slice(b"set outputs data ")?;
+    push_hexadecimal(text, levels)?;
+    text.extend_from_slice(b" control ")?;
+    push_hexadecimal(text, controls)?;
+    text.extend_from_slice(b"\n")
 }
 
 /// Appends the line for a message that is not read further than its type.
@@ -108,11 +90,17 @@ pub(crate) fn push_other(text: &mut Vec<u8>, code: u8, body: &[u8]) -> Result<()
     ensures { OnOk result (text.new.items
         ≡ text.old.items ++ other_text code body.now) }
 {
-    if body.is_empty() {
-        let line = format!(in *text.allocator(); "other {code} body -\n")?;
-        return text.extend_from_slice(line.as_bytes());
+    push_line!(text; b"other " {code} b" body ")?;
+    push_body(text, body)?;
+    text.extend_from_slice(b"\n")
+}
+
+/// Appends the octets of a body, or a dash where it has none.
+fn push_body(text: &mut Vec<u8>, body: &[u8]) -> Result<(), AllocError>
+    ensures { OnOk result (text.new.items ≡ text.old.items ++ body_text body.now) }
+{
+    match body {
+        [] => text.extend_from_slice(b"-"),
+        _ => push_hexadecimal(text, body),
     }
-    let body = Hexadecimal(body);
-    let line = format!(in *text.allocator(); "other {code} body {body}\n")?;
-    text.extend_from_slice(line.as_bytes())
 }

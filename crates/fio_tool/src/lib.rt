@@ -24,6 +24,7 @@ mod help;
 mod inputs;
 pub mod laws;
 mod running;
+mod short_messages;
 mod showing;
 mod simulation;
 mod streams;

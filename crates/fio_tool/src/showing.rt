@@ -1,29 +1,39 @@
 //! What a text of frames says, line for line.
-ghost use Rattle.std.specs.Prelude.{◌≡◌, ◌++◌, codes, decimal, is_ok, false, nat_le, slice_index_or, ◌∷◌, [], OnOk, IfOk};
+ghost use Rattle.std.specs.Prelude.{◌≡◌, ◌≢◌, ◌⊎◌, ◌++◌, [], is_ok, false, true, nat_le, slice_index_or, Err, OnOk, OnErr, IfOk};
 ghost use Rattle.fio_message.specs.Texts.{fault_text};
+ghost use Rattle.fio_message.specs.Decoding.{decoded_answer, decoded_command};
+ghost use Rattle.fio_world.specs.Lines.{lines_of, numbered};
+ghost use Rattle.fio_tool.specs.Inputs.{is_too_long};
 ghost use Rattle.fio_tool.specs.Show.{is_line_good, is_show_good, line_text, show_text, shown, shown_frame, told_at};
 ghost use Rattle.fio_tool.specs.ShowAnswers.{answer_text};
 ghost use Rattle.fio_tool.specs.ShowCommands.{command_text};
-ghost use Rattle.fio_message.specs.Decoding.{decoded_answer, decoded_command};
 
 use crate::answers::{push_answer, push_block_view};
-use crate::commands::{push_command, push_number};
+use crate::commands::push_command;
 use crate::inputs::{is_too_long, report_too_long};
+use crate::short_messages::{push_short, short_message};
 use fio_message::{DecodeError, Memory, decode_answer, decode_command, read_block};
 use fio_world::Report;
 use fio_world::text::{FaultWords, numbered_lines, read_octets_into};
-use std::alloc::{AllocError, Global};
+use std::alloc::Global;
 
-/// The text that tells of each line of the input: a line of octets in hexadecimal digits is told as
+/// How many octets of text to expect for an octet of input: an entry of a block, six digits, gives a
+/// line of at most 46 octets.
+const EXPECTED: usize = 8;
+
+/// The text that reports each line of the input: a line of octets in hexadecimal digits is reported as
 /// the message that they spell, an answer where the first is 128 or more and else a command. A line
 /// that spells none gives `line N: ` and its fault, and an input of more than 1,048,576 octets the
 /// one line `input too long`. Lines that are empty or begin with `#` give none.
 ///
 /// # Errors
-/// `Memory` where there is none for the text or for a line's octets.
+/// `Memory` where there is none for the text or for a line's octets: only where some line of the input
+/// gives a text, or the input is too long.
 pub fn show_text(alloc: Global, input: &[u8]) -> Result<Report, Memory>
     ensures text { IfOk result (λ report. report.text.items ≡ show_text input.now) }
     ensures good { IfOk result (λ report. report.good ≡ is_show_good input.now) }
+    ensures memory { OnErr result ((is_too_long input.now ≡ true)
+        ⊎ (numbered 1 (lines_of input.now) ≢ [])) }
 {
     if is_too_long(input) {
         return report_too_long(alloc);
@@ -32,7 +42,11 @@ pub fn show_text(alloc: Global, input: &[u8]) -> Result<Report, Memory>
     let mut octets = Vec::new(alloc);
     let mut good = true;
     'lines: for (number, line) in numbered_lines(input, 1) {
-        good &= push_line(&mut text, &mut octets, number, line)?;
+        if text.capacity() == 0 {
+            text.reserve(EXPECTED * input.len())?;
+        }
+        let said = push_line(&mut text, &mut octets, number, line)?;
+        good &= said;
     }
     Ok(Report {
         text,
@@ -40,7 +54,7 @@ pub fn show_text(alloc: Global, input: &[u8]) -> Result<Report, Memory>
     })
 }
 
-/// Appends the text for a numbered line, and says whether the line has no fault.
+/// Appends the text for a numbered line, and returns whether the line has no fault.
 fn push_line(
     text: &mut Vec<u8>,
     octets: &mut Vec<u8>,
@@ -59,14 +73,15 @@ fn push_line(
     push_frame(text, number, octets.as_slice())
 }
 
-/// Appends the text for a frame on the line with this number, and says whether it has no fault.
+/// Appends the text for a frame on the line with this number, and returns whether it has no fault.
 fn push_frame(text: &mut Vec<u8>, number: usize, octets: &[u8]) -> Result<bool, Memory>
     ensures text { OnOk result (text.new.items
         ≡ text.old.items ++ told_at number (shown_frame octets.now)) }
     ensures good { IfOk result (λ good. good ≡ is_ok (shown_frame octets.now)) }
 {
-    if let [54, block] = octets {
-        return push_poll(text, number, octets, *block);
+    if let Some(message) = short_message(octets) {
+        push_short(text, message)?;
+        return Ok(true);
     }
     if let Ok(block) = read_block(octets) {
         push_block_view(text, &block)?;
@@ -79,18 +94,17 @@ fn push_frame(text: &mut Vec<u8>, number: usize, octets: &[u8]) -> Result<bool, 
     }
 }
 
-/// Appends the line for a poll, read in place.
-#[tactic(auto, unfolding(fio_message::specs::Decoding::message_in))]
-fn push_poll(text: &mut Vec<u8>, number: usize, octets: &[u8], block: u8) -> Result<bool, Memory>
-    requires { octets.now ≡ 54 ∷ block ∷ [] }
-    ensures text { OnOk result (text.new.items
-        ≡ text.old.items ++ told_at number (shown_frame octets.now)) }
-    ensures good { IfOk result (λ good. good ≡ is_ok (shown_frame octets.now)) }
+/// Whether a frame is to be read as an answer.
+fn is_answer(octets: &[u8]) -> bool
+    ensures { result ≡ nat_le 128 (slice_index_or octets.now 0 0) }
 {
-    push_number(text, b"poll block ", u32::from(block))?;
-    Ok(true)
+    match octets {
+        [code, ..] => *code >= 128,
+        [] => false,
+    }
 }
 
+/// Appends the text for an answer of any type, decoded into a value of its own.
 #[inline(never)]
 fn push_any_answer(text: &mut Vec<u8>, number: usize, octets: &[u8]) -> Result<bool, Memory>
     ensures text { OnOk result (text.new.items
@@ -106,6 +120,7 @@ fn push_any_answer(text: &mut Vec<u8>, number: usize, octets: &[u8]) -> Result<b
     }
 }
 
+/// Appends the text for a command of any type, decoded into a value of its own.
 #[inline(never)]
 fn push_any_command(text: &mut Vec<u8>, number: usize, octets: &[u8]) -> Result<bool, Memory>
     ensures text { OnOk result (text.new.items
@@ -121,17 +136,7 @@ fn push_any_command(text: &mut Vec<u8>, number: usize, octets: &[u8]) -> Result<
     }
 }
 
-/// Whether a frame is to be read as an answer.
-fn is_answer(octets: &[u8]) -> bool
-    ensures { result ≡ nat_le 128 (slice_index_or octets.now 0 0) }
-{
-    match octets {
-        [code, ..] => *code >= 128,
-        [] => false,
-    }
-}
-
-/// Appends the line that tells of a refusal, which is a fault.
+/// Appends the line for a refusal, which is a fault.
 fn push_refusal(text: &mut Vec<u8>, number: usize, fault: DecodeError) -> Result<bool, Memory>
     ensures text { OnOk result (text.new.items
         ≡ text.old.items ++ told_at number (Err (fault_text fault))) }

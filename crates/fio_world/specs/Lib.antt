@@ -10,6 +10,7 @@ pub mod Claims
 pub mod Rounds
 pub mod Rising
 pub mod Delivery
+pub mod InTime
 pub mod Sound
 pub mod EndToEnd
 pub mod Ends

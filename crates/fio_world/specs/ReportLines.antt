@@ -1,7 +1,6 @@
 -- The lines of a report.
-use Rattle.std.specs.Prelude.{ℕ, Bool, List, [], ◌∷◌, ◌++◌, length, codes, decimal, Option, Some, None}
+use Rattle.std.specs.Prelude.{ℕ, Bool, List, ◌++◌, length, codes, decimal, Option, Some, None}
 use Rattle.std.specs.List.{flat_map}
-use Rattle.hex.specs.Hex.{encode_lower}
 use Rattle.fio_message.specs.Bits.{bit_of}
 use Rattle.fio_message.specs.Texts.{fault_text}
 use Rattle.fio_cpu.specs.declared.hearing.Heard.{Heard}
@@ -11,6 +10,7 @@ use Rattle.fio_cpu.specs.declared.items.Item.TheVariants.{Entry, Gap}
 use Rattle.fio_module.specs.Blocks.{waiting_of}
 use Rattle.fio_module.specs.Life.{life_of, counter_of}
 use Rattle.fio_module.specs.Settings.{Settings}
+use Rattle.fio_world.specs.Hexadecimal.{digits_of, octet_digits}
 use Rattle.fio_world.specs.declared.outcome.Outcome.{Outcome}
 use Rattle.fio_world.specs.declared.outcome.Outcome.TheVariants as outcomes
 use Rattle.fio_world.specs.declared.outcome.WorldError.{WorldError}
@@ -23,7 +23,7 @@ use Rattle.fio_world.specs.Link.{Machine, Refusal, NotSent, OutOfOrder, PollIsOu
 abbrev pub heard_line : ℕ → Heard → List ℕ
 heard_line number (Block entries status) =
     decimal number ++ (codes " block entries " ++ (decimal entries ++ (codes " status "
-    ++ (encode_lower (status ∷ []) ++ codes "\n"))))
+    ++ (octet_digits status ++ codes "\n"))))
 heard_line number (Stale block) =
     decimal number ++ (codes " stale " ++ (decimal block ++ codes "\n"))
 heard_line number (Other code) =
@@ -35,7 +35,7 @@ heard_line number (Unreadable fault) =
 abbrev pub sent_line : ℕ → ℕ → List ℕ → List ℕ
 sent_line number index octets =
     decimal number ++ (codes " sent " ++ (decimal index
-    ++ (codes " " ++ (encode_lower octets ++ codes "\n"))))
+    ++ (codes " " ++ (digits_of octets ++ codes "\n"))))
 
 -- what the event with this number brought
 abbrev pub outcome_line : ℕ → Outcome → List ℕ
@@ -61,13 +61,16 @@ refused_line number PollIsOurs = decimal number ++ codes " refused poll is ours\
 
 -- ---- the end of a run
 
+-- the end of an entry's line: its stamp and its wide time, which are those of its scan
+abbrev pub scan_ending : ℕ → ℕ → List ℕ
+scan_ending stamp wide =
+    codes " stamp " ++ (decimal stamp ++ (codes " wide " ++ (decimal wide ++ codes "\n")))
+
 -- an entry, with its wide time
 abbrev pub entry_line : ℕ → Bool → ℕ → ℕ → List ℕ
 entry_line input level stamp wide =
     codes "input " ++ (decimal input
-    ++ (codes " state " ++ (decimal (bit_of level)
-    ++ (codes " stamp " ++ (decimal stamp
-    ++ (codes " wide " ++ (decimal wide ++ codes "\n")))))))
+    ++ (codes " state " ++ (decimal (bit_of level) ++ scan_ending stamp wide)))
 
 -- an item of the record
 abbrev pub item_line : Item → List ℕ

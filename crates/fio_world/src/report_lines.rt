@@ -1,5 +1,5 @@
 //! The lines of a report, appended to its text.
-ghost use Rattle.std.specs.Prelude.{◌≡◌, ℕ, ◌≤◌, ◌++◌, length, codes, decimal, IsSomeAnd, OnOk};
+ghost use Rattle.std.specs.Prelude.{◌≡◌, ℕ, ◌++◌, IsSomeAnd, OnOk};
 ghost use Rattle.fio_module.specs.Settings.{Settings};
 ghost use Rattle.fio_world.specs.Link.{Machine};
 ghost use Rattle.fio_world.specs.ReportLines.{ending_lines, ending_text, heard_line, item_line, outcome_line, refusal_in, refused_line, sent_line};
@@ -7,40 +7,23 @@ ghost use Rattle.fio_world.specs.Worlds.{Shows};
 ghost use Rattle.fio_world.specs.declared.outcome.Outcome.TheVariants as outcomes;
 ghost use Rattle.fio_cpu.specs.declared.hearing.Heard.TheVariants as heards;
 
-use crate::outcome::{Outcome, WorldError};
-use crate::text::{FaultWords, Hexadecimal, end_with, push_hexadecimal, put, put_decimal};
+use crate::outcome::WorldError;
+use crate::push_line;
+use crate::text::{EntryLines, FaultWords, push_hexadecimal};
 use crate::world::World;
 use fio_cpu::{Heard, Item};
-use fio_message::Memory;
+use fio_message::{Entry, Memory};
 use std::alloc::AllocError;
 
-/// What the event with this number brought.
-pub(crate) fn push_outcome(
-    text: &mut Vec<u8>,
-    number: usize,
-    outcome: &Outcome,
-) -> Result<(), AllocError>
-    ensures { OnOk result (text.new.items
-        ≡ text.old.items ++ outcome_line number outcome.now) }
-{
-    match outcome {
-        Outcome::Quiet => push_quiet(text, number),
-        Outcome::Sent { index, frame } => push_sent(text, number, *index, frame),
-        Outcome::Heard(heard) => push_heard(text, number, *heard),
-    }
-}
-
-fn push_quiet(text: &mut Vec<u8>, number: usize) -> Result<(), AllocError>
+pub(crate) fn push_quiet(text: &mut Vec<u8>, number: usize) -> Result<(), AllocError>
     ensures { OnOk result (text.new.items
         ≡ text.old.items ++ outcome_line number outcomes.Quiet) }
 {
-    let mut line = [0; 128];
-    let at = end_with(&mut line, b" quiet\n");
-    let at = put_decimal(&mut line, at, number as u64);
-    text.extend_from_slice(&line[at..])
+    push_line!(text; {number as u64} b" quiet\n")
 }
 
-fn push_sent(
+/// A frame was sent.
+pub(crate) fn push_sent(
     text: &mut Vec<u8>,
     number: usize,
     index: usize,
@@ -49,24 +32,20 @@ fn push_sent(
     ensures { OnOk result (text.new.items
         ≡ text.old.items ++ sent_line number index octets.now) }
 {
-    let mut line = [0; 128];
-    let at = end_with(&mut line, b" ");
-    let at = put_decimal(&mut line, at, index as u64);
-    let at = put(&mut line, at, b" sent ");
-    let at = put_decimal(&mut line, at, number as u64);
-    text.extend_from_slice(&line[at..])?;
+    push_line!(text; {number as u64} b" sent " {index as u64} b" ")?;
     push_hexadecimal(text, octets)?;
     text.extend_from_slice(b"\n")
 }
 
-fn push_heard(text: &mut Vec<u8>, number: usize, heard: Heard) -> Result<(), AllocError>
+/// The CPU received a frame.
+pub(crate) fn push_heard(text: &mut Vec<u8>, number: usize, heard: Heard) -> Result<(), AllocError>
     ensures { OnOk result (text.new.items
         ≡ text.old.items ++ heard_line number heard) }
 {
     match heard {
         Heard::Block { entries, status } => push_taken(text, number, entries, status),
-        Heard::Stale { block } => push_short(text, number, b" stale ", block),
-        Heard::Other { code } => push_short(text, number, b" other ", code),
+        Heard::Stale { block } => push_line!(text; {number as u64} b" stale " {block} b"\n"),
+        Heard::Other { code } => push_line!(text; {number as u64} b" other " {code} b"\n"),
         Heard::Unreadable(fault) => {
             let words = FaultWords(fault);
             let line = format!(in *text.allocator(); "{number} unreadable {words}\n")?;
@@ -85,24 +64,10 @@ fn push_taken(
     ensures { OnOk result (text.new.items
         ≡ text.old.items ++ heard_line number (heards.Block entries status)) }
 {
-    let status = [status];
-    let status = Hexadecimal(&status);
-    let line = format!(in *text.allocator(); "{number} block entries {entries} status {status}\n")?;
-    text.extend_from_slice(line.as_bytes())
-}
-
-/// An event's number, a word, and a number.
-fn push_short(text: &mut Vec<u8>, number: usize, word: &[u8], told: u8) -> Result<(), AllocError>
-    requires { length word.now ≤ 40 }
-    ensures { OnOk result (text.new.items
-        ≡ text.old.items ++ (decimal number ++ (word.now ++ (decimal told ++ codes "\n")))) }
-{
-    let mut line = [0; 128];
-    let at = end_with(&mut line, b"\n");
-    let at = put_decimal(&mut line, at, u64::from(told));
-    let at = put(&mut line, at, word);
-    let at = put_decimal(&mut line, at, number as u64);
-    text.extend_from_slice(&line[at..])
+    push_line!(
+        text;
+        {number as u64} b" block entries " {entries as u64} b" status " [status] b"\n"
+    )
 }
 
 /// Why the event with this number did not happen, where that is a refusal.
@@ -153,19 +118,24 @@ fn push_counts(
     ensures { OnOk result (text.new.items
         ≡ text.old.items ++ ending_lines counter number waiting items.now) }
 {
-    let count = items.len();
-    let head = format!(in *text.allocator();
-        "counter {counter}\nnumber {number}\nwaiting {waiting}\nrecord {count}\n"
+    push_line!(
+        text;
+        b"counter " {counter} b"\nnumber " {number} b"\nwaiting " {waiting as u64}
+        b"\nrecord " {items.len() as u64} b"\n"
     )?;
-    text.extend_from_slice(head.as_bytes())?;
+    let mut entry_lines = EntryLines::new();
     for item in items {
-        push_item(text, *item)?;
+        push_item(text, &mut entry_lines, *item)?;
     }
     Ok(())
 }
 
 /// An item of the record.
-fn push_item(text: &mut Vec<u8>, item: Item) -> Result<(), AllocError>
+fn push_item(
+    text: &mut Vec<u8>,
+    entry_lines: &mut EntryLines,
+    item: Item,
+) -> Result<(), AllocError>
     ensures { OnOk result (text.new.items ≡ text.old.items ++ item_line item) }
 {
     match item {
@@ -176,17 +146,12 @@ fn push_item(text: &mut Vec<u8>, item: Item) -> Result<(), AllocError>
             stamp,
             wide,
         } => {
-            let mut line = [0; 128];
-            let at = end_with(&mut line, b"\n");
-            let at = put_decimal(&mut line, at, u64::from(wide));
-            let at = put(&mut line, at, b" wide ");
-            let at = put_decimal(&mut line, at, u64::from(stamp));
-            let at = put(&mut line, at, b" stamp ");
-            let at = put_decimal(&mut line, at, u64::from(level));
-            let at = put(&mut line, at, b" state ");
-            let at = put_decimal(&mut line, at, u64::from(input.get()));
-            let at = put(&mut line, at, b"input ");
-            text.extend_from_slice(&line[at..])
+            let entry = Entry {
+                input,
+                level,
+                stamp,
+            };
+            entry_lines.push(text, b"", entry, wide)
         }
     }
 }

@@ -1,5 +1,6 @@
 //! What the texts of the program share: lines and words, how they are read, and what is printed.
 
+mod entry_lines;
 mod lines;
 mod numbering;
 mod octets;
@@ -7,6 +8,7 @@ mod printing;
 mod words;
 mod writing;
 
+pub use entry_lines::EntryLines;
 pub use lines::{is_skipped, split_line};
 pub use numbering::{NumberedLines, numbered_lines};
 pub use octets::{is_octets, read_octets_to};
@@ -15,4 +17,4 @@ pub use words::{
     after_prefix, read_inputs, read_number, read_octet, read_octets, read_octets_into,
     read_small_number, split_at_blank,
 };
-pub use writing::{end_with, push_hexadecimal, put, put_decimal, put_octet};
+pub use writing::{append_line, line_end, push_hexadecimal, put, put_decimal, put_hexadecimal, put_octet};

@@ -179,6 +179,19 @@ fn answers_and_their_octets(rt: HostRuntime) {
 }
 
 #[test]
+fn messages_written_over_others(rt: HostRuntime) {
+    let mut frame = Frame::new();
+    for (answer, octets) in &answers(&rt) {
+        write_answer(answer, &mut frame);
+        assert_eq!(rt; frame.as_slice(), *octets);
+    }
+    for (command, octets) in &commands(&rt) {
+        write_command(command, &mut frame);
+        assert_eq!(rt; frame.as_slice(), *octets);
+    }
+}
+
+#[test]
 fn kinds_and_their_types(rt: HostRuntime) {
     assert_eq!(rt; OtherCommand::ControllerId.code(), 59);
     assert_eq!(rt; OtherAnswer::Identify.code(), 188);

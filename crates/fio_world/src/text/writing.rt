@@ -1,59 +1,124 @@
-//! Lines of words and numbers, put together in a room on the stack from their end to their front, and
-//! appended to a text at once.
-ghost use Rattle.std.specs.Prelude.{◌≡◌, ◌+◌, ◌≤◌, ◌∷◌, ◌++◌, [], length, drop, decimal, OnOk};
-ghost use Rattle.hex.specs.Hex.{encode_lower};
+//! Lines, written in pieces. A line is put together in room on the stack from its last piece to its
+//! first, since a number is written from its last digit to its first, and is appended to a text at
+//! once. `push_line!` and `put_pieces!` take the pieces in the order in which they are read.
+ghost use Rattle.std.specs.Prelude.{◌≡◌, ◌+◌, ◌*◌, ◌≤◌, ◌++◌, ℕ, [], length, drop, decimal, OnOk};
+ghost use Rattle.fio_world.specs.Hexadecimal.{digits_of, octet_digits};
 
 use std::alloc::AllocError;
 
-/// Begins a line with its last word, and says where the line starts now.
+/// Appends a line of at most 128 octets to a text, made of these pieces: octets as they are (`b".."`
+/// or `(octets)`), a number of at most 64 bits in decimal digits (`{number}`), an octet or octets in
+/// hexadecimal digits of lower case (`[octet]`, `[&octets]`). It is an `AllocError` where the text cannot grow.
+#[macro_export]
+macro_rules! push_line {
+    ($text:expr; $($pieces:tt)*) => {{
+        let mut line = [0; 128];
+        let end = $crate::text::line_end(&line);
+        let start = $crate::put_pieces!(line, end; $($pieces)*);
+        $crate::text::append_line($text, &line, start)
+    }};
+}
+
+/// Puts pieces, as `push_line!` takes them, before what stands in a line from `end` on. Its value is
+/// where the line starts then.
+#[macro_export]
+macro_rules! put_pieces {
+    ($line:expr, $end:expr;) => { $end };
+    ($line:expr, $end:expr; $octets:literal $($pieces:tt)*) => {{
+        let end = $crate::put_pieces!($line, $end; $($pieces)*);
+        $crate::text::put(&mut $line, end, $octets)
+    }};
+    ($line:expr, $end:expr; ($octets:expr) $($pieces:tt)*) => {{
+        let end = $crate::put_pieces!($line, $end; $($pieces)*);
+        $crate::text::put(&mut $line, end, $octets)
+    }};
+    ($line:expr, $end:expr; {$number:expr} $($pieces:tt)*) => {{
+        let end = $crate::put_pieces!($line, $end; $($pieces)*);
+        $crate::text::put_decimal(&mut $line, end, u64::from($number))
+    }};
+    ($line:expr, $end:expr; [&$octets:expr] $($pieces:tt)*) => {{
+        let end = $crate::put_pieces!($line, $end; $($pieces)*);
+        $crate::text::put_hexadecimal(&mut $line, end, &$octets)
+    }};
+    ($line:expr, $end:expr; [$octet:expr] $($pieces:tt)*) => {{
+        let end = $crate::put_pieces!($line, $end; $($pieces)*);
+        $crate::text::put_octet(&mut $line, end, $octet)
+    }};
+}
+
+/// Where a line without a piece starts: behind its room.
 #[inline(always)]
-pub fn end_with(line: &mut [u8; 128], word: &[u8]) -> usize
-    requires { length word.now ≤ 128 }
-    ensures start { result + length word.now ≡ 128 }
-    ensures put { drop result line.new ≡ word.now }
+pub fn line_end(line: &[u8; 128]) -> usize
+    ensures start { result ≡ 128 }
+    ensures empty { drop result line.now ≡ [] }
 {
-    let start = 128 - word.len();
-    line[start..].copy_from_slice(word);
+    line.len()
+}
+
+/// Puts octets before what stands in a line from `end` on, for which there has to be room, and
+/// returns where the line starts then. What stood from `end` on stays.
+#[inline(always)]
+pub fn put(line: &mut [u8; 128], end: usize, octets: &[u8]) -> usize
+    requires { (length octets.now ≤ end) × (end ≤ 128) }
+    ensures start { result + length octets.now ≡ end }
+    ensures put { drop result line.new ≡ octets.now ++ drop end line.old }
+    ensures kept { (at : ℕ) → end ≤ at → drop at line.new ≡ drop at line.old }
+{
+    let start = end - octets.len();
+    line[start..end].copy_from_slice(octets);
     start
 }
 
-/// Puts a word before what stands from `at` on, and says where it starts.
+/// Puts a number in decimal digits, of which it has at most 20, as `put` puts octets.
 #[inline(always)]
-pub fn put(line: &mut [u8; 128], at: usize, word: &[u8]) -> usize
-    requires { (length word.now ≤ at) × (at ≤ 128) }
-    ensures start { result + length word.now ≡ at }
-    ensures put { drop result line.new ≡ word.now ++ drop at line.old }
+pub fn put_decimal(line: &mut [u8; 128], end: usize, number: u64) -> usize
+    requires { (20 ≤ end) × (end ≤ 128) }
+    ensures start { (result ≤ end) × (end ≤ result + 20) }
+    ensures put { drop result line.new ≡ decimal number ++ drop end line.old }
+    ensures kept { (at : ℕ) → end ≤ at → drop at line.new ≡ drop at line.old }
 {
-    let start = at - word.len();
-    line[start..at].copy_from_slice(word);
-    start
+    itoa::write_digits(number, line, end)
 }
 
-/// Puts a number in decimal digits, 20 at most.
+/// Puts an octet in two hexadecimal digits of lower case, as `put` puts octets.
 #[inline(always)]
-pub fn put_decimal(line: &mut [u8; 128], at: usize, number: u64) -> usize
-    requires { (20 ≤ at) × (at ≤ 128) }
-    ensures start { (result ≤ at) × (at ≤ result + 20) }
-    ensures put { drop result line.new ≡ decimal number ++ drop at line.old }
-{
-    itoa::write_digits(number, line, at)
-}
-
-/// Puts an octet in two hexadecimal digits.
-#[inline(always)]
-pub fn put_octet(line: &mut [u8; 128], at: usize, octet: u8) -> usize
-    requires { (2 ≤ at) × (at ≤ 128) }
-    ensures start { result + 2 ≡ at }
-    ensures put { drop result line.new ≡ encode_lower (octet ∷ []) ++ drop at line.old }
+#[tactic(auto, unfolding(crate::specs::Hexadecimal::octet_digits))]
+pub fn put_octet(line: &mut [u8; 128], end: usize, octet: u8) -> usize
+    requires { (2 ≤ end) × (end ≤ 128) }
+    ensures start { (result ≤ end) × (end ≤ result + 2) }
+    ensures put { drop result line.new ≡ octet_digits octet ++ drop end line.old }
 {
     let mut digits = [0; 2];
     let _ = hex::encode_to_slice([octet], &mut digits);
-    put(line, at, &digits)
+    put(line, end, &digits)
 }
 
-/// Appends octets in hexadecimal digits of lower case.
+/// Puts octets in hexadecimal digits of lower case, two for each, as `put` puts octets.
+#[inline(always)]
+#[tactic(auto, unfolding(crate::specs::Hexadecimal::digits_of))]
+pub fn put_hexadecimal(line: &mut [u8; 128], end: usize, octets: &[u8]) -> usize
+    requires { (2 * length octets.now ≤ end) × (end ≤ 128) }
+    ensures start { (result ≤ end) × (end ≤ result + 2 * length octets.now) }
+    ensures put { drop result line.new ≡ digits_of octets.now ++ drop end line.old }
+{
+    let start = end - 2 * octets.len();
+    let _ = hex::encode_to_slice(octets, &mut line[start..end]);
+    start
+}
+
+/// Appends a line that starts at this place of its room.
+#[inline(always)]
+pub fn append_line(text: &mut Vec<u8>, line: &[u8; 128], start: usize) -> Result<(), AllocError>
+    requires { start ≤ 128 }
+    ensures { OnOk result (text.new.items ≡ text.old.items ++ drop start line.now) }
+{
+    text.extend_from_slice(&line[start..])
+}
+
+/// Appends octets in hexadecimal digits of lower case, two for each.
+#[tactic(auto, unfolding(crate::specs::Hexadecimal::digits_of))]
 pub fn push_hexadecimal(text: &mut Vec<u8>, octets: &[u8]) -> Result<(), AllocError>
-    ensures { OnOk result (text.new.items ≡ text.old.items ++ encode_lower octets.now) }
+    ensures { OnOk result (text.new.items ≡ text.old.items ++ digits_of octets.now) }
 {
     let Some(count) = octets.len().checked_mul(2) else {
         return Err(AllocError);

@@ -2,7 +2,7 @@
 ghost use Rattle.std.specs.Prelude.{◌≡◌, ◌≢◌, ◌+◌, ◌≤◌, ◌∷◌, ◌++◌, [], ℕ, IfOk, IfErr, OnOk, OnErr, length};
 ghost use Rattle.fio_module.specs.Settings.{Settings};
 ghost use Rattle.fio_world.specs.declared.event.Event.TheVariants as events;
-ghost use Rattle.fio_world.specs.Done.{outcome_in, result_in};
+ghost use Rattle.fio_world.specs.Done.{octets_numbered, outcome_in, result_in};
 ghost use Rattle.fio_world.specs.Link.{Machine};
 ghost use Rattle.fio_world.specs.Worlds.{Shows, Steps};
 
@@ -57,15 +57,31 @@ impl World {
         match done {
             Done::ToModule(index) => Outcome::Sent {
                 index,
-                frame: frame_of(self.to_module.octets_or_none(index)),
+                frame: frame_of(self.octets_to_module(index)),
             },
             Done::ToCpu(index) => Outcome::Sent {
                 index,
-                frame: frame_of(self.to_cpu.octets_or_none(index)),
+                frame: frame_of(self.octets_to_cpu(index)),
             },
             Done::Heard(heard) => Outcome::Heard(heard),
             Done::Quiet => Outcome::Quiet,
         }
+    }
+
+    /// The octets of the frame to the module with this number, or none where there is no such frame.
+    pub(crate) fn octets_to_module(&self, index: usize) -> &[u8]
+        ensures is { result.now ≡ octets_numbered self.now.to_module index }
+        ensures short { length result.now ≤ 773 }
+    {
+        self.to_module.octets_or_none(index)
+    }
+
+    /// The same of the frame to the CPU.
+    pub(crate) fn octets_to_cpu(&self, index: usize) -> &[u8]
+        ensures is { result.now ≡ octets_numbered self.now.to_cpu index }
+        ensures short { length result.now ≤ 773 }
+    {
+        self.to_cpu.octets_or_none(index)
     }
 
     /// The CPU sends a frame: it joins those to the module.

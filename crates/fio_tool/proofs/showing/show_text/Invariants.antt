@@ -1,4 +1,4 @@
-use Rattle.std.proofs.Common.{◌≡◌, ◌++◌, ◌&&◌}
+use Rattle.std.proofs.Common.{◌≡◌, ◌++◌, ◌&&◌, ◌≤◌, length}
 use Rattle.std.specs.List.{flat_map, list_all}
 use Rattle.fio_world.specs.Lines.{lines_of, numbered}
 use Rattle.fio_tool.specs.Show.{line_text, is_line_good}
@@ -12,4 +12,5 @@ invariant-lines l = record {
   good :
       l.good && list_all is_line_good l.number-iterator
       ≡ list_all is_line_good (numbered 1 (lines_of l.input));
+  left : length l.number-iterator ≤ length (numbered 1 (lines_of l.input));
 }

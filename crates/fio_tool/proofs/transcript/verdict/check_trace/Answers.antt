@@ -4,7 +4,7 @@ use Rattle.std.proofs.lemmas.Option.{slice_get_read}
 use Rattle.fio_tool.specs.TranscriptFacts.{facts_at}
 use Rattle.fio_tool.specs.TranscriptRules.{rule_broken}
 use Rattle.fio_tool.proofs.KeptFacts.{rule_broken-kept, facts_at-next}
-use Rattle.fio_tool.proofs.transcript.rules.check_trace.Goals as goal
+use Rattle.fio_tool.proofs.transcript.verdict.check_trace.Goals as goal
 
 pub returns-in-Err : goal.returns-in-Err
 returns-in-Err c =
@@ -17,7 +17,7 @@ returns-in-Err c =
       line = line;
       here = here;
       numbered = ap (λ l. l.number) (sym c.line.view_is);
-      broken = rule_broken-kept lines place line _ here c.loop-line.invariant.kept ∙ sym c.add.ensures.broken ∙ ap result_err c.in-Err.is;
+      broken = rule_broken-kept lines place line _ here c.loop-line.invariant.kept ∙ sym c.add_line.ensures.broken ∙ ap result_err c.in-Err.is;
       above = c.loop-line.invariant.holds;
     }
 
@@ -29,7 +29,7 @@ loop-line-preserved c =
     let here = slice_get_read lines _ place line refl c.loop-line-test.true c.line-item.is in
     let kept = c.loop-line.invariant.kept in
     let holds : rule_broken lines place ≡ None =
-    rule_broken-kept lines place line _ here kept ∙ sym c.add.ensures.broken ∙ ap result_err c.in_default.is in
+    rule_broken-kept lines place line _ here kept ∙ sym c.add_line.ensures.broken ∙ ap result_err c.in_default.is in
     record {
       kept = c.in_default.ensures.kept ∙ sym (facts_at-next lines place line _ here kept holds) ∙ ap (facts_at lines) (sym (add-one place));
       holds = below_more _ _ c.loop-line.invariant.holds holds;

@@ -1,7 +1,7 @@
 use Rattle.std.proofs.Common.{◌≡◌}
 use Rattle.fio_tool.specs.TranscriptFacts.{facts_at}
 use Rattle.fio_tool.specs.TranscriptRules.{KeepsRulesAbove}
-use Rattle.fio_tool.proofs.transcript.rules.check_trace.Given as goal
+use Rattle.fio_tool.proofs.transcript.verdict.check_trace.Given as goal
 
 abbrev pub invariant-loop-line : goal.invariant-loop-line
 invariant-loop-line l = record {

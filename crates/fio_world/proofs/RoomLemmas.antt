@@ -1,0 +1,14 @@
+-- Octets that are put into room before others.
+use Rattle.std.proofs.Common.{◌≡◌, ℕ, ◌+◌, ◌-◌, ◌≤◌, List, ◌++◌, length, drop, sym, ap, ◌∙◌, arith}
+use Rattle.std.proofs.Math.Seq.{drop-append-add}
+use Rattle.std.proofs.lemmas.List.{drop-drop}
+
+-- what stands from `end` on is kept where octets are put before it
+pub kept : (old new octets : List ℕ) (start end at : ℕ) → drop start new ≡ octets ++ drop end old → start + length octets ≡ end → end ≤ at
+    → drop at new ≡ drop at old
+kept old new octets start end at put starts past =
+    let behind : start + (length octets + (at - end)) ≡ at = omega arith in
+    let over : end + (at - end) ≡ at = omega arith in
+    sym (ap (λ n. drop n new) behind) ∙ sym (drop-drop (length octets + (at - end)) start new)
+    ∙ ap (λ l. drop (length octets + (at - end)) l) put ∙ drop-append-add octets (drop end old) (at - end)
+    ∙ drop-drop (at - end) end old ∙ ap (λ n. drop n old) over
