@@ -143,6 +143,7 @@ fn push_block_head(
 }
 
 /// Appends the line for an entry of a block answer with this stamp.
+#[inline(always)]
 fn push_entry(
     text: &mut Vec<u8>,
     entry_lines: &mut EntryLines,

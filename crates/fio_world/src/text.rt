@@ -17,4 +17,4 @@ pub use words::{
     after_prefix, read_inputs, read_number, read_octet, read_octets, read_octets_into,
     read_small_number, split_at_blank,
 };
-pub use writing::{append_line, line_end, push_hexadecimal, put, put_decimal, put_hexadecimal, put_octet};
+pub use writing::{append_line, line_end, push_hexadecimal, put, put_decimal, put_hexadecimal, put_octet, put_words};

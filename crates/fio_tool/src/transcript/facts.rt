@@ -105,8 +105,8 @@ impl Facts {
         requires { code ≤ 127 }
         ensures broken { result_err result ≡ None }
         ensures kept { self.new ≡ (record self.old {
-            awaited = Some (code + 128);
-            absent_named = absent_named;
+          awaited = Some (code + 128);
+          absent_named = absent_named;
         }) }
     {
         self.awaited = Some(code + 128);

@@ -1,8 +1,8 @@
 //! The lines of entries.
-ghost use Rattle.std.specs.Prelude.{◌≡◌, ◌≤◌, ◌++◌, length, drop, OnOk};
+ghost use Rattle.std.specs.Prelude.{◌≡◌, ◌≤◌, ◌++◌, drop, OnOk};
 ghost use Rattle.fio_world.specs.ReportLines.{entry_line, scan_ending};
 
-use super::writing::{append_line, line_end};
+use super::writing::{append_line, line_end, put_words};
 use crate::put_pieces;
 use fio_message::Entry;
 use std::alloc::AllocError;
@@ -45,19 +45,20 @@ impl EntryLines {
         }
     }
 
-    /// Appends the line of an entry with this wide time to a text, behind `margin`, at most 8 octets:
+    /// Appends the line of an entry with this wide time to a text, behind a margin of at most 8 octets:
     /// `input I state L stamp S wide W`.
     ///
     /// # Errors
     /// `AllocError` where the text cannot grow.
-    pub fn push(
+    #[inline(always)]
+    pub fn push<const N: usize>(
         &mut self,
         text: &mut Vec<u8>,
-        margin: &[u8],
+        margin: &[u8; N],
         entry: Entry,
         wide: u32,
     ) -> Result<(), AllocError>
-        requires { length margin.now ≤ 8 }
+        requires { N ≤ 8 }
         ensures { OnOk result (text.new.items ≡ text.old.items
             ++ (margin.now ++ entry_line entry.input entry.level entry.stamp wide)) }
     {
@@ -66,10 +67,11 @@ impl EntryLines {
             self.stamp = entry.stamp;
             self.wide = wide;
         }
-        let start = put_pieces!(
+        let end = put_pieces!(
             self.line, self.ending;
-            (margin) b"input " {entry.input.get()} b" state " {entry.level}
+            b"input " {entry.input.get()} b" state " {entry.level}
         );
+        let start = put_words(&mut self.line, end, margin);
         append_line(text, &self.line, start)
     }
 }

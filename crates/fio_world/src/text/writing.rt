@@ -24,9 +24,9 @@ macro_rules! push_line {
 #[macro_export]
 macro_rules! put_pieces {
     ($line:expr, $end:expr;) => { $end };
-    ($line:expr, $end:expr; $octets:literal $($pieces:tt)*) => {{
+    ($line:expr, $end:expr; $words:literal $($pieces:tt)*) => {{
         let end = $crate::put_pieces!($line, $end; $($pieces)*);
-        $crate::text::put(&mut $line, end, $octets)
+        $crate::text::put_words(&mut $line, end, $words)
     }};
     ($line:expr, $end:expr; ($octets:expr) $($pieces:tt)*) => {{
         let end = $crate::put_pieces!($line, $end; $($pieces)*);
@@ -53,6 +53,30 @@ pub fn line_end(line: &[u8; 128]) -> usize
     ensures empty { drop result line.now ≡ [] }
 {
     line.len()
+}
+
+/// Puts the octets of a literal as `put` puts octets. Their number is known when this is compiled.
+#[inline(always)]
+pub fn put_words<const N: usize>(line: &mut [u8; 128], end: usize, words: &[u8; N]) -> usize
+    requires { (N ≤ end) × (end ≤ 128) }
+    ensures start { result + N ≡ end }
+    ensures put { drop result line.new ≡ words.now ++ drop end line.old }
+    ensures kept { (at : ℕ) → end ≤ at → drop at line.new ≡ drop at line.old }
+{
+    let start = end - N;
+    begin_with(&mut line[start..], words);
+    start
+}
+
+/// Puts the octets of a literal at the beginning of others.
+#[inline(always)]
+fn begin_with<const N: usize>(octets: &mut [u8], words: &[u8; N])
+    requires { N ≤ length octets.old }
+    ensures { octets.new ≡ words.now ++ drop N octets.old }
+{
+    if let Some(first) = octets.first_chunk_mut::<N>() {
+        *first = *words;
+    }
 }
 
 /// Puts octets before what stands in a line from `end` on, for which there has to be room, and
