@@ -14,6 +14,7 @@ pub mod InTime
 pub mod Sound
 pub mod EndToEnd
 pub mod Ends
+pub mod Done
 pub mod Worlds
 pub mod Forms
 pub mod Headers

@@ -8,10 +8,12 @@ ghost use Rattle.fio_world.specs.Link.{Machine, item_numbered};
 ghost use Rattle.fio_world.specs.Headline.{Headline};
 ghost use Rattle.fio_world.specs.Worlds.{Shows, Steps, StandsFor, IsSoundWorld, HasStopped, HasStoppedAt, all_done, events_done};
 
+mod done;
 mod frames;
 mod happening;
 mod stored;
 
+pub(crate) use self::done::Done;
 use self::stored::StoredFrames;
 use crate::event::Event;
 use crate::outcome::{Outcome, RunError, WorldError};
@@ -147,7 +149,10 @@ impl World {
             → Headline settings first (events_done events event.now result)
             self.new.poller_end.items }
     {
-        self.happen(event)
+        match self.happen(event) {
+            Ok(done) => Ok(self.outcome(done)),
+            Err(fault) => Err(fault),
+        }
     }
 
     /// Lets these events happen in order, up to the first that is refused. What was done stays, and
