@@ -6,7 +6,7 @@ use Rattle.fio_world.specs.Collected.{collected, with_first}
 use Rattle.fio_world.specs.Lines.{lines_of, numbered, with_front, is_skipped}
 use Rattle.fio_tool.specs.Transcript.{TraceLine, frame_in, line_in, trace_in, command_on, answer_on}
 use Rattle.fio_tool.specs.TranscriptFacts.{facts_at, rule_broken_by, with_line}
-use Rattle.fio_tool.specs.TranscriptRules.{IsVerdict, IsFirstBreach, KeepsRulesAbove, rule_broken}
+use Rattle.fio_tool.specs.TranscriptRules.{IsVerdict, KeepsRulesAbove}
 use Rattle.fio_tool.specs.declared.transcript.facts.Facts.{Facts}
 use Rattle.fio_tool.specs.declared.transcript.reading.TraceError.{TraceError}
 use Rattle.fio_tool.specs.declared.transcript.rules.Rule.{Rule}

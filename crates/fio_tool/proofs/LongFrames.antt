@@ -1,7 +1,7 @@
 -- Octets of more than 773 spell no message.
-use Rattle.std.proofs.Common.{◌≡◌, ℕ, suc, ◌+◌, ◌<◌, Bool, true, false, List, [], ◌∷◌, length, Option, Some, None, refl, arith}
+use Rattle.std.proofs.Common.{◌≡◌, ℕ, ◌<◌, Bool, true, false, List, [], ◌∷◌, length, Option, Some, None, refl, arith}
 use Rattle.std.specs.Prelude.{nat_le}
-use Rattle.fio_message.specs.Decoding.{message_in, command_in, answer_in}
+use Rattle.fio_message.specs.Decoding.{message_in}
 use Rattle.fio_message.specs.Commands.{command_length}
 use Rattle.fio_message.specs.Answers.{answer_length}
 use Rattle.fio_message.specs.Reading.{command_at, answer_at}

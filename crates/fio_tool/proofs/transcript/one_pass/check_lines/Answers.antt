@@ -1,10 +1,7 @@
-use Rattle.std.proofs.Common.{◌≡◌, ◌∙◌, ◌≤◌, sym, refl, ap, arith, rules, Ok, Some, length, take, map}
-use Rattle.std.specs.Result.{result_err}
+use Rattle.std.proofs.Common.{◌≡◌, ◌∙◌, ◌≤◌, sym, refl, ap, arith, rules, Ok, length, take, map}
 use Rattle.fio_world.specs.Collected.{collected}
-use Rattle.fio_world.specs.Lines.{lines_of, numbered}
 use Rattle.fio_tool.specs.Transcript.{TraceLine, line_in, trace_in}
-use Rattle.fio_tool.specs.TranscriptFacts.{facts_at}
-use Rattle.fio_tool.proofs.CheckedLines.{IsCourse, counted_frame, course_end, first_course, line_read, lines_within, next_course, read_whole, same_octets, with_first-err}
+use Rattle.fio_tool.proofs.CheckedLines.{counted_frame, course_end, first_course, line_read, lines_within, next_course, read_whole, same_octets, with_first-err}
 use Rattle.fio_tool.proofs.transcript.one_pass.check_lines.Goals as goal
 
 pub lines-init : goal.lines-init
