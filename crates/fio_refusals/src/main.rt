@@ -1,4 +1,4 @@
-//! Makes each call that can want memory once, and tells of each whether its answer was right. Where a growth
+//! Makes each call that can allocate once, and reports of each whether its answer was right. Where a growth
 //! of memory is refused to the program, the one call that meets it has to say so and to leave all as it was.
 //! `tests/refused-memory` runs it once for each growth, with that one refused.
 #![tactic(auto)]

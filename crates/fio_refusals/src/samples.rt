@@ -84,7 +84,7 @@ pub(crate) const NINE_ROUNDS: Sample = Sample {
 /// Captured frames.
 pub(crate) const FRAMES: &[u8] = b"3605\nb605018c03e700000003e8\n";
 
-/// What `show` tells of them.
+/// What `show` writes of them.
 pub(crate) const SHOWN: &[u8] = b"poll block 5\n\
     block 5 entries 1 status 00 stamp 1000\n  input 12 state 1 stamp 999 wide 999\n";
 
@@ -95,7 +95,7 @@ pub(crate) const TRANSCRIPT: &[u8] = b"> 3605\n\
     > 3606\n\
     < b6060002000003e9\n";
 
-/// What `check` tells of it.
+/// What `check` writes of it.
 pub(crate) const VERDICT: &[u8] = b"good 5 frames\n";
 
 /// Scripts whose second line is faulty, and its fault.

@@ -47,7 +47,7 @@ pub(crate) fn run_with_limits(alloc: Global, sample: &Sample) -> Result<Answer, 
     Ok(ended(&ran, &script, sample))
 }
 
-/// A run comes to the end of its sample, or tells after how many events memory was refused.
+/// A run comes to the end of its sample, or says after how many events memory was refused.
 fn ended(ran: &Result<World, RunError>, script: &Script, sample: &Sample) -> Answer {
     match ran {
         Ok(world) => Answer::right_if(counts(world) == sample.end),

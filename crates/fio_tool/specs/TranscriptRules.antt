@@ -1,6 +1,6 @@
--- The rules of a transcript. It is what the CPU's end logs on a bus that doubles nothing and brings
+-- The rules of a transcript. It is what the CPU's end logs on a bus that doubles nothing and delivers
 -- an answer before the CPU's next command or never. The module is not restarted, and has the limits
--- of 255 entries in a block and 1,024 waiting. The CPU's end meets no want of memory.
+-- of 255 entries in a block and 1,024 waiting. The CPU's end never runs out of memory.
 use Rattle.std.specs.Prelude.{◌≡◌, ℕ, suc, ◌+◌, ◌%◌, ◌<◌, Bool, false, List, [], ◌∷◌, Option, Some, None, length, find, Ok, slice_get, ◌==◌, ◌&&◌, ◌||◌, nat_lt, not, is_some, if◌then◌else◌}
 use Rattle.std.specs.List.{list_any}
 use Rattle.fio_message.specs.Answers.{answer_code}

@@ -1,4 +1,4 @@
--- What `check` tells of a text.
+-- What `check` writes of a text.
 use Rattle.std.specs.Prelude.{◌≡◌, ℕ, Bool, true, false, List, ◌++◌, codes, decimal, Result, Ok, Err, MatchBool}
 use Rattle.fio_tool.specs.Inputs.{is_too_long, too_long_text, line_fault_text}
 use Rattle.fio_tool.specs.Transcript.{TraceLine, trace_in}
@@ -39,7 +39,7 @@ TellsOf (Err (BadLine line)) text good =
     (text ≡ line_fault_text line (codes "bad line")) × (good ≡ false)
 TellsOf (Err Memory) text good = ⊥
 
--- the text that `check` writes for an input, and whether it tells of no fault
+-- the text that `check` writes for an input, and whether it reports no fault
 abbrev pub IsCheckText : List ℕ → List ℕ → Bool → Type 0
 IsCheckText input text good = MatchBool (is_too_long input)
     ((text ≡ too_long_text) × (good ≡ false)) (TellsOf (trace_in input) text good)

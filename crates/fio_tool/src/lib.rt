@@ -3,11 +3,11 @@
 //! tool.
 //!
 //! What the program relies on: each tool writes exactly the text of what it read, and nothing where
-//! a read fails or memory is wanting; the words of a command line give exactly the tool that
+//! a read fails or memory runs out; the words of a command line give exactly the tool that
 //! `clap`'s own function of them names; and an exit status of 0 or 1 after such words says that the
 //! tool has done so, and it is never 2.
 //!
-//! The definitions stand in `specs/`, in this order: what is told of an input with a fault
+//! The definitions stand in `specs/`, in this order: what is reported of an input with a fault
 //! (`Inputs`); the lines that tell of each message (`ShowCommands`, `ShowAnswers`), what `show` tells
 //! of a text (`Show`); what `simulate` tells of one (`Simulation`); the lines of a transcript and what
 //! they say (`Transcript`), its rules and the verdict on it (`TranscriptRules`), what is kept while it

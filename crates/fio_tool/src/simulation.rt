@@ -1,4 +1,4 @@
-//! The text that tells what a script brings.
+//! The text of a script's run.
 ghost use Rattle.std.specs.Prelude.{◌≡◌, ◌≢◌, Err, IfOk, OnOk, string_bytes, false};
 ghost use Rattle.fio_tool.specs.Simulation.{IsSimulateText, TellsOfScript};
 ghost use Rattle.fio_world.specs.declared.script.ScriptError.TheVariants as errors;
@@ -31,7 +31,7 @@ pub fn simulate_text(alloc: Global, input: &[u8]) -> Result<Report, Memory>
     }
 }
 
-/// The text that tells of a script's first faulty line.
+/// The text for a script's first faulty line.
 fn refused_script(alloc: Global, fault: ScriptError) -> Result<Report, Memory>
     requires { fault ≢ errors.Memory }
     ensures { IfOk result (λ report. TellsOfScript (Err fault) report.text.items report.good) }

@@ -18,7 +18,7 @@ use std::io::{Read, Write};
 pub enum Tool {
     /// To tell what each frame of the input says.
     Show,
-    /// To run a script, and to tell what each of its events brings.
+    /// To run a script, and to report the outcome of each of its events.
     Simulate,
     /// To tell whether a transcript keeps the rules.
     Check,

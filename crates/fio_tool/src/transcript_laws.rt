@@ -17,7 +17,7 @@ pub fn verdicts_are_one()
     ensures { (lines : List TraceLine) → HasOneVerdict lines }
 {}
 
-/// The text that tells whether an input's transcript keeps the rules is one, and so is its ending.
+/// The text that says whether an input's transcript keeps the rules is one, and so is its ending.
 #[tactic(auto, using(crate::proofs::TranscriptLemmas::one_check_text))]
 pub fn check_texts_are_one()
     ensures { (input : List ℕ) → HasOneCheckText input }

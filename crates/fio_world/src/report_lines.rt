@@ -73,7 +73,7 @@ fn push_taken(
 /// Why the event with this number did not happen, where that is a refusal.
 ///
 /// # Errors
-/// `Memory` where the event wanted memory, or the text could not grow.
+/// `Memory` where the event ran out of memory, or the text could not grow.
 pub(crate) fn push_refusal(
     text: &mut Vec<u8>,
     number: usize,

@@ -132,7 +132,7 @@ impl World {
     ///
     /// # Errors
     /// The first that applies: `NotSent` for a delivery of a frame that was not sent, `OutOfOrder`
-    /// for one of a frame before that delivered last, `PollIsOurs` for a poll handed in to be sent,
+    /// for one of a frame before that delivered last, `PollIsOurs` for a poll given to be sent,
     /// and `Memory` where there is none. `Scan`, `LineSync`, `Raise`, `Restart` and a delivery to
     /// the CPU that adds nothing to the record take no memory. A delivery to the module asks for
     /// the place of its answer before the module receives the frame.

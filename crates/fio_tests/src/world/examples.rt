@@ -76,7 +76,7 @@ pub(super) fn both_with_limits(
     Ok(ran)
 }
 
-/// Each event is done and brings what its row says.
+/// Each event is done and has the outcome of its row.
 fn one_by_one(rt: &impl Abort, mut world: World, rows: &[Row]) -> World {
     for (event, outcome) in rows {
         let brought = world.step(event).expect(rt, "an event that is done");

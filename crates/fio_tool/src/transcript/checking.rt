@@ -1,4 +1,4 @@
-//! The text that tells whether a transcript keeps the rules.
+//! The text that says whether a transcript keeps the rules.
 ghost use Rattle.std.specs.Prelude.{◌≡◌, ◌++◌, IfOk, OnOk, string_bytes};
 ghost use Rattle.fio_tool.specs.TranscriptTexts.{IsCheckText, is_good, rule_name, verdict_text};
 
@@ -13,7 +13,7 @@ use std::alloc::{AllocError, Global};
 /// Room for the longest line of a text, the one for `sequence` at line 1,048,576.
 const LONGEST_LINE: usize = 32;
 
-/// The text that tells whether the transcript in the input keeps the rules: `good N frames`, or
+/// The text that says whether the transcript in the input keeps the rules: `good N frames`, or
 /// `line N breaks RULE` with the first line that breaks one. The first line that is no frame gives
 /// the one line `line N: bad line`, also where a line breaks a rule; an input of more than 1,048,576
 /// octets gives the one line `input too long`. The report is good for `good N frames` alone.
