@@ -119,8 +119,8 @@ fn no_subcommand_line() -> &'static str
     "fio2070: no subcommand\n"
 }
 
-/// Tells why a command line gave no tool, and gives the exit status: that of the error's kind, or 3
-/// for want of memory.
+/// Reports why a command line gave no tool, and returns the exit status: that of the error's kind, or
+/// 3 where memory runs out.
 fn refuse<W: Write>(alloc: Global, error: &Error, writer: &mut W) -> u8
     ensures { (result ≡ refusal_status (kind_of error.now)) ⊎ (result ≡ 3) }
 {

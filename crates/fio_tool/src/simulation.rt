@@ -12,9 +12,8 @@ use std::alloc::{AllocError, Global};
 /// The number of the line that is a script's header.
 const HEADER: usize = 1;
 
-/// The text that tells what the script in the input brings: its report, which is good unless an event
-/// is refused. A script with a fault is not run: it gives the one line that tells of its first faulty
-/// line, and an input of more than 1,048,576 octets the one line `input too long`.
+/// The text of the run of the script in the input: its report, which is good unless an event is
+/// refused. A script with a fault is not run: it gives the one line for its first faulty line, and an input of more than 1,048,576 octets the one line `input too long`.
 ///
 /// # Errors
 /// `Memory` where there is none for the script, for its run or for the text.

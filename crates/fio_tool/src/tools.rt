@@ -98,7 +98,7 @@ pub fn show<R: Read, W: Write>(
     write_report(writer, &report)
 }
 
-/// Writes what the script that the input is brings: the text of `simulate_text`. The input is read
+/// Writes the run of the script that the input is: the text of `simulate_text`. The input is read
 /// whole, up to one octet more than it may have; its text is made whole, and then written and flushed.
 ///
 /// # Errors

@@ -16,7 +16,7 @@ pub record Telling : Type 0 where
 abbrev pub told_after : List ℕ → Telling → Telling
 told_after text telling = record { text = text ++ telling.text; good = telling.good }
 
--- an event that is refused is the last of which is told; else its line stands above what follows
+-- an event that is refused has the last line; else its line stands above what follows
 abbrev pub unless_refused : ℕ → Option Refusal → List ℕ → Telling → Telling
 unless_refused number None line telling = told_after line telling
 unless_refused number (Some reason) line telling =

@@ -95,8 +95,8 @@ TakesMemory first machine (events.ToCpu index) =
     AddsFrom (polling_of first machine) (item_numbered machine.to_cpu index)
 TakesMemory first machine other = ⊥
 
--- the fault is the machine's refusal; where the machine does not refuse, the memory that the event
--- takes was wanting
+-- the fault is the machine's refusal; where the machine does not refuse, an event that may allocate
+-- ran out of memory
 abbrev pub IsFault : Option Refusal → Type 0 → WorldError → Type 0
 IsFault None takes fault = (fault ≡ errors.Memory) × takes
 IsFault (Some refusal) takes fault = fault ≡ error_of refusal

@@ -13,9 +13,9 @@ use crate::world::{Done, World};
 use fio_message::Memory;
 use std::alloc::{AllocError, Global};
 
-/// Runs a script, and tells what each event brought: a line for each, and below the last one the
+/// Runs a script, and reports the outcome of each event: a line for each, and below the last one the
 /// module's counter, the CPU's number, how many entries wait, and the record. An event that is refused
-/// is the last of which is told, and is a fault.
+/// has the last line, and is a fault.
 ///
 /// # Errors
 /// `Memory` where there was none for the run or for the text.
