@@ -2,4 +2,4 @@ pub mod PlacesAbove
 pub mod KeptFacts
 pub mod TranscriptLemmas
 pub mod ChoosingLemmas
-pub mod BlockShown
+pub mod FramesShown
