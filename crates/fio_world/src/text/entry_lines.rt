@@ -2,7 +2,7 @@
 ghost use Rattle.std.specs.Prelude.{◌≡◌, ◌≤◌, ◌++◌, drop, OnOk};
 ghost use Rattle.fio_world.specs.ReportLines.{entry_line, scan_ending};
 
-use super::writing::{append_line, line_end, put_words};
+use super::writing::{append_line, line_end};
 use crate::put_pieces;
 use fio_message::Entry;
 use std::alloc::AllocError;
@@ -67,11 +67,10 @@ impl EntryLines {
             self.stamp = entry.stamp;
             self.wide = wide;
         }
-        let end = put_pieces!(
+        let start = put_pieces!(
             self.line, self.ending;
-            b"input " {entry.input.get()} b" state " {entry.level}
+            (margin) b"input " {entry.input.get()} b" state " {entry.level}
         );
-        let start = put_words(&mut self.line, end, margin);
         append_line(text, &self.line, start)
     }
 }
