@@ -82,3 +82,43 @@ uninstall-more:
 
 dist deb: all
 	@packaging/$@ '$(DIST)'
+
+# The library for C: `make library` makes the archive, and a shared library for languages that load one, in OUT.
+# They are installed where they were made.
+
+OUT = .
+VERSION = $(shell sed -n 's/^## \([0-9][0-9.]*\).*/\1/p' CHANGELOG.md | head -n 1)
+pkgconfig = $(root)/$(LIB)/pkgconfig
+shared = $(wildcard libfio2070.so)
+archive = crates/fio_c/out/libfio_c.a
+proved = $(shell find crates/fio_c crates/fio_message crates/fio_input crates/fio_module crates/fio_cpu \
+    -name out -prune -o -type f \( -name '*.rt' -o -name '*.antt' \) -print)
+
+.PHONY: library install-library uninstall-library
+
+library: $(OUT)/libfio2070.a $(OUT)/libfio2070.so
+
+$(archive): $(proved)
+	cd crates/fio_c && rt lib
+
+$(OUT)/libfio2070.a: $(archive)
+	cp $(archive) $@
+
+$(OUT)/libfio2070.so: $(OUT)/libfio2070.a
+	$(CC) -shared -Wl,-soname,libfio2070.so -Wl,--whole-archive $< -Wl,--no-whole-archive -o $@
+
+install: install-library
+uninstall: uninstall-library
+
+install-library: install-more
+ifneq ($(libraries),)
+	install -d '$(pkgconfig)'
+	sed -e 's|@PREFIX@|$(PREFIX)|' -e 's|@LIB@|$(LIB)|' -e 's|@VERSION@|$(VERSION)|' packaging/fio2070.pc.in \
+	    >'$(pkgconfig)/fio2070.pc'
+endif
+ifneq ($(shared),)
+	install -m 755 $(shared) '$(root)/$(LIB)'
+endif
+
+uninstall-library:
+	rm -f '$(pkgconfig)/fio2070.pc' '$(root)/$(LIB)/libfio2070.so'

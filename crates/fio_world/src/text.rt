@@ -1,7 +1,6 @@
 //! What the texts of the program share: lines and words, how they are read, and what is printed.
 
 mod entry_lines;
-mod fixed;
 mod lines;
 mod numbering;
 mod octets;
@@ -10,7 +9,6 @@ mod words;
 mod writing;
 
 pub use entry_lines::EntryLines;
-pub use fixed::{LONGEST, read_frame};
 pub use lines::{is_skipped, split_line};
 pub use numbering::{NumberedLines, numbered_lines};
 pub use octets::{is_octets, read_octets_to};

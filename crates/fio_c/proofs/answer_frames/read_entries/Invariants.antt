@@ -1,0 +1,12 @@
+use Rattle.std.proofs.Common.{◌≡◌, ◌≤◌, length, take, true}
+use Rattle.std.specs.List.{list_all}
+use Rattle.fio_c.specs.Flat.{entry_names_input, read_entries}
+use Rattle.fio_c.proofs.answer_frames.read_entries.Given as goal
+
+-- what is read are the entries that the loop has gone through
+abbrev pub invariant-loop-entry : goal.invariant-loop-entry
+invariant-loop-entry l = record {
+  few : length l.entries ≤ 255;
+  read : l.read.items ≡ read_entries (take l.entry-index l.entries);
+  named : list_all entry_names_input (take l.entry-index l.entries) ≡ true;
+}

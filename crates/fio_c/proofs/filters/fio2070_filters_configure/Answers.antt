@@ -1,0 +1,16 @@
+use Rattle.std.proofs.Common.{◌≡◌, ℕ, true, false, leb, ltb, rules, arith}
+use Rattle.std.specs.List.{list_all}
+use Rattle.std.proofs.lemmas.Bool.Decides.{nat_tests}
+use Rattle.fio_c.specs.Flat.{names_input}
+use Rattle.fio_c.proofs.Found.{all_pass-none}
+use Rattle.fio_c.proofs.filters.fio2070_filters_configure.Goals as goal
+
+-- an input that is not above 63 is one that a message can name
+below : (input : ℕ) → leb 64 input ≡ false → ltb input 128 ≡ true
+below input h = grind (arith, nat_tests)
+
+pub unreachable-requires : goal.unreachable-requires
+unreachable-requires c =
+    let all : list_all names_input c.args.items.now ≡ true =
+    all_pass-none (λ item. leb 64 item.input) names_input (λ item. below item.input) c.args.items.now (search rules) in
+    search (rules, all)

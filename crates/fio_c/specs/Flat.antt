@@ -1,0 +1,183 @@
+-- Messages and their parts as C sees them: numbers side by side, those that a message lacks 0.
+use Rattle.std.specs.Prelude.{ℕ, ◌==◌, ◌&&◌, nat_le, nat_lt, Bool, not, List, [], ◌∷◌, length, map, Option, Some, None, if◌then◌else◌}
+use Rattle.std.specs.List.{list_all, position}
+use Rattle.fio_message.specs.Bits.{bit_of}
+use Rattle.fio_message.specs.Blocks.{Block as BlockOf}
+use Rattle.fio_message.specs.Commands.{command_code}
+use Rattle.fio_message.specs.Answers.{answer_code}
+use Rattle.fio_message.specs.declared.fields.Entry.{Entry as EntryOf}
+use Rattle.fio_message.specs.declared.fields.InputItem.{InputItem}
+use Rattle.fio_message.specs.declared.commands.Command.{Command as CommandOf}
+use Rattle.fio_message.specs.declared.commands.Command.TheVariants as commands
+use Rattle.fio_message.specs.declared.commands.OtherCommand.{OtherCommand}
+use Rattle.fio_message.specs.declared.commands.OtherCommand.TheVariants as other_commands
+use Rattle.fio_message.specs.declared.answers.Answer.{Answer as AnswerOf}
+use Rattle.fio_message.specs.declared.answers.Answer.TheVariants as answers
+use Rattle.fio_message.specs.declared.answers.OtherAnswer.{OtherAnswer}
+use Rattle.fio_message.specs.declared.answers.OtherAnswer.TheVariants as other_answers
+use Rattle.fio_c.specs.declared.blocks.BlockHeader.{BlockHeader}
+use Rattle.fio_c.specs.declared.blocks.Entry.{Entry}
+use Rattle.fio_c.specs.declared.commands.ConfigurationItem.{ConfigurationItem}
+use Rattle.fio_c.specs.declared.commands.Command.{Command}
+use Rattle.fio_c.specs.declared.answers.Answer.{Answer}
+
+-- a block without its entries, but with their number
+abbrev pub flat_header : BlockOf → BlockHeader
+flat_header block = record {
+  number = block.number;
+  status = block.status;
+  count = length block.entries;
+  stamp = block.stamp;
+}
+
+abbrev pub flat_entry : EntryOf → Entry
+flat_entry entry = record {
+  input = entry.input;
+  state = bit_of entry.level;
+  stamp = entry.stamp;
+}
+
+abbrev pub flat_item : InputItem → ConfigurationItem
+flat_item item = record {
+  input = item.input;
+  ignore = bit_of item.ignore;
+  leading = item.leading;
+  trailing = item.trailing;
+}
+
+-- eight octets of 0
+abbrev pub no_octets : List ℕ
+no_octets = 0 ∷ 0 ∷ 0 ∷ 0 ∷ 0 ∷ 0 ∷ 0 ∷ 0 ∷ []
+
+-- a command of which its type alone is known
+abbrev pub command_of_type : ℕ → Command
+command_of_type code = record {
+  code = code;
+  clear = 0;
+  block = 0;
+  timeout = 0;
+  count = 0;
+  body = 0;
+  load = 0;
+  levels = no_octets;
+  controls = no_octets;
+}
+
+-- the fields of a command, put into the flat form of its type
+abbrev pub with_command_fields : Command → CommandOf → Command
+with_command_fields flat (commands.Status clear) = record flat { clear = clear }
+with_command_fields flat (commands.LoadCounter load) = record flat { load = load }
+with_command_fields flat (commands.ConfigureInputs items) = record flat { count = length items.items }
+with_command_fields flat commands.RawInputs = flat
+with_command_fields flat commands.FilteredInputs = flat
+with_command_fields flat (commands.Poll block) = record flat { block = block }
+with_command_fields flat (commands.SetOutputs levels controls) =
+    record flat { levels = levels; controls = controls }
+with_command_fields flat (commands.Watchdog timeout) = record flat { timeout = timeout }
+with_command_fields flat commands.Identify = flat
+with_command_fields flat (commands.Other kind body) = record flat { body = length body.items }
+
+abbrev pub flat_command : CommandOf → Command
+flat_command command = with_command_fields (command_of_type (command_code command)) command
+
+-- the items of a configuration; any other command has none
+abbrev pub items_of : Option CommandOf → List InputItem
+items_of (Some (commands.ConfigureInputs items)) = items.items
+items_of other = []
+
+-- an item of a configuration that C gives: any ignore flag but 0 says that the input is ignored
+abbrev pub read_item : ConfigurationItem → InputItem
+read_item item = record {
+  input = item.input;
+  ignore = not (item.ignore == 0);
+  leading = item.leading;
+  trailing = item.trailing;
+}
+
+abbrev pub read_items : List ConfigurationItem → List InputItem
+read_items items = map read_item items
+
+-- an item names an input that a message can name
+abbrev pub names_input : ConfigurationItem → Bool
+names_input item = nat_lt item.input 128
+
+-- the items of a configuration: at most 255, each of them of an input below 128
+abbrev pub are_items : List ConfigurationItem → Bool
+are_items items = nat_le (length items) 255 && list_all names_input items
+
+-- the place of the first item that names an input above 63, which the module does not have
+abbrev pub first_absent : List ConfigurationItem → Option ℕ
+first_absent items = position (λ item. nat_le 64 item.input) items
+
+-- which command of this type has a body only
+abbrev pub kind_of_command : ℕ → Option OtherCommand
+kind_of_command code =
+    if code == 56 then Some other_commands.TrackInputs
+    else (if code == 57 then Some other_commands.ComplexOutputs
+    else (if code == 59 then Some other_commands.ControllerId else None))
+
+-- an answer of which its type alone is known
+abbrev pub answer_of_type : ℕ → Answer
+answer_of_type code = record {
+  code = code;
+  flags = 0;
+  receive_errors = 0;
+  transmit_errors = 0;
+  status = 0;
+  block = 0;
+  count = 0;
+  body = 0;
+  stamp = 0;
+  inputs = 0;
+}
+
+-- the fields of an answer, put into the flat form of its type
+abbrev pub with_answer_fields : Answer → AnswerOf → Answer
+with_answer_fields flat (answers.Status flags receive_errors transmit_errors stamp) =
+    record flat {
+      flags = flags;
+      receive_errors = receive_errors;
+      transmit_errors = transmit_errors;
+      stamp = stamp;
+    }
+with_answer_fields flat (answers.LoadCounter status) = record flat { status = status }
+with_answer_fields flat (answers.ConfigureInputs status) = record flat { status = status }
+with_answer_fields flat (answers.RawInputs inputs stamp) =
+    record flat { inputs = inputs; stamp = stamp }
+with_answer_fields flat (answers.FilteredInputs inputs stamp) =
+    record flat { inputs = inputs; stamp = stamp }
+with_answer_fields flat (answers.Block block entries status stamp) =
+    record flat { block = block; count = length entries.items; status = status; stamp = stamp }
+with_answer_fields flat (answers.Watchdog status) = record flat { status = status }
+with_answer_fields flat (answers.Other kind body) = record flat { body = length body.items }
+
+abbrev pub flat_answer : AnswerOf → Answer
+flat_answer answer = with_answer_fields (answer_of_type (answer_code answer)) answer
+
+-- an entry of a block that C gives: any state but 0 is 1
+abbrev pub read_entry : Entry → EntryOf
+read_entry entry = record {
+  input = entry.input;
+  level = not (entry.state == 0);
+  stamp = entry.stamp;
+}
+
+abbrev pub read_entries : List Entry → List EntryOf
+read_entries entries = map read_entry entries
+
+-- an entry names an input that a message can name
+abbrev pub entry_names_input : Entry → Bool
+entry_names_input entry = nat_lt entry.input 128
+
+-- the entries of a block: at most 255, each of them of an input below 128
+abbrev pub are_entries : List Entry → Bool
+are_entries entries = nat_le (length entries) 255 && list_all entry_names_input entries
+
+-- which answer of this type has a body only
+abbrev pub kind_of_answer : ℕ → Option OtherAnswer
+kind_of_answer code =
+    if code == 183 then Some other_answers.SetOutputs
+    else (if code == 184 then Some other_answers.TrackInputs
+    else (if code == 185 then Some other_answers.ComplexOutputs
+    else (if code == 187 then Some other_answers.ControllerId
+    else (if code == 188 then Some other_answers.Identify else None))))

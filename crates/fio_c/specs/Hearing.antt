@@ -1,0 +1,67 @@
+-- What the poller of a caller in C makes of octets.
+use Rattle.std.specs.Prelude.{◌≡◌, ℕ, ◌<◌, ◌≤◌, List, [], ◌++◌, length, map, drop, Option}
+use Rattle.fio_message.specs.Bits.{bit_of}
+use Rattle.fio_message.specs.Blocks.{Block}
+use Rattle.fio_message.specs.Decoding.{decoded_answer, block_in}
+use Rattle.fio_cpu.specs.declared.hearing.Heard.{Heard as HeardOf}
+use Rattle.fio_cpu.specs.declared.hearing.Heard.TheVariants as outcomes
+use Rattle.fio_cpu.specs.declared.items.Item.{Item}
+use Rattle.fio_cpu.specs.declared.items.Item.TheVariants as items
+use Rattle.fio_cpu.specs.Hearing.{heard_as, after_hearing}
+use Rattle.fio_c.specs.Faults.{no_fault, fault_of}
+use Rattle.fio_c.specs.declared.poller.Heard.{Heard}
+use Rattle.fio_c.specs.declared.poller.RecordItem.{RecordItem}
+
+-- an item of the record as C sees it
+abbrev pub flat_record_item : Item → RecordItem
+flat_record_item items.Gap = record { gap = 1; input = 0; state = 0; stamp = 0; wide = 0 }
+flat_record_item (items.Entry input level stamp wide) =
+    record { gap = 0; input = input; state = bit_of level; stamp = stamp; wide = wide }
+
+-- nothing was heard of octets but that they add so many items
+abbrev pub heard_nothing : ℕ → Heard
+heard_nothing count = record {
+  kind = 0;
+  code = 0;
+  number = 0;
+  status = 0;
+  entries = 0;
+  items = count;
+  fault = no_fault;
+}
+
+-- what was heard of octets that add so many items to the record, as C sees it
+abbrev pub flat_heard : ℕ → HeardOf → Heard
+flat_heard count (outcomes.Block entries status) =
+    record (heard_nothing count) { kind = 0; entries = entries; status = status }
+flat_heard count (outcomes.Unreadable error) =
+    record (heard_nothing count) { kind = 1; fault = fault_of error }
+flat_heard count (outcomes.Other code) = record (heard_nothing count) { kind = 2; code = code }
+flat_heard count (outcomes.Stale block) = record (heard_nothing count) { kind = 3; number = block }
+
+-- there is no room for so many items
+abbrev pub heard_no_room : ℕ → Heard
+heard_no_room count = record (heard_nothing count) { kind = 4 }
+
+-- A poller with this number, which finds a block in octets or none, and hears this: what it adds to
+-- its record is written to the front of the caller's items, and its number is the next if a block
+-- was taken. Where there is no room for all of what it adds, that is heard, and nothing changes.
+pub record HearsFound (number : ℕ) (found : Option Block) (heard_of : HeardOf)
+    (before after : List RecordItem) (next : ℕ) (heard : Heard) : Type 0 where
+  pub room :
+      let polling = after_hearing (record { number = number; items = [] }) found in
+      let count = length polling.items in
+      count ≤ length before →
+      (heard ≡ flat_heard count heard_of)
+      × (next ≡ polling.number)
+      × (after ≡ map flat_record_item polling.items ++ drop count before)
+  pub no_room :
+      let count = length (after_hearing (record { number = number; items = [] }) found).items in
+      length before < count →
+      (heard ≡ heard_no_room count) × (next ≡ number) × (after ≡ before)
+
+-- the same of the octets that it hears
+abbrev pub Hears : ℕ → List ℕ → List RecordItem → List RecordItem → ℕ → Heard → Type 0
+Hears number octets before after next heard =
+    HearsFound number (block_in octets) (heard_as number (decoded_answer octets))
+    before after next heard

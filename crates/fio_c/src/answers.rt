@@ -1,0 +1,117 @@
+//! Answers, read into a struct of the caller.
+ghost use Rattle.std.specs.Prelude.{◌≡◌};
+ghost use Rattle.fio_message.specs.Decoding.{decoded_answer};
+ghost use Rattle.fio_c.specs.Faults.{Reads};
+ghost use Rattle.fio_c.specs.Flat.{answer_of_type, flat_answer};
+
+use crate::faults::{Fault, NO_FAULT, fault_from};
+use fio_message::decode_answer;
+
+/// An answer of the module: the fields of its type, the others 0.
+#[derive(Clone, Copy)]
+#[repr(C)]
+pub struct Answer {
+    /// The type: 177 to 188 (TEES 2009).
+    pub code: u8,
+    /// Type 177: the flags that are left.
+    pub flags: u8,
+    /// Type 177: how many errors in receiving were counted.
+    pub receive_errors: u8,
+    /// Type 177: how many errors in transmitting were counted.
+    pub transmit_errors: u8,
+    /// Types 178, 179, 182 and 186: the status.
+    pub status: u8,
+    /// Type 182: the block number.
+    pub block: u8,
+    /// Type 182: how many entries there are. `fio2070_block_entries` copies them.
+    pub count: u8,
+    /// Types 183, 184, 185, 187 and 188: how many octets follow the type. They are not read
+    /// further.
+    pub body: u16,
+    /// Types 177, 180, 181 and 182: the millisecond counter.
+    pub stamp: u32,
+    /// Types 180 and 181: bit i is input i.
+    pub inputs: u64,
+}
+
+/// An answer of this type with all its fields 0.
+const fn answer_of_type(code: u8) -> Answer
+    ensures { result ≡ answer_of_type code }
+{
+    Answer {
+        code,
+        flags: 0,
+        receive_errors: 0,
+        transmit_errors: 0,
+        status: 0,
+        block: 0,
+        count: 0,
+        body: 0,
+        stamp: 0,
+        inputs: 0,
+    }
+}
+
+/// An answer in its flat form.
+fn flat_answer(answer: &fio_message::Answer) -> Answer
+    ensures { result ≡ flat_answer answer.now }
+{
+    let flat = answer_of_type(answer.code());
+    match answer {
+        fio_message::Answer::Status {
+            flags,
+            receive_errors,
+            transmit_errors,
+            stamp,
+        } => Answer {
+            flags: *flags,
+            receive_errors: *receive_errors,
+            transmit_errors: *transmit_errors,
+            stamp: *stamp,
+            ..flat
+        },
+        fio_message::Answer::LoadCounter { status }
+        | fio_message::Answer::ConfigureInputs { status }
+        | fio_message::Answer::Watchdog { status } => Answer {
+            status: *status,
+            ..flat
+        },
+        fio_message::Answer::RawInputs { inputs, stamp }
+        | fio_message::Answer::FilteredInputs { inputs, stamp } => Answer {
+            inputs: *inputs,
+            stamp: *stamp,
+            ..flat
+        },
+        fio_message::Answer::Block {
+            block,
+            entries,
+            status,
+            stamp,
+        } => Answer {
+            block: *block,
+            count: entries.len() as u8,
+            status: *status,
+            stamp: *stamp,
+            ..flat
+        },
+        fio_message::Answer::Other { body, .. } => Answer {
+            body: body.len() as u16,
+            ..flat
+        },
+    }
+}
+
+/// Reads any answer. The entries of a block and the octets of a body stay where they are. A fault
+/// leaves `answer` as it was.
+#[unsafe(no_mangle)]
+pub extern "C" fn fio2070_decode_answer(octets: &[u8], answer: &mut Answer) -> Fault
+    ensures { Reads flat_answer (decoded_answer octets.now) answer.old answer.new result }
+{
+    match decode_answer(octets) {
+        Ok(message) => {
+            *answer = flat_answer(&message);
+            NO_FAULT
+        }
+        Err(error) => fault_from(error),
+    }
+}

@@ -1,0 +1,109 @@
+//! Block answers, read in place.
+ghost use Rattle.std.specs.Prelude.{◌≡◌, ◌≤◌, ◌++◌, length, map, drop};
+ghost use Rattle.fio_message.specs.Answers.{block_length};
+ghost use Rattle.fio_message.specs.Blocks.{Block, SpellsBlock};
+ghost use Rattle.fio_message.specs.Refusals.{Refuses};
+ghost use Rattle.fio_message.specs.declared.faults.DecodeError.{DecodeError};
+ghost use Rattle.fio_c.specs.Faults.{ReadsBlock};
+ghost use Rattle.fio_c.specs.Flat.{flat_header, flat_entry};
+ghost use Rattle.fio_c.specs.Written.{Copies};
+
+use crate::faults::{Fault, NO_FAULT, fault_from};
+use fio_message::{BlockView, read_block};
+
+/// A block answer (TEES 2009, answer 182) without its entries.
+#[derive(Clone, Copy)]
+#[repr(C)]
+pub struct BlockHeader {
+    /// The block number.
+    pub number: u8,
+    /// The status, with C, F, E and G in bits 3 to 0 (places own profile).
+    pub status: u8,
+    /// How many entries the block has.
+    pub count: u8,
+    /// The module's millisecond counter when the block was made.
+    pub stamp: u32,
+}
+
+/// A transition, as a block carries it (TEES 2009).
+#[derive(Clone, Copy)]
+#[repr(C)]
+pub struct Entry {
+    /// The input that changed, from 0 to 127.
+    pub input: u8,
+    /// The filtered state after the transition, 0 or 1.
+    pub state: u8,
+    /// The low 16 bits of the module's millisecond counter at the transition.
+    pub stamp: u16,
+}
+
+/// The view of a block without its entries.
+fn header_of(view: &BlockView) -> BlockHeader
+    ensures { result ≡ flat_header view.now }
+{
+    BlockHeader {
+        number: view.block(),
+        status: view.status(),
+        count: view.len() as u8,
+        stamp: view.stamp(),
+    }
+}
+
+/// An entry in its flat form.
+fn entry_of(entry: fio_message::Entry) -> Entry
+    ensures { result ≡ flat_entry entry }
+{
+    Entry {
+        input: entry.input.get(),
+        state: u8::from(entry.level),
+        stamp: entry.stamp,
+    }
+}
+
+/// Reads a block answer without its entries. A fault leaves `header` as it was.
+#[unsafe(no_mangle)]
+pub extern "C" fn fio2070_read_block(octets: &[u8], header: &mut BlockHeader) -> Fault
+    ensures { ReadsBlock flat_header octets.now header.old header.new result }
+{
+    match read_block(octets) {
+        Ok(view) => {
+            *header = header_of(&view);
+            NO_FAULT
+        }
+        Err(error) => fault_from(error),
+    }
+}
+
+/// Copies the entries of a block answer where there is room for all of them, and returns how many
+/// it has: 0 where the octets are no block answer.
+#[unsafe(no_mangle)]
+pub extern "C" fn fio2070_block_entries(octets: &[u8], entries: &mut [Entry]) -> usize
+    ensures block { (block : Block) → SpellsBlock block octets.now
+        → Copies (map flat_entry block.entries) entries.old entries.new result }
+    ensures refused { (error : DecodeError) → Refuses (block_length octets.now) octets.now error
+        → (result ≡ 0) × (entries.new ≡ entries.old) }
+{
+    match read_block(octets) {
+        Ok(view) => {
+            let count = view.len();
+            if count <= entries.len() {
+                copy_entries(&view, entries);
+            }
+            count
+        }
+        Err(_) => 0,
+    }
+}
+
+/// Copies the entries of a block, for which there is room.
+fn copy_entries(view: &BlockView, entries: &mut [Entry])
+    requires { length view.now.entries ≤ length entries.old }
+    ensures { entries.new
+        ≡ map flat_entry view.now.entries ++ drop (length view.now.entries) entries.old }
+{
+    let mut place = 0;
+    for entry in view.entries() {
+        entries[place] = entry_of(entry);
+        place += 1;
+    }
+}

@@ -1,0 +1,170 @@
+//! Commands, written into a buffer of the caller.
+ghost use Rattle.std.specs.Prelude.{◌≡◌, ◌<◌, ◌≤◌, length, Some, None, true, false, if◌then◌else◌};
+ghost use Rattle.fio_message.specs.Commands.{command_octets};
+ghost use Rattle.fio_message.specs.declared.commands.OtherCommand.{OtherCommand as Kind};
+ghost use Rattle.fio_message.specs.declared.commands.Command.TheVariants as commands;
+ghost use Rattle.fio_c.specs.Flat.{are_items, read_items, kind_of_command};
+ghost use Rattle.fio_c.specs.Written.{Writes, WritesNothing};
+
+use crate::commands::ConfigurationItem;
+use crate::written::write_front;
+use arrayvec::ArrayVec;
+use fio_message::{Body, Command, InputItem, InputNumber, OtherCommand, encode_command};
+
+/// Writes a command, and returns how many octets it has: 0 where there is no room.
+fn write_command(command: &Command, out: &mut [u8]) -> usize
+    ensures { Writes (command_octets command.now) out.old out.new result }
+{
+    write_front(encode_command(command).as_slice(), out)
+}
+
+/// Writes the request for the module's status (TEES 2009, command 49), which clears the flags whose
+/// bits are one. Returns how many octets it has: 0 where there is no room.
+#[unsafe(no_mangle)]
+pub extern "C" fn fio2070_encode_status(clear: u8, out: &mut [u8]) -> usize
+    ensures { Writes (command_octets (commands.Status clear)) out.old out.new result }
+{
+    write_command(&Command::Status { clear }, out)
+}
+
+/// Writes the command that loads the millisecond counter at the next line sync (TEES 2009, command
+/// 50). Returns how many octets it has: 0 where there is no room.
+#[unsafe(no_mangle)]
+pub extern "C" fn fio2070_encode_load_counter(load: u32, out: &mut [u8]) -> usize
+    ensures { Writes (command_octets (commands.LoadCounter load)) out.old out.new result }
+{
+    write_command(&Command::LoadCounter { load }, out)
+}
+
+/// Writes the configuration of inputs (TEES 2009, command 51). Returns how many octets it has: 0
+/// where there is no room, where there are more than 255 items, and where one names an input above
+/// 127.
+#[unsafe(no_mangle)]
+pub extern "C" fn fio2070_encode_configure_inputs(
+    items: &[ConfigurationItem],
+    out: &mut [u8],
+) -> usize
+    ensures written { are_items items.now ≡ true
+        → Writes (command_octets (commands.ConfigureInputs (record { items = read_items items.now })))
+        out.old out.new result }
+    ensures refused { are_items items.now ≡ false → WritesNothing out.old out.new result }
+{
+    match read_items(items) {
+        Some(items) => write_command(&Command::ConfigureInputs { items }, out),
+        None => 0,
+    }
+}
+
+/// The items of a configuration, `None` where there are too many or one names an input above 127.
+pub(crate) fn read_items(items: &[ConfigurationItem]) -> Option<ArrayVec<InputItem, 255>>
+    ensures { result
+        ≡ (if are_items items.now then Some (record { items = read_items items.now }) else None) }
+{
+    if items.len() > 255 {
+        return None;
+    }
+    let mut read = ArrayVec::new();
+    for item in items {
+        read.push(InputItem {
+            input: InputNumber::new(item.input)?,
+            ignore: item.ignore != 0,
+            leading: item.leading,
+            trailing: item.trailing,
+        });
+    }
+    Some(read)
+}
+
+/// Writes the request for the levels at the last scan (TEES 2009, command 52). Returns how many
+/// octets it has: 0 where there is no room.
+#[unsafe(no_mangle)]
+pub extern "C" fn fio2070_encode_raw_inputs(out: &mut [u8]) -> usize
+    ensures { Writes (command_octets commands.RawInputs) out.old out.new result }
+{
+    write_command(&Command::RawInputs, out)
+}
+
+/// Writes the request for the filtered states (TEES 2009, command 53). Returns how many octets it
+/// has: 0 where there is no room.
+#[unsafe(no_mangle)]
+pub extern "C" fn fio2070_encode_filtered_inputs(out: &mut [u8]) -> usize
+    ensures { Writes (command_octets commands.FilteredInputs) out.old out.new result }
+{
+    write_command(&Command::FilteredInputs, out)
+}
+
+/// Writes a poll for the block with this number (TEES 2009, command 54). Returns how many octets it
+/// has: 0 where there is no room.
+#[unsafe(no_mangle)]
+pub extern "C" fn fio2070_encode_poll(block: u8, out: &mut [u8]) -> usize
+    ensures { Writes (command_octets (commands.Poll block)) out.old out.new result }
+{
+    write_command(&Command::Poll { block }, out)
+}
+
+/// Writes the command that sets the outputs (TEES 2009, command 55; eight octets for each half are
+/// own profile). Returns how many octets it has: 0 where there is no room.
+#[unsafe(no_mangle)]
+pub extern "C" fn fio2070_encode_set_outputs(
+    levels: &[u8; 8],
+    controls: &[u8; 8],
+    out: &mut [u8],
+) -> usize
+    ensures { Writes (command_octets (commands.SetOutputs levels.now controls.now))
+        out.old out.new result }
+{
+    let command = Command::SetOutputs {
+        levels: *levels,
+        controls: *controls,
+    };
+    write_command(&command, out)
+}
+
+/// Writes the command that sets the watchdog (TEES 2009, command 58), with the timeout in
+/// milliseconds. Returns how many octets it has: 0 where there is no room.
+#[unsafe(no_mangle)]
+pub extern "C" fn fio2070_encode_watchdog(timeout: u8, out: &mut [u8]) -> usize
+    ensures { Writes (command_octets (commands.Watchdog timeout)) out.old out.new result }
+{
+    write_command(&Command::Watchdog { timeout }, out)
+}
+
+/// Writes the question which module it is (TEES 2009, command 60). Returns how many octets it has:
+/// 0 where there is no room.
+#[unsafe(no_mangle)]
+pub extern "C" fn fio2070_encode_identify(out: &mut [u8]) -> usize
+    ensures { Writes (command_octets commands.Identify) out.old out.new result }
+{
+    write_command(&Command::Identify, out)
+}
+
+/// Writes a command of type 56, 57 or 59 with the octets after its type (TEES 2009). Returns how
+/// many octets it has: 0 where there is no room, for any other type, and for more than 772 octets.
+#[unsafe(no_mangle)]
+pub extern "C" fn fio2070_encode_other_command(code: u8, body: &[u8], out: &mut [u8]) -> usize
+    ensures written { (kind : Kind) → kind_of_command code ≡ Some kind → length body.now ≤ 772
+        → Writes (command_octets (commands.Other kind (record { items = body.now })))
+        out.old out.new result }
+    ensures unknown { kind_of_command code ≡ None → WritesNothing out.old out.new result }
+    ensures long { 772 < length body.now → WritesNothing out.old out.new result }
+{
+    let Some(kind) = kind_of(code) else {
+        return 0;
+    };
+    match Body::try_from(body) {
+        Ok(body) => write_command(&Command::Other { kind, body }, out),
+        Err(_) => 0,
+    }
+}
+
+/// Which command of this type has a body only.
+fn kind_of(code: u8) -> Option<OtherCommand>
+    ensures { result ≡ kind_of_command code }
+{
+    match code {
+        56 => Some(OtherCommand::TrackInputs),
+        57 => Some(OtherCommand::ComplexOutputs),
+        59 => Some(OtherCommand::ControllerId),
+        _ => None,
+    }
+}

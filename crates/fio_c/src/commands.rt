@@ -1,0 +1,161 @@
+//! Commands, read into structs of the caller.
+ghost use Rattle.std.specs.Prelude.{◌≡◌, ◌≤◌, ◌++◌, length, map, drop};
+ghost use Rattle.fio_message.specs.Decoding.{command_in, decoded_command};
+ghost use Rattle.fio_c.specs.Faults.{Reads};
+ghost use Rattle.fio_c.specs.Flat.{command_of_type, flat_command, flat_item, items_of};
+ghost use Rattle.fio_c.specs.Written.{Copies};
+
+use crate::faults::{Fault, NO_FAULT, fault_from};
+use fio_message::{InputItem, decode_command};
+
+/// A command of the CPU: the fields of its type, the others 0.
+#[derive(Clone, Copy)]
+#[repr(C)]
+pub struct Command {
+    /// The type: 49 to 60 (TEES 2009).
+    pub code: u8,
+    /// Type 49: the flags to clear.
+    pub clear: u8,
+    /// Type 54: the block number.
+    pub block: u8,
+    /// Type 58: the timeout in milliseconds, as it is sent.
+    pub timeout: u8,
+    /// Type 51: how many items there are. `fio2070_command_items` copies them.
+    pub count: u8,
+    /// Types 56, 57 and 59: how many octets follow the type. They are not read further.
+    pub body: u16,
+    /// Type 50: the number to load.
+    pub load: u32,
+    /// Type 55: the data octets.
+    pub levels: [u8; 8],
+    /// Type 55: the control octets.
+    pub controls: [u8; 8],
+}
+
+/// How one input is to be read: an item of a configuration (TEES 2009).
+#[derive(Clone, Copy)]
+#[repr(C)]
+pub struct ConfigurationItem {
+    /// The input, from 0 to 127. The module has the inputs 0 to 63.
+    pub input: u8,
+    /// 1 where the input's transitions are left out of the blocks, else 0. Calls that are given an
+    /// item take any number but 0 as 1.
+    pub ignore: u8,
+    /// The leading filter, in samples; 0 acts as 1.
+    pub leading: u8,
+    /// The trailing filter, in samples; 0 acts as 1.
+    pub trailing: u8,
+}
+
+/// A command of this type with all its fields 0.
+const fn command_of_type(code: u8) -> Command
+    ensures { result ≡ command_of_type code }
+{
+    Command {
+        code,
+        clear: 0,
+        block: 0,
+        timeout: 0,
+        count: 0,
+        body: 0,
+        load: 0,
+        levels: [0; 8],
+        controls: [0; 8],
+    }
+}
+
+/// A command in its flat form.
+fn flat_command(command: &fio_message::Command) -> Command
+    ensures { result ≡ flat_command command.now }
+{
+    let flat = command_of_type(command.code());
+    match command {
+        fio_message::Command::Status { clear } => Command {
+            clear: *clear,
+            ..flat
+        },
+        fio_message::Command::LoadCounter { load } => Command {
+            load: *load,
+            ..flat
+        },
+        fio_message::Command::ConfigureInputs { items } => Command {
+            count: items.len() as u8,
+            ..flat
+        },
+        fio_message::Command::RawInputs
+        | fio_message::Command::FilteredInputs
+        | fio_message::Command::Identify => flat,
+        fio_message::Command::Poll { block } => Command {
+            block: *block,
+            ..flat
+        },
+        fio_message::Command::SetOutputs { levels, controls } => Command {
+            levels: *levels,
+            controls: *controls,
+            ..flat
+        },
+        fio_message::Command::Watchdog { timeout } => Command {
+            timeout: *timeout,
+            ..flat
+        },
+        fio_message::Command::Other { body, .. } => Command {
+            body: body.len() as u16,
+            ..flat
+        },
+    }
+}
+
+/// Reads any command. The items of a configuration and the octets of a body stay where they are. A
+/// fault leaves `command` as it was.
+#[unsafe(no_mangle)]
+pub extern "C" fn fio2070_decode_command(octets: &[u8], command: &mut Command) -> Fault
+    ensures { Reads flat_command (decoded_command octets.now) command.old command.new result }
+{
+    match decode_command(octets) {
+        Ok(message) => {
+            *command = flat_command(&message);
+            NO_FAULT
+        }
+        Err(error) => fault_from(error),
+    }
+}
+
+/// Copies the items of a configuration (TEES 2009, command 51) where there is room for all of them,
+/// and returns how many it has: 0 where the octets are no configuration.
+#[unsafe(no_mangle)]
+pub extern "C" fn fio2070_command_items(octets: &[u8], items: &mut [ConfigurationItem]) -> usize
+    ensures { Copies (map flat_item (items_of (command_in octets.now))) items.old items.new result }
+{
+    match decode_command(octets) {
+        Ok(fio_message::Command::ConfigureInputs { items: read }) => {
+            copy_items(read.as_slice(), items)
+        }
+        _ => 0,
+    }
+}
+
+/// Copies these items where there is room for all of them, and returns how many they are.
+fn copy_items(read: &[InputItem], items: &mut [ConfigurationItem]) -> usize
+    ensures { Copies (map flat_item read.now) items.old items.new result }
+{
+    if read.len() <= items.len() {
+        let mut place = 0;
+        for item in read {
+            items[place] = item_of(*item);
+            place += 1;
+        }
+    }
+    read.len()
+}
+
+/// An item in its flat form.
+fn item_of(item: InputItem) -> ConfigurationItem
+    ensures { result ≡ flat_item item }
+{
+    ConfigurationItem {
+        input: item.input.get(),
+        ignore: u8::from(item.ignore),
+        leading: item.leading,
+        trailing: item.trailing,
+    }
+}

@@ -1,0 +1,98 @@
+//! The filters of the 64 inputs in memory of the caller.
+ghost use Rattle.std.specs.Prelude.{◌≡◌, ◌<◌, ◌≤◌, ℕ, List, [], ◌∷◌, Some, None, length};
+ghost use Rattle.fio_message.specs.Bits.{is_set};
+ghost use Rattle.fio_input.specs.FilterHistory.{FilterEvent, Configure, Scan, is_reported, state, raw_levels};
+ghost use Rattle.fio_input.specs.Filters.{StandsFor};
+ghost use Rattle.fio_c.specs.Flat.{read_items, first_absent};
+
+use crate::command_frames::read_items;
+use crate::commands::ConfigurationItem;
+use fio_input::Filters;
+
+/// Filters before any scan: each input is ignored, both its filters are 5, and its raw level and
+/// filtered state are 1 (own profile).
+#[unsafe(no_mangle)]
+pub extern "C" fn fio2070_filters_start(filters: &mut Filters)
+    ensures { StandsFor filters.new [] }
+{
+    *filters = Filters::new();
+}
+
+/// Takes a sample of each input: bit i of `raw` is the level of input i. The result has a one for
+/// each input that is not ignored and whose filtered state changed.
+#[unsafe(no_mangle)]
+pub extern "C" fn fio2070_filters_scan(filters: &mut Filters, raw: u64) -> u64
+    ensures carried { (history : List FilterEvent) → StandsFor filters.old history
+        → StandsFor filters.new (Scan raw ∷ history) }
+    ensures reported { (history : List FilterEvent) → StandsFor filters.old history
+        → (input : ℕ) → input < 64 → is_set result input ≡ is_reported input raw history }
+{
+    filters.scan(raw)
+}
+
+/// The filtered state of each input: bit i is input i.
+#[unsafe(no_mangle)]
+pub extern "C" fn fio2070_filters_filtered(filters: &Filters) -> u64
+    ensures { (history : List FilterEvent) → StandsFor filters.now history
+        → (input : ℕ) → input < 64 → is_set result input ≡ state input history }
+{
+    filters.filtered()
+}
+
+/// The raw levels of the last scan, all ones before any (own profile): bit i is input i.
+#[unsafe(no_mangle)]
+pub extern "C" fn fio2070_filters_raw(filters: &Filters) -> u64
+    ensures { (history : List FilterEvent) → StandsFor filters.now history
+        → result ≡ raw_levels history }
+{
+    filters.raw()
+}
+
+/// What became of a configuration.
+#[derive(Clone, Copy)]
+#[repr(C)]
+pub struct Configured {
+    /// 0 applied; 1 an item names an input above 63; 2 more than 255 items.
+    pub kind: u8,
+    /// The place of the first item that names an input above 63, counted from 0, for kind 1.
+    pub place: usize,
+}
+
+/// Applies the items in their order, or none if one names an input above 63 or there are more than
+/// 255 (own profile). An applied item starts its input's samples anew from its present filtered
+/// state. Where none is applied nothing changes.
+#[unsafe(no_mangle)]
+pub extern "C" fn fio2070_filters_configure(
+    filters: &mut Filters,
+    items: &[ConfigurationItem],
+) -> Configured
+    ensures applied { length items.now ≤ 255 → first_absent items.now ≡ None
+        → (result ≡ record { kind = 0; place = 0 })
+        × ((history : List FilterEvent) → StandsFor filters.old history
+        → StandsFor filters.new (Configure (read_items items.now) ∷ history)) }
+    ensures absent { (place : ℕ) → length items.now ≤ 255 → first_absent items.now ≡ Some place
+        → (result ≡ record { kind = 1; place = place }) × (filters.new ≡ filters.old) }
+    ensures many { 255 < length items.now
+        → (result ≡ record { kind = 2; place = 0 }) × (filters.new ≡ filters.old) }
+{
+    if items.len() > 255 {
+        return Configured { kind: 2, place: 0 };
+    }
+    if let Some(place) = first_absent(items) {
+        return Configured { kind: 1, place };
+    }
+    match read_items(items) {
+        Some(read) => {
+            let _applied = filters.configure(read.as_slice());
+            Configured { kind: 0, place: 0 }
+        }
+        None => unreachable!(),
+    }
+}
+
+/// The place of the first item that names an input above 63.
+fn first_absent(items: &[ConfigurationItem]) -> Option<usize>
+    ensures { result ≡ first_absent items.now }
+{
+    items.iter().position(|item| item.input >= 64)
+}

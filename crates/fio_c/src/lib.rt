@@ -1,0 +1,32 @@
+//! The field I/O transition link for C and C++: the calls of the crates below over memory of the
+//! caller. `include/fio2070.h` declares them.
+//!
+//! No export has a `requires`: each is right for all octets, all lengths and all contents of a
+//! struct. What C owes is memory alone: pointers that are valid, aligned and not shared for the time
+//! of a call. Nothing here allocates, keeps a static or calls anything but `memcpy` and its like.
+//!
+//! | To | Call |
+//! |---|---|
+//! | read a block answer in place | `fio2070_read_block`, `fio2070_block_entries` |
+//! | read any message | `fio2070_decode_command`, `fio2070_command_items`, `fio2070_decode_answer` |
+//! | write a message | `fio2070_encode_..` |
+//! | be the CPU's end | `fio2070_poller_poll`, `fio2070_poller_hear` |
+//! | be the module | `fio2070_module_..` |
+//! | use its parts | `fio2070_counter_..`, `fio2070_filters_..`, `fio2070_widen` |
+//!
+//! The definitions stand in `specs/`: faults and what reading does (`Faults`), octets and lists in
+//! the caller's arrays (`Written`), flat forms of commands, answers and blocks (`Flat`), what a
+//! poller does (`Hearing`), which history a module stands for (`Module`).
+#![tactic(auto)]
+
+mod answer_frames;
+mod answers;
+mod blocks;
+mod command_frames;
+mod commands;
+mod counter;
+mod faults;
+mod filters;
+mod module;
+mod poller;
+mod written;

@@ -1,0 +1,378 @@
+/* Messages between the CPU of a Model 2070 controller and its field I/O module, and both ends of the link.
+ *
+ * The code behind these calls is proved: each does what its description says for all octets, all
+ * lengths and all contents of its structs. docs/C-LIBRARY.md says what that covers. The library
+ * allocates nothing, keeps no static data, starts no thread, and calls memcpy, memmove and memset
+ * alone. It needs an x86-64 processor with SSE4.1.
+ *
+ * What the caller owes, and nothing checks:
+ *  - A pointer points to as many objects as its length says. Each is initialised, and aligned as C
+ *    asks of its type. A pointer is not null, also where its length is 0.
+ *  - During a call no one else writes what an argument points to, and no one else reads what an
+ *    argument without const points to. Such an argument overlaps no other.
+ *  - The structs filters, counter and module are written by the calls of this header alone, _start
+ *    first. Before _start they may hold any octets. They may be copied and moved by memcpy.
+ *
+ * Sources: TEES 2009 is Caltrans TEES 2009. "Own profile" is a choice of this project where TEES
+ * leaves one: 64 inputs, 64 outputs, and what docs/PROTOCOL.md marks so.
+ *
+ * A call that writes octets into `out` returns how many it wrote. Where `room` is too small it
+ * returns 0 and writes nothing. No message has more than FIO2070_LONGEST_FRAME octets.
+ */
+#ifndef FIO2070_H
+#define FIO2070_H
+
+#include <stddef.h>
+#include <stdint.h>
+
+#ifdef __cplusplus
+extern "C" {
+#endif
+
+enum {
+    FIO2070_LONGEST_FRAME = 773,     /* octets of a frame (own profile) */
+    FIO2070_MOST_ENTRIES = 255,      /* entries of a block, and items of a configuration (TEES 2009) */
+    FIO2070_MOST_RECORD_ITEMS = 256, /* what one block adds to a record: a gap mark and its entries */
+    FIO2070_MOST_WAITING = 1024,     /* entries that wait in a module (TEES 2009) */
+    FIO2070_LONGEST_FAULT_TEXT = 65  /* octets of the words of a fault */
+};
+
+/* The types of commands (TEES 2009). The type of an answer is that of its command plus 128. */
+enum {
+    FIO2070_STATUS = 49,
+    FIO2070_LOAD_COUNTER = 50,
+    FIO2070_CONFIGURE_INPUTS = 51,
+    FIO2070_RAW_INPUTS = 52,
+    FIO2070_FILTERED_INPUTS = 53,
+    FIO2070_POLL = 54,
+    FIO2070_SET_OUTPUTS = 55,
+    FIO2070_TRACK_INPUTS = 56,
+    FIO2070_COMPLEX_OUTPUTS = 57,
+    FIO2070_WATCHDOG = 58,
+    FIO2070_CONTROLLER_ID = 59,
+    FIO2070_IDENTIFY = 60,
+    FIO2070_ANSWER = 128 /* the type of an answer less that of its command */
+};
+
+/* Bits of statuses: their meaning is that of TEES 2009, their places are own profile. Other bits are
+ * kept as they come. */
+enum {
+    FIO2070_ERROR = 1,           /* S of answers 178 and 179: error; clear: done */
+    FIO2070_SET_BEFORE = 1,      /* Y of answer 186: the watchdog had been set before */
+    FIO2070_MORE = 8,            /* C of answer 182: more entries waited than the block takes */
+    FIO2070_LOST = 4,            /* F of answer 182: entries directly before the block were pushed out */
+    FIO2070_AGAIN = 2,           /* E of answer 182: the same block number was asked for again */
+    FIO2070_OUT_OF_SEQUENCE = 1, /* G of answer 182: the number is not the one before plus one */
+    FIO2070_WAS_RESET = 128      /* P of the flags: the module was reset (own profile) */
+};
+
+/* ---- Faults ---- */
+
+/* Why octets are no message: the first of these that applies (own profile). */
+enum fio2070_fault_kind {
+    FIO2070_NO_FAULT = 0,
+    FIO2070_EMPTY = 1,        /* there is no octet */
+    FIO2070_TOO_LONG = 2,     /* more than 773 octets: `got` */
+    FIO2070_UNKNOWN_TYPE = 3, /* no message that the call reads has the type `code` */
+    FIO2070_WRONG_LENGTH = 4  /* a message of this type and count has `needed` octets, not `got` */
+};
+
+/* Numbers that a kind does not have are 0. */
+struct fio2070_fault {
+    uint8_t kind; /* an enum fio2070_fault_kind */
+    uint8_t code; /* the first octet */
+    size_t needed;
+    size_t got;
+};
+
+/* Writes the words of a fault as `fio2070 show` does, such as "wrong length needed 14 got 11", at
+ * most 65 octets, with no line end and no zero octet after them. No fault has no words: 0. */
+size_t fio2070_fault_text(const struct fio2070_fault *fault, uint8_t *out, size_t room);
+
+/* ---- Reading block answers in place (TEES 2009, answer 182) ---- */
+
+struct fio2070_block_header {
+    uint8_t number;
+    uint8_t status; /* FIO2070_MORE, _LOST, _AGAIN, _OUT_OF_SEQUENCE, and other bits as they come */
+    uint8_t count;  /* of entries, 0 to 255 */
+    uint32_t stamp; /* the module's millisecond counter when the block was made */
+};
+
+/* A transition: a change of the filtered state of an input. */
+struct fio2070_entry {
+    uint8_t input;  /* 0 to 127 */
+    uint8_t state;  /* after the transition: 0 or 1. Calls that are given entries take any number but 0 as 1. */
+    uint16_t stamp; /* the low 16 bits of the module's counter at the transition */
+};
+
+/* Reads a block answer without its entries. After a fault `header` is unchanged. Any other answer is
+ * an unknown type here. */
+struct fio2070_fault fio2070_read_block(const uint8_t *octets, size_t length, struct fio2070_block_header *header);
+
+/* Returns how many entries a block answer has, and copies them to the front of `entries`. Where
+ * `room` is smaller it copies none; the rest of `entries` is unchanged. 0 where the octets are no
+ * block answer. */
+size_t fio2070_block_entries(const uint8_t *octets, size_t length, struct fio2070_entry *entries, size_t room);
+
+/* The time in milliseconds, modulo 2^32, of an entry with this stamp in an answer with the stamp
+ * `answer_stamp`: the number with these low 16 bits at or before answer_stamp and fewer than 65,536
+ * steps back (own profile). */
+uint32_t fio2070_widen(uint32_t answer_stamp, uint16_t stamp);
+
+/* ---- Reading any message ---- */
+
+/* A command: the fields of its type; the others are 0. */
+struct fio2070_command {
+    uint8_t code;        /* the type, 49 to 60 */
+    uint8_t clear;       /* 49: flags to clear */
+    uint8_t block;       /* 54: block number */
+    uint8_t timeout;     /* 58: milliseconds, as sent */
+    uint8_t count;       /* 51: of items, 0 to 255; fio2070_command_items copies them */
+    uint16_t body;       /* 56, 57, 59: how many octets follow the type, 0 to 772; they are not read further */
+    uint32_t load;       /* 50: the number to load, in milliseconds */
+    uint8_t levels[8];   /* 55: data octets */
+    uint8_t controls[8]; /* 55: control octets */
+};
+
+/* How one input is read (TEES 2009, an item of command 51). */
+struct fio2070_configuration_item {
+    uint8_t input;    /* 0 to 127; a module has the inputs 0 to 63 */
+    uint8_t ignore;   /* 1: its transitions are not reported; 0. Calls that are given items take any number but 0 as 1. */
+    uint8_t leading;  /* samples of 0 in a row that change the state from 1 to 0; 0 acts as 1 */
+    uint8_t trailing; /* samples of 1 in a row that change the state from 0 to 1; 0 acts as 1 */
+};
+
+/* An answer: the fields of its type; the others are 0. */
+struct fio2070_answer {
+    uint8_t code;            /* the type, 177 to 188 */
+    uint8_t flags;           /* 177: the flags that are left */
+    uint8_t receive_errors;  /* 177 */
+    uint8_t transmit_errors; /* 177 */
+    uint8_t status;          /* 178, 179, 182, 186 */
+    uint8_t block;           /* 182: block number */
+    uint8_t count;           /* 182: of entries, 0 to 255; fio2070_block_entries copies them */
+    uint16_t body;           /* 183, 184, 185, 187, 188: how many octets follow the type, 0 to 772; they are not
+                                read further */
+    uint32_t stamp;          /* 177, 180, 181, 182: the millisecond counter */
+    uint64_t inputs;         /* 180, 181: bit i is input i */
+};
+
+/* Reads any command. After a fault `command` is unchanged. */
+struct fio2070_fault fio2070_decode_command(const uint8_t *octets, size_t length, struct fio2070_command *command);
+
+/* Returns how many items a configuration (command 51) has, and copies them to the front of `items`.
+ * Where `room` is smaller it copies none; the rest of `items` is unchanged. 0 where the octets are no
+ * configuration. */
+size_t fio2070_command_items(const uint8_t *octets, size_t length, struct fio2070_configuration_item *items,
+                             size_t room);
+
+/* Reads any answer. After a fault `answer` is unchanged. */
+struct fio2070_fault fio2070_decode_answer(const uint8_t *octets, size_t length, struct fio2070_answer *answer);
+
+/* ---- Writing commands (TEES 2009) ---- */
+
+/* 49, request module status: clears the flags whose bits are one. 2 octets. */
+size_t fio2070_encode_status(uint8_t clear, uint8_t *out, size_t room);
+/* 50, millisecond counter management: the number that the next line sync loads. 5 octets. */
+size_t fio2070_encode_load_counter(uint32_t load, uint8_t *out, size_t room);
+/* 51, configure inputs. 2 + 3 * count octets. 0 too where there are more than 255 items, and where
+ * one names an input above 127. */
+size_t fio2070_encode_configure_inputs(const struct fio2070_configuration_item *items, size_t count, uint8_t *out,
+                                       size_t room);
+/* 52, poll raw input data. 1 octet. */
+size_t fio2070_encode_raw_inputs(uint8_t *out, size_t room);
+/* 53, poll filtered input data. 1 octet. */
+size_t fio2070_encode_filtered_inputs(uint8_t *out, size_t room);
+/* 54, poll input transition buffer: the block with this number. 2 octets. */
+size_t fio2070_encode_poll(uint8_t block, uint8_t *out, size_t room);
+/* 55, set outputs. 17 octets (eight for each half are own profile). */
+size_t fio2070_encode_set_outputs(const uint8_t levels[8], const uint8_t controls[8], uint8_t *out, size_t room);
+/* 58, configure watchdog: the timeout in milliseconds, 0 to 255. The module takes less than 10 as 10
+ * and more than 100 as 100. 2 octets. */
+size_t fio2070_encode_watchdog(uint8_t timeout, uint8_t *out, size_t room);
+/* 60, module identification. 1 octet. */
+size_t fio2070_encode_identify(uint8_t *out, size_t room);
+/* 56, 57 or 59, with the octets after the type. 1 + length octets. 0 too for any other type, and for
+ * more than 772 octets. */
+size_t fio2070_encode_other_command(uint8_t code, const uint8_t *body, size_t length, uint8_t *out, size_t room);
+
+/* ---- Writing answers (TEES 2009) ---- */
+
+/* 177: the flags that are left, the error counts and the millisecond counter. 8 octets. */
+size_t fio2070_encode_status_answer(uint8_t flags, uint8_t receive_errors, uint8_t transmit_errors, uint32_t stamp,
+                                    uint8_t *out, size_t room);
+/* 178, to a load of the counter. 2 octets. */
+size_t fio2070_encode_load_counter_answer(uint8_t status, uint8_t *out, size_t room);
+/* 179, to a configuration. 2 octets. */
+size_t fio2070_encode_configure_inputs_answer(uint8_t status, uint8_t *out, size_t room);
+/* 180: the levels of the inputs at the last scan; bit i is input i. 13 octets. */
+size_t fio2070_encode_raw_inputs_answer(uint64_t inputs, uint32_t stamp, uint8_t *out, size_t room);
+/* 181: the filtered states; bit i is input i. 13 octets. */
+size_t fio2070_encode_filtered_inputs_answer(uint64_t inputs, uint32_t stamp, uint8_t *out, size_t room);
+/* 182, a block. 8 + 3 * count octets. 0 too where there are more than 255 entries, and where one
+ * names an input above 127. */
+size_t fio2070_encode_block_answer(uint8_t block, const struct fio2070_entry *entries, size_t count, uint8_t status,
+                                   uint32_t stamp, uint8_t *out, size_t room);
+/* 186, to a watchdog command. 2 octets. */
+size_t fio2070_encode_watchdog_answer(uint8_t status, uint8_t *out, size_t room);
+/* 183, 184, 185, 187 or 188, with the octets after the type. 1 + length octets. 0 too for any other
+ * type, and for more than 772 octets. */
+size_t fio2070_encode_other_answer(uint8_t code, const uint8_t *body, size_t length, uint8_t *out, size_t room);
+
+/* ---- The CPU's end (own profile) ---- */
+
+/* The caller sets the first number, and keeps the record. */
+struct fio2070_poller {
+    uint8_t number; /* of the block that the next poll asks for */
+};
+
+struct fio2070_record_item {
+    uint8_t gap;    /* 1: entries are missing here, and the other fields are 0; 0: an entry */
+    uint8_t input;  /* 0 to 127 */
+    uint8_t state;  /* after the transition: 0 or 1 */
+    uint16_t stamp; /* the low 16 bits of the module's counter at the transition */
+    uint32_t wide;  /* the time in milliseconds, as fio2070_widen has it */
+};
+
+/* What octets were: the first of these that applies, but _TAKEN is 0. */
+enum fio2070_heard_kind {
+    FIO2070_TAKEN = 0,      /* a block with the present number, taken whole: `entries`, `status`, `items` */
+    FIO2070_UNREADABLE = 1, /* no answer: `fault` */
+    FIO2070_OTHER = 2,      /* an answer of another type: `code` */
+    FIO2070_STALE = 3,      /* a block with another number: `number` */
+    FIO2070_NO_ROOM = 4     /* a block with the present number that needs room for `items` */
+};
+
+/* Numbers that a kind does not have are 0. */
+struct fio2070_heard {
+    uint8_t kind; /* an enum fio2070_heard_kind */
+    uint8_t code;
+    uint8_t number;
+    uint8_t status;
+    uint8_t entries; /* of the block that was taken */
+    uint16_t items;  /* that were written, or need room: 0 to 256 */
+    struct fio2070_fault fault;
+};
+
+/* Writes a poll with the present number. 2 octets. */
+size_t fio2070_poller_poll(const struct fio2070_poller *poller, uint8_t *out, size_t room);
+
+/* Hears the octets of a frame. A block answer with the present number is taken whole: what it adds to
+ * the record is written to the front of `items`, a gap mark if F is set and then its entries in order,
+ * and the number rises by one modulo 256. In all other cases nothing changes; a block with no room
+ * can be heard again with more. 256 items are always enough. */
+struct fio2070_heard fio2070_poller_hear(struct fio2070_poller *poller, const uint8_t *octets, size_t length,
+                                         struct fio2070_record_item *items, size_t room);
+
+/* ---- Parts of a module ---- */
+
+/* The millisecond counter. Its fields are the library's own. */
+struct fio2070_counter {
+    uint32_t value, load;
+    uint8_t is_asked;
+};
+
+/* At 0 (own profile), with no load asked for. */
+void fio2070_counter_start(struct fio2070_counter *counter);
+/* One step, from 4,294,967,295 to 0. Each scan of a module does it before it samples (own profile). */
+void fio2070_counter_tick(struct fio2070_counter *counter);
+/* The next line sync loads this number (TEES 2009), and none that was asked for before (own profile). */
+void fio2070_counter_ask_load(struct fio2070_counter *counter, uint32_t number);
+/* LINESYNC goes from 0 to 1: a load that was asked for happens now (TEES 2009). */
+void fio2070_counter_line_sync(struct fio2070_counter *counter);
+/* The milliseconds counted, modulo 2^32. */
+uint32_t fio2070_counter_now(const struct fio2070_counter *counter);
+
+/* The filters of the 64 inputs. Bit i of a word is input i. The fields are the library's own. */
+struct fio2070_filters {
+    uint8_t run_lengths[64], leading[64], trailing[64];
+    uint64_t ignored, filtered, raw;
+};
+
+/* What became of a configuration. */
+enum fio2070_configured_kind {
+    FIO2070_APPLIED = 0,
+    FIO2070_ABSENT_INPUT = 1,  /* the item at `place` is the first that names an input above 63 */
+    FIO2070_TOO_MANY_ITEMS = 2 /* more than 255 */
+};
+
+struct fio2070_configured {
+    uint8_t kind; /* an enum fio2070_configured_kind */
+    size_t place; /* counted from 0; 0 for the other kinds */
+};
+
+/* Each input is ignored, both its filters are 5, and its raw level and filtered state are 1 (own
+ * profile). */
+void fio2070_filters_start(struct fio2070_filters *filters);
+/* Applies the items in their order; where one names an input above 63, or there are more than 255,
+ * none, and nothing changes (own profile). An applied item starts the samples of its input anew from
+ * the present filtered state. */
+struct fio2070_configured fio2070_filters_configure(struct fio2070_filters *filters,
+                                                    const struct fio2070_configuration_item *items, size_t count);
+/* Takes a sample of each input. The result has a one for each input that is not ignored and whose
+ * filtered state changed (TEES 2009). */
+uint64_t fio2070_filters_scan(struct fio2070_filters *filters, uint64_t raw);
+/* The filtered states, also of ignored inputs. */
+uint64_t fio2070_filters_filtered(const struct fio2070_filters *filters);
+/* The levels of the last scan, all 1 before any (own profile). */
+uint64_t fio2070_filters_raw(const struct fio2070_filters *filters);
+
+/* ---- The module (TEES 2009, in the own profile of 64 inputs and 64 outputs) ---- */
+
+/* The data and control octets of command 55. */
+struct fio2070_outputs {
+    uint8_t levels[8], controls[8];
+};
+
+/* A module of which 1,024 entries may wait. The fields are the library's own. */
+struct fio2070_module {
+    struct {
+        uint8_t id, per_block, flags, watchdog, pushed_out;
+        struct fio2070_outputs outputs;
+        struct fio2070_counter counter;
+        struct fio2070_filters filters;
+        struct {
+            uint8_t octets[773];
+            uint16_t length;
+        } sent;
+    } state;
+    struct {
+        uint8_t entries[1024][3];
+        uint16_t first, count;
+    } waiting;
+};
+
+/* Starts a module that answers `id` to command 60, and whose blocks have at most `per_block` entries,
+ * 1 to 255 (TEES 2009: 255). Returns 0; where per_block is 0 it returns 1, and nothing changes. */
+uint8_t fio2070_module_start(struct fio2070_module *module, uint8_t id, uint8_t per_block);
+/* Starts it anew with the same id and per_block: the flags are P alone, the counter is 0, and the
+ * waiting entries and the block that was sent last are lost (own profile). */
+void fio2070_module_restart(struct fio2070_module *module);
+/* Steps the counter by one millisecond, then samples each input; bit i of `raw` is the level of input
+ * i (own profile: one scan a step). Each reported transition becomes a waiting entry; where 1,024
+ * wait it pushes out the oldest. */
+void fio2070_module_scan(struct fio2070_module *module, uint64_t raw);
+/* LINESYNC goes from 0 to 1: a load of the counter that was asked for happens now (TEES 2009). */
+void fio2070_module_line_sync(struct fio2070_module *module);
+/* Sets the flags whose bits are one: from bit 7 down P, E, K, R, T, M, L, W (own profile). */
+void fio2070_module_raise(struct fio2070_module *module, uint8_t mask);
+/* Takes the octets of a frame, writes the answer to the front of `out`, and returns how many octets it
+ * has, 1 to 773. 0 where there is no answer, and then `out` is unchanged: octets that spell no
+ * command, and commands 56, 57 and 59, get none and change nothing (own profile). */
+size_t fio2070_module_receive(struct fio2070_module *module, const uint8_t *octets, size_t length,
+                              uint8_t out[FIO2070_LONGEST_FRAME]);
+/* The outputs, all 0 before the first command 55 (own profile). */
+struct fio2070_outputs fio2070_module_outputs(const struct fio2070_module *module);
+/* The timeout of the watchdog in milliseconds, 10 to 100; 0 before the first command 58. */
+uint8_t fio2070_module_watchdog_ms(const struct fio2070_module *module);
+/* The milliseconds counted, modulo 2^32 (TEES 2009). */
+uint32_t fio2070_module_counter(const struct fio2070_module *module);
+/* The filtered states, also of ignored inputs; bit i is input i. */
+uint64_t fio2070_module_filtered(const struct fio2070_module *module);
+/* How many entries wait for a poll, 0 to 1,024. */
+size_t fio2070_module_waiting(const struct fio2070_module *module);
+
+#ifdef __cplusplus
+}
+#endif
+#endif

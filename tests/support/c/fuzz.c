@@ -1,0 +1,170 @@
+/* Hands random octets to every call that reads octets. Each buffer ends at a page that may not be
+ * touched, so an access behind one ends the program. What is read must encode to the same octets.
+ * The last line is `N passed, M failed`, N being the buffers.
+ *
+ *     fuzz BUFFERS SEED
+ */
+#include "fio2070.h"
+
+#include <stdio.h>
+#include <stdlib.h>
+#include <string.h>
+#include <sys/mman.h>
+#include <unistd.h>
+
+enum { LONGEST = 800 };
+
+static uint64_t random_state;
+
+/* xorshift64* */
+static uint64_t next_random(void) {
+    random_state ^= random_state >> 12;
+    random_state ^= random_state << 25;
+    random_state ^= random_state >> 27;
+    return random_state * 2685821657736338717u;
+}
+
+static unsigned below(unsigned bound) { return (unsigned)(next_random() >> 33) % bound; }
+
+/* The end of some pages, behind which stands one that may not be touched. */
+static uint8_t *guarded_end(void) {
+    size_t page = (size_t)sysconf(_SC_PAGESIZE), pages = 8;
+    uint8_t *start =
+        (uint8_t *)mmap(NULL, (pages + 1) * page, PROT_READ | PROT_WRITE, MAP_PRIVATE | MAP_ANONYMOUS, -1, 0);
+    if (start == MAP_FAILED || mprotect(start + pages * page, page, PROT_NONE) != 0) exit(2);
+    return start + pages * page;
+}
+
+/* Fills the octets; most of them begin with a type and have a length near the one it needs. */
+static size_t fill(uint8_t *octets) {
+    static const uint16_t needed[] = {2, 5, 2, 1, 1, 2, 17, 9, 9, 2, 9, 1, 8, 2, 2, 13, 13, 8, 9, 9, 9, 2, 9, 9};
+    size_t length = below(LONGEST + 1), place;
+    unsigned kind = below(24), count = below(256);
+    int begins = below(8) != 0;
+    if (begins) {
+        length = needed[kind];
+        if (kind == 2 || kind == 17) length += 3 * count;
+        if (below(4) == 0) length = length + below(3) - 1;
+    }
+    for (place = 0; place < length; place++) octets[place] = (uint8_t)next_random();
+    if (begins && length > 0) octets[0] = (uint8_t)(kind < 12 ? 49 + kind : 165 + kind);
+    if (begins && kind == 2 && length > 1) octets[1] = (uint8_t)count;
+    if (begins && kind == 17 && length > 2) octets[2] = (uint8_t)count;
+    return length;
+}
+
+static struct fio2070_configuration_item items[FIO2070_MOST_ENTRIES];
+static struct fio2070_entry entries[FIO2070_MOST_ENTRIES];
+static struct fio2070_record_item record[FIO2070_MOST_RECORD_ITEMS];
+static uint8_t written[FIO2070_LONGEST_FRAME];
+
+static size_t write_command(const struct fio2070_command *command, const uint8_t *octets, size_t count) {
+    switch (command->code) {
+    case 49: return fio2070_encode_status(command->clear, written, sizeof written);
+    case 50: return fio2070_encode_load_counter(command->load, written, sizeof written);
+    case 51: return fio2070_encode_configure_inputs(items, count, written, sizeof written);
+    case 52: return fio2070_encode_raw_inputs(written, sizeof written);
+    case 53: return fio2070_encode_filtered_inputs(written, sizeof written);
+    case 54: return fio2070_encode_poll(command->block, written, sizeof written);
+    case 55: return fio2070_encode_set_outputs(command->levels, command->controls, written, sizeof written);
+    case 58: return fio2070_encode_watchdog(command->timeout, written, sizeof written);
+    case 60: return fio2070_encode_identify(written, sizeof written);
+    default: return fio2070_encode_other_command(command->code, octets + 1, command->body, written, sizeof written);
+    }
+}
+
+static size_t write_answer(const struct fio2070_answer *answer, const uint8_t *octets, size_t count) {
+    switch (answer->code) {
+    case 177:
+        return fio2070_encode_status_answer(answer->flags, answer->receive_errors, answer->transmit_errors,
+                                            answer->stamp, written, sizeof written);
+    case 178: return fio2070_encode_load_counter_answer(answer->status, written, sizeof written);
+    case 179: return fio2070_encode_configure_inputs_answer(answer->status, written, sizeof written);
+    case 180: return fio2070_encode_raw_inputs_answer(answer->inputs, answer->stamp, written, sizeof written);
+    case 181: return fio2070_encode_filtered_inputs_answer(answer->inputs, answer->stamp, written, sizeof written);
+    case 182:
+        return fio2070_encode_block_answer(answer->block, entries, count, answer->status, answer->stamp, written,
+                                           sizeof written);
+    case 186: return fio2070_encode_watchdog_answer(answer->status, written, sizeof written);
+    default: return fio2070_encode_other_answer(answer->code, octets + 1, answer->body, written, sizeof written);
+    }
+}
+
+static int is_again(size_t count, const uint8_t *octets, size_t length) {
+    return count == length && memcmp(written, octets, length) == 0;
+}
+
+/* The words of a fault are there exactly for a fault. */
+static int has_text(struct fio2070_fault fault, uint8_t *text_end) {
+    size_t count = fio2070_fault_text(&fault, text_end - FIO2070_LONGEST_FAULT_TEXT, FIO2070_LONGEST_FAULT_TEXT);
+    return (count == 0) == (fault.kind == FIO2070_NO_FAULT);
+}
+
+static int reads_command(const uint8_t *octets, size_t length, uint8_t *text_end) {
+    struct fio2070_command command;
+    struct fio2070_fault fault;
+    size_t count = fio2070_command_items(octets, length, items, FIO2070_MOST_ENTRIES);
+    memset(&command, 0, sizeof command);
+    fault = fio2070_decode_command(octets, length, &command);
+    if (!has_text(fault, text_end)) return 0;
+    if (fault.kind != FIO2070_NO_FAULT) return count == 0 && command.code == 0;
+    return command.count == count && is_again(write_command(&command, octets, count), octets, length);
+}
+
+static int reads_answer(const uint8_t *octets, size_t length, uint8_t *text_end) {
+    struct fio2070_answer answer;
+    struct fio2070_block_header header;
+    struct fio2070_fault fault, block_fault;
+    size_t count = fio2070_block_entries(octets, length, entries, FIO2070_MOST_ENTRIES);
+    memset(&answer, 0, sizeof answer);
+    memset(&header, 0, sizeof header);
+    fault = fio2070_decode_answer(octets, length, &answer);
+    block_fault = fio2070_read_block(octets, length, &header);
+    if (!has_text(fault, text_end) || !has_text(block_fault, text_end)) return 0;
+    if ((block_fault.kind == FIO2070_NO_FAULT) != (answer.code == 182)) return 0;
+    if (fault.kind != FIO2070_NO_FAULT) return count == 0 && answer.code == 0;
+    return answer.count == count && header.count == count && is_again(write_answer(&answer, octets, count), octets, length);
+}
+
+static int is_heard(const uint8_t *octets, size_t length) {
+    struct fio2070_poller poller;
+    struct fio2070_heard heard;
+    unsigned room = below(FIO2070_MOST_RECORD_ITEMS + 1), before;
+    poller.number = length > 1 && below(2) ? octets[1] : (uint8_t)next_random();
+    before = poller.number;
+    heard = fio2070_poller_hear(&poller, octets, length, record + FIO2070_MOST_RECORD_ITEMS - room, room);
+    if (heard.kind == FIO2070_TAKEN) return heard.items <= room && poller.number == (before + 1) % 256;
+    return poller.number == before && (heard.kind != FIO2070_NO_ROOM || heard.items > room);
+}
+
+static int is_received(struct fio2070_module *device, const uint8_t *octets, size_t length, uint8_t *answer) {
+    struct fio2070_answer read;
+    size_t count = fio2070_module_receive(device, octets, length, answer);
+    memset(&read, 0, sizeof read);
+    fio2070_module_scan(device, next_random());
+    if (fio2070_module_waiting(device) > FIO2070_MOST_WAITING) return 0;
+    return count == 0 || (fio2070_decode_answer(answer, count, &read).kind == FIO2070_NO_FAULT &&
+                          read.code == octets[0] + FIO2070_ANSWER);
+}
+
+int main(int arguments, char **words) {
+    long buffers = arguments > 1 ? atol(words[1]) : 1000, number, failed = 0;
+    uint8_t *end = guarded_end(), *text_end = guarded_end(), *answer = guarded_end() - FIO2070_LONGEST_FRAME;
+    static struct fio2070_module device;
+    uint8_t octets[LONGEST + 1];
+    random_state = arguments > 2 ? strtoul(words[2], NULL, 10) : 1;
+    fio2070_module_start(&device, 2, FIO2070_MOST_ENTRIES);
+    for (number = 0; number < buffers; number++) {
+        size_t length = fill(octets);
+        uint8_t *start = end - length;
+        memcpy(start, octets, length);
+        if (!reads_command(start, length, text_end) || !reads_answer(start, length, text_end) ||
+            !is_heard(start, length) || !is_received(&device, start, length, answer) ||
+            memcmp(start, octets, length) != 0) {
+            printf("buffer %ld of %lu octets\n", number, (unsigned long)length);
+            failed++;
+        }
+    }
+    printf("%ld passed, %ld failed\n", buffers - failed, failed);
+    return failed != 0;
+}

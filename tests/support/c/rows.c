@@ -1,0 +1,363 @@
+/* The worked examples, call by call. The last line is `N passed, M failed`. */
+#include "layout.h"
+
+#include <stdio.h>
+#include <string.h>
+
+static int passed, failed;
+#define CHECK(condition) check((condition) != 0, #condition, __LINE__)
+
+static void check(int holds, const char *text, int line) {
+    if (holds) {
+        passed++;
+    } else {
+        failed++;
+        printf("line %d: %s\n", line, text);
+    }
+}
+
+static int same_fault(struct fio2070_fault fault, int kind, unsigned code, size_t needed, size_t got) {
+    return fault.kind == kind && fault.code == code && fault.needed == needed && fault.got == got;
+}
+
+/* A block with one entry, and one without. */
+static const uint8_t BLOCK[] = {0xb6, 5, 1, 0x8c, 3, 0xe7, 0, 0, 0, 3, 0xe8};
+static const uint8_t SHORTEST[] = {0xb6, 5, 0, 0, 0, 0, 3, 0xe8};
+static uint8_t long_octets[774];
+
+static void reads_blocks(void) {
+    struct fio2070_block_header header = {9, 9, 9, 9};
+    struct fio2070_entry entries[2] = {{7, 7, 7}, {7, 7, 7}};
+    uint8_t two[sizeof BLOCK];
+    CHECK(same_fault(fio2070_read_block(SHORTEST, sizeof SHORTEST, &header), FIO2070_NO_FAULT, 0, 0, 0));
+    CHECK(header.number == 5 && header.status == 0 && header.count == 0 && header.stamp == 1000);
+    CHECK(fio2070_block_entries(SHORTEST, sizeof SHORTEST, entries, 2) == 0 && entries[0].input == 7);
+    CHECK(same_fault(fio2070_read_block(BLOCK, sizeof BLOCK, &header), FIO2070_NO_FAULT, 0, 0, 0));
+    CHECK(header.number == 5 && header.status == 0 && header.count == 1 && header.stamp == 1000);
+    CHECK(fio2070_block_entries(BLOCK, sizeof BLOCK, entries, 0) == 1 && entries[0].input == 7);
+    CHECK(fio2070_block_entries(BLOCK, sizeof BLOCK, entries, 2) == 1);
+    CHECK(entries[0].input == 12 && entries[0].state == 1 && entries[0].stamp == 999 && entries[1].input == 7);
+    memcpy(two, BLOCK, sizeof two);
+    two[2] = 2;
+    header.number = 9;
+    CHECK(same_fault(fio2070_read_block(two, sizeof two, &header), FIO2070_WRONG_LENGTH, 0, 14, 11));
+    CHECK(header.number == 9 && header.count == 1);
+    CHECK(fio2070_block_entries(two, sizeof two, entries, 2) == 0);
+    CHECK(same_fault(fio2070_read_block(BLOCK, 1, &header), FIO2070_WRONG_LENGTH, 0, 8, 1));
+    CHECK(same_fault(fio2070_read_block((const uint8_t *)"\xb1", 1, &header), FIO2070_UNKNOWN_TYPE, 0xb1, 0, 0));
+    CHECK(fio2070_widen(0x10002, 0xfffe) == 0xfffe && fio2070_widen(0x10002, 3) == 3);
+    CHECK(fio2070_widen(0x10002, 2) == 0x10002 && fio2070_widen(5, 0xfffe) == 0xfffffffe);
+}
+
+static void refuses(void) {
+    static const uint8_t b60502[] = {0xb6, 5, 2}, poll[] = {54, 5, 255};
+    struct fio2070_command command;
+    struct fio2070_answer answer;
+    memset(&command, 9, sizeof command);
+    memset(&answer, 9, sizeof answer);
+    memset(long_octets, 0x30, sizeof long_octets);
+    CHECK(same_fault(fio2070_decode_command(poll, 0, &command), FIO2070_EMPTY, 0, 0, 0));
+    CHECK(same_fault(fio2070_decode_answer(poll, 0, &answer), FIO2070_EMPTY, 0, 0, 0));
+    CHECK(same_fault(fio2070_decode_command(long_octets, 774, &command), FIO2070_TOO_LONG, 0, 0, 774));
+    CHECK(same_fault(fio2070_decode_command(long_octets, 1, &command), FIO2070_UNKNOWN_TYPE, 48, 0, 0));
+    CHECK(same_fault(fio2070_decode_command(BLOCK, 2, &command), FIO2070_UNKNOWN_TYPE, 182, 0, 0));
+    CHECK(same_fault(fio2070_decode_command((const uint8_t *)"3", 1, &command), FIO2070_WRONG_LENGTH, 0, 2, 1));
+    CHECK(same_fault(fio2070_decode_command(poll, 3, &command), FIO2070_WRONG_LENGTH, 0, 2, 3));
+    CHECK(same_fault(fio2070_decode_answer(BLOCK, 1, &answer), FIO2070_WRONG_LENGTH, 0, 8, 1));
+    CHECK(same_fault(fio2070_decode_answer(b60502, 3, &answer), FIO2070_WRONG_LENGTH, 0, 14, 3));
+    CHECK(command.code == 9 && command.controls[7] == 9 && answer.code == 9 && answer.status == 9);
+}
+
+static int has_words(struct fio2070_fault fault, const char *words) {
+    uint8_t out[FIO2070_LONGEST_FAULT_TEXT + 1];
+    size_t count;
+    memset(out, '?', sizeof out);
+    count = fio2070_fault_text(&fault, out, sizeof out);
+    if (count != strlen(words) || memcmp(out, words, count) != 0 || out[count] != '?') return 0;
+    return count == 0 || fio2070_fault_text(&fault, out, count - 1) == 0;
+}
+
+static void says_faults(void) {
+    static const struct fio2070_fault none = {0, 0, 0, 0}, empty = {1, 0, 0, 0}, too_long = {2, 0, 0, 774};
+    static const struct fio2070_fault unknown = {3, 48, 0, 0}, wrong = {4, 0, 14, 11};
+    CHECK(has_words(none, ""));
+    CHECK(has_words(empty, "empty"));
+    CHECK(has_words(too_long, "too long got 774"));
+    CHECK(has_words(unknown, "unknown type 48"));
+    CHECK(has_words(wrong, "wrong length needed 14 got 11"));
+}
+
+/* ---- Messages, from octets and to octets ---- */
+
+static uint8_t out[FIO2070_LONGEST_FRAME];
+
+static int is_written(size_t count, const void *octets, size_t length) {
+    return count == length && memcmp(out, octets, length) == 0;
+}
+
+static void writes_commands(void) {
+    static const uint8_t levels[8] = {0, 0, 0, 0, 0, 0, 0, 1}, controls[8] = {0};
+    static const struct fio2070_configuration_item items[] = {{12, 0, 5, 3}, {3, 1, 0, 0}}, absent = {128, 0, 1, 1};
+    static const struct fio2070_configuration_item ignored = {3, 200, 0, 0};
+    static struct fio2070_configuration_item many[256];
+    CHECK(is_written(fio2070_encode_status(0x80, out, sizeof out), "\x31\x80", 2));
+    CHECK(is_written(fio2070_encode_load_counter(65536, out, sizeof out), "\x32\0\1\0\0", 5));
+    CHECK(is_written(fio2070_encode_configure_inputs(items, 2, out, sizeof out), "\x33\2\x0c\5\3\x83\0\0", 8));
+    CHECK(is_written(fio2070_encode_configure_inputs(&ignored, 1, out, sizeof out), "\x33\1\x83\0\0", 5));
+    CHECK(fio2070_encode_configure_inputs(&absent, 1, out, sizeof out) == 0);
+    CHECK(fio2070_encode_configure_inputs(many, 255, out, sizeof out) == 767);
+    CHECK(fio2070_encode_configure_inputs(many, 256, out, sizeof out) == 0);
+    CHECK(is_written(fio2070_encode_raw_inputs(out, sizeof out), "\x34", 1));
+    CHECK(is_written(fio2070_encode_filtered_inputs(out, sizeof out), "\x35", 1));
+    CHECK(is_written(fio2070_encode_poll(5, out, sizeof out), "\x36\5", 2));
+    CHECK(fio2070_encode_poll(6, out, 1) == 0 && out[1] == 5 && fio2070_encode_poll(6, out, 2) == 2);
+    CHECK(is_written(fio2070_encode_set_outputs(levels, controls, out, sizeof out),
+                     "\x37\0\0\0\0\0\0\0\1\0\0\0\0\0\0\0\0", 17));
+    CHECK(is_written(fio2070_encode_watchdog(200, out, sizeof out), "\x3a\xc8", 2));
+    CHECK(is_written(fio2070_encode_identify(out, sizeof out), "\x3c", 1));
+    CHECK(is_written(fio2070_encode_other_command(56, levels, 0, out, sizeof out), "\x38", 1));
+    CHECK(is_written(fio2070_encode_other_command(59, (const uint8_t *)"\1\2", 2, out, sizeof out), "\x3b\1\2", 3));
+    CHECK(fio2070_encode_other_command(57, long_octets, 772, out, sizeof out) == 773);
+    CHECK(fio2070_encode_other_command(57, long_octets, 773, out, sizeof out) == 0);
+    CHECK(fio2070_encode_other_command(54, levels, 1, out, sizeof out) == 0);
+}
+
+static void writes_answers(void) {
+    static const struct fio2070_entry entry = {12, 1, 999}, high = {12, 255, 999}, absent = {128, 1, 999};
+    static struct fio2070_entry many[256];
+    CHECK(is_written(fio2070_encode_status_answer(0x80, 0, 1, 1000, out, sizeof out), "\xb1\x80\0\1\0\0\3\xe8", 8));
+    CHECK(is_written(fio2070_encode_load_counter_answer(0xfe, out, sizeof out), "\xb2\xfe", 2));
+    CHECK(is_written(fio2070_encode_configure_inputs_answer(1, out, sizeof out), "\xb3\1", 2));
+    CHECK(is_written(fio2070_encode_raw_inputs_answer(~(uint64_t)1, 1, out, sizeof out),
+                     "\xb4\xfe\xff\xff\xff\xff\xff\xff\xff\0\0\0\1", 13));
+    CHECK(is_written(fio2070_encode_filtered_inputs_answer(~(uint64_t)1, 1, out, sizeof out),
+                     "\xb5\xfe\xff\xff\xff\xff\xff\xff\xff\0\0\0\1", 13));
+    CHECK(is_written(fio2070_encode_block_answer(5, &entry, 1, 0, 1000, out, sizeof out), BLOCK, sizeof BLOCK));
+    CHECK(is_written(fio2070_encode_block_answer(5, &high, 1, 0, 1000, out, sizeof out), BLOCK, sizeof BLOCK));
+    CHECK(is_written(fio2070_encode_block_answer(5, &entry, 0, 0, 1000, out, sizeof out), SHORTEST, sizeof SHORTEST));
+    CHECK(fio2070_encode_block_answer(5, &entry, 1, 0, 1000, out, sizeof BLOCK - 1) == 0);
+    CHECK(fio2070_encode_block_answer(5, &absent, 1, 0, 1000, out, sizeof out) == 0);
+    CHECK(fio2070_encode_block_answer(5, many, 255, 0, 1000, out, sizeof out) == 773);
+    CHECK(fio2070_encode_block_answer(5, many, 256, 0, 1000, out, sizeof out) == 0);
+    CHECK(is_written(fio2070_encode_watchdog_answer(1, out, sizeof out), "\xba\1", 2));
+    CHECK(is_written(fio2070_encode_other_answer(188, (const uint8_t *)"\2", 1, out, sizeof out), "\xbc\2", 2));
+    CHECK(fio2070_encode_other_answer(182, BLOCK, 1, out, sizeof out) == 0);
+    CHECK(fio2070_encode_other_answer(184, long_octets, 773, out, sizeof out) == 0);
+}
+
+static struct fio2070_command command_in(const char *octets, size_t length) {
+    struct fio2070_command command;
+    memset(&command, 9, sizeof command);
+    CHECK(fio2070_decode_command((const uint8_t *)octets, length, &command).kind == FIO2070_NO_FAULT);
+    return command;
+}
+
+static struct fio2070_answer answer_in(const void *octets, size_t length) {
+    struct fio2070_answer answer;
+    memset(&answer, 9, sizeof answer);
+    CHECK(fio2070_decode_answer((const uint8_t *)octets, length, &answer).kind == FIO2070_NO_FAULT);
+    return answer;
+}
+
+static void reads_commands(void) {
+    static const char configuration[] = "\x33\2\x0c\5\3\x83\0\0";
+    struct fio2070_configuration_item items[2] = {{7, 7, 7, 7}, {7, 7, 7, 7}};
+    struct fio2070_command command = command_in("\x31\xa5", 2);
+    CHECK(command.code == 49 && command.clear == 0xa5 && command.block == 0 && command.load == 0 && command.count == 0);
+    CHECK(command_in("\x32\0\1\0\0", 5).load == 65536);
+    CHECK(command_in(configuration, 8).count == 2);
+    CHECK(fio2070_command_items((const uint8_t *)configuration, 8, items, 1) == 2 && items[0].input == 7);
+    CHECK(fio2070_command_items((const uint8_t *)configuration, 8, items, 2) == 2);
+    CHECK(items[0].input == 12 && items[0].ignore == 0 && items[0].leading == 5 && items[0].trailing == 3);
+    CHECK(items[1].input == 3 && items[1].ignore == 1 && items[1].leading == 0 && items[1].trailing == 0);
+    CHECK(fio2070_command_items((const uint8_t *)"\x36\5", 2, items, 2) == 0);
+    CHECK(command_in("\x36\5", 2).block == 5);
+    command = command_in("\x37\0\0\0\0\0\0\0\1\2\0\0\0\0\0\0\3", 17);
+    CHECK(command.levels[7] == 1 && command.controls[0] == 2 && command.controls[7] == 3 && command.levels[0] == 0);
+    CHECK(command_in("\x38", 1).body == 0 && command_in("\x3b\1\2", 3).body == 2);
+    CHECK(command_in("\x3a\xc8", 2).timeout == 200 && command_in("\x3c", 1).code == 60);
+}
+
+static void reads_answers(void) {
+    struct fio2070_answer answer = answer_in("\xb1\x80\0\1\0\0\3\xe8", 8);
+    CHECK(answer.code == 177 && answer.flags == 0x80 && answer.receive_errors == 0 && answer.transmit_errors == 1);
+    CHECK(answer.stamp == 1000 && answer.status == 0 && answer.block == 0 && answer.inputs == 0);
+    CHECK(answer_in("\xb2\xfe", 2).status == 0xfe && answer_in("\xb3\1", 2).status == 1);
+    answer = answer_in("\xb4\xfe\xff\xff\xff\xff\xff\xff\x7f\0\0\1\0", 13);
+    CHECK(answer.code == 180 && answer.inputs == 0x7ffffffffffffffeu && answer.stamp == 256);
+    answer = answer_in(BLOCK, sizeof BLOCK);
+    CHECK(answer.code == 182 && answer.block == 5 && answer.count == 1 && answer.status == 0 && answer.stamp == 1000);
+    CHECK(answer_in("\xb7\0\0\0\0\5", 6).body == 5 && answer_in("\xba\1", 2).status == 1);
+}
+
+/* ---- The CPU's end ---- */
+
+static void hears(void) {
+    static struct fio2070_record_item items[FIO2070_MOST_RECORD_ITEMS];
+    struct fio2070_poller poller = {5};
+    struct fio2070_heard heard;
+    uint8_t lost[sizeof BLOCK];
+    heard = fio2070_poller_hear(&poller, BLOCK, sizeof BLOCK, items, 0);
+    CHECK(heard.kind == FIO2070_NO_ROOM && heard.items == 1 && poller.number == 5);
+    heard = fio2070_poller_hear(&poller, BLOCK, sizeof BLOCK, items, FIO2070_MOST_RECORD_ITEMS);
+    CHECK(heard.kind == FIO2070_TAKEN && heard.entries == 1 && heard.status == 0 && heard.items == 1);
+    CHECK(poller.number == 6 && heard.number == 0 && heard.code == 0 && heard.fault.kind == FIO2070_NO_FAULT);
+    CHECK(items[0].gap == 0 && items[0].input == 12 && items[0].state == 1);
+    CHECK(items[0].stamp == 999 && items[0].wide == 999);
+    heard = fio2070_poller_hear(&poller, BLOCK, sizeof BLOCK, items, FIO2070_MOST_RECORD_ITEMS);
+    CHECK(heard.kind == FIO2070_STALE && heard.number == 5 && heard.items == 0 && poller.number == 6);
+    CHECK(fio2070_poller_poll(&poller, out, sizeof out) == 2 && out[0] == 54 && out[1] == 6);
+    memcpy(lost, BLOCK, sizeof lost);
+    lost[1] = 255;
+    lost[6] = FIO2070_MORE | FIO2070_LOST;
+    poller.number = 255;
+    heard = fio2070_poller_hear(&poller, lost, sizeof lost, items, 1);
+    CHECK(heard.kind == FIO2070_NO_ROOM && heard.items == 2 && poller.number == 255);
+    heard = fio2070_poller_hear(&poller, lost, sizeof lost, items, 2);
+    CHECK(heard.kind == FIO2070_TAKEN && heard.status == 12 && heard.items == 2 && poller.number == 0);
+    CHECK(items[0].gap == 1 && items[0].wide == 0 && items[1].gap == 0 && items[1].wide == 999);
+    heard = fio2070_poller_hear(&poller, (const uint8_t *)"\xb3\1", 2, items, 2);
+    CHECK(heard.kind == FIO2070_OTHER && heard.code == 179 && poller.number == 0);
+    heard = fio2070_poller_hear(&poller, BLOCK, sizeof BLOCK - 1, items, 2);
+    CHECK(heard.kind == FIO2070_UNREADABLE && same_fault(heard.fault, FIO2070_WRONG_LENGTH, 0, 11, 10));
+}
+
+/* ---- Parts of a module ---- */
+
+static void counts(void) {
+    struct fio2070_counter counter;
+    memset(&counter, 0xa5, sizeof counter);
+    fio2070_counter_start(&counter);
+    fio2070_counter_line_sync(&counter);
+    fio2070_counter_ask_load(&counter, 65535);
+    CHECK(fio2070_counter_now(&counter) == 0);
+    fio2070_counter_ask_load(&counter, 5);
+    fio2070_counter_line_sync(&counter);
+    CHECK(fio2070_counter_now(&counter) == 5);
+    fio2070_counter_tick(&counter);
+    fio2070_counter_line_sync(&counter);
+    CHECK(fio2070_counter_now(&counter) == 6);
+    fio2070_counter_ask_load(&counter, 4294967295u);
+    fio2070_counter_line_sync(&counter);
+    fio2070_counter_tick(&counter);
+    CHECK(fio2070_counter_now(&counter) == 0);
+}
+
+static void filters(void) {
+    static const struct fio2070_configuration_item twice[] = {{12, 0, 5, 5}, {12, 0, 2, 2}};
+    static const struct fio2070_configuration_item absent[] = {{3, 0, 1, 1}, {64, 0, 1, 1}}, wave = {2, 0, 3, 2};
+    static const int samples[] = {1, 0, 0, 1, 0, 0, 0, 1, 0, 1, 1};
+    static struct fio2070_configuration_item many[256];
+    static struct fio2070_filters inputs;
+    struct fio2070_configured done;
+    int place;
+    memset(&inputs, 0xa5, sizeof inputs);
+    fio2070_filters_start(&inputs);
+    CHECK(fio2070_filters_raw(&inputs) == ~(uint64_t)0 && fio2070_filters_filtered(&inputs) == ~(uint64_t)0);
+    for (place = 0; place < 4; place++) CHECK(fio2070_filters_scan(&inputs, 0) == 0);
+    CHECK(fio2070_filters_filtered(&inputs) == ~(uint64_t)0 && fio2070_filters_raw(&inputs) == 0);
+    CHECK(fio2070_filters_scan(&inputs, 0) == 0 && fio2070_filters_filtered(&inputs) == 0);
+    /* The last item of an input holds, and a configuration starts its samples anew. */
+    fio2070_filters_start(&inputs);
+    CHECK(fio2070_filters_configure(&inputs, twice, 2).kind == FIO2070_APPLIED);
+    CHECK(fio2070_filters_scan(&inputs, 0) == 0);
+    CHECK(fio2070_filters_configure(&inputs, twice, 2).kind == FIO2070_APPLIED);
+    CHECK(fio2070_filters_scan(&inputs, 0) == 0 && fio2070_filters_scan(&inputs, 0) == 1 << 12);
+    done = fio2070_filters_configure(&inputs, absent, 2);
+    CHECK(done.kind == FIO2070_ABSENT_INPUT && done.place == 1);
+    done = fio2070_filters_configure(&inputs, many, 256);
+    CHECK(done.kind == FIO2070_TOO_MANY_ITEMS && done.place == 0);
+    /* Leading filter 3, trailing filter 2: transitions at the samples 7 and 11. */
+    fio2070_filters_start(&inputs);
+    CHECK(fio2070_filters_configure(&inputs, &wave, 1).kind == FIO2070_APPLIED);
+    for (place = 0; place < 11; place++) {
+        uint64_t wanted = place == 6 || place == 10 ? 4 : 0;
+        CHECK(fio2070_filters_scan(&inputs, (uint64_t)samples[place] << 2) == wanted);
+    }
+}
+
+/* ---- The module ---- */
+
+static struct fio2070_module device;
+
+static int answers(const char *octets, size_t length, const void *answer, size_t answer_length) {
+    uint8_t wanted[FIO2070_LONGEST_FRAME];
+    memset(wanted, '?', sizeof wanted);
+    memset(out, '?', sizeof out);
+    memcpy(wanted, answer, answer_length);
+    return fio2070_module_receive(&device, (const uint8_t *)octets, length, out) == answer_length &&
+           memcmp(out, wanted, sizeof out) == 0;
+}
+
+static void is_a_module(void) {
+    struct fio2070_outputs outputs;
+    memset(&device, 0xa5, sizeof device);
+    CHECK(fio2070_module_start(&device, 2, 0) == 1 && device.state.id == 0xa5);
+    CHECK(fio2070_module_start(&device, 2, 255) == 0);
+    CHECK(fio2070_module_waiting(&device) == 0 && fio2070_module_counter(&device) == 0);
+    CHECK(fio2070_module_filtered(&device) == ~(uint64_t)0 && fio2070_module_watchdog_ms(&device) == 0);
+    CHECK(answers("\x3c", 1, "\xbc\2", 2));
+    CHECK(answers("\x31\0", 2, "\xb1\x80\0\0\0\0\0\0", 8) && answers("\x31\x80", 2, "\xb1\0\0\0\0\0\0\0", 8));
+    fio2070_module_raise(&device, 3);
+    CHECK(answers("\x31\1", 2, "\xb1\2\0\0\0\0\0\0", 8));
+    CHECK(answers("\x38", 1, "", 0) && answers("\x33", 1, "", 0) && answers("", 0, "", 0));
+    CHECK(answers("\x33\1\x40\1\1", 5, "\xb3\1", 2) && answers("\x33\1\x0c\1\1", 5, "\xb3\0", 2));
+    CHECK(answers("\x32\0\0\3\xe6", 5, "\xb2\0", 2));
+    fio2070_module_line_sync(&device);
+    fio2070_module_scan(&device, ~((uint64_t)1 << 12));
+    CHECK(fio2070_module_counter(&device) == 999 && fio2070_module_waiting(&device) == 1);
+    CHECK(fio2070_module_filtered(&device) == ~((uint64_t)1 << 12));
+    CHECK(answers("\x34", 1, "\xb4\xff\xef\xff\xff\xff\xff\xff\xff\0\0\3\xe7", 13));
+    CHECK(answers("\x36\5", 2, "\xb6\5\1\x0c\3\xe7\0\0\0\3\xe7", 11));
+    CHECK(answers("\x36\5", 2, "\xb6\5\1\x0c\3\xe7\2\0\0\3\xe7", 11));
+    CHECK(answers("\x36\7", 2, "\xb6\7\0\1\0\0\3\xe7", 8));
+    CHECK(answers("\x37\1\2\3\4\5\6\7\x08\x09\0\0\0\0\0\0\0", 17, "\xb7\0\0\0\3\xe7", 6));
+    outputs = fio2070_module_outputs(&device);
+    CHECK(outputs.levels[0] == 1 && outputs.levels[7] == 8 && outputs.controls[0] == 9 && outputs.controls[1] == 0);
+    CHECK(answers("\x3a\5", 2, "\xba\0", 2) && fio2070_module_watchdog_ms(&device) == 10);
+    CHECK(answers("\x3a\xc8", 2, "\xba\1", 2) && fio2070_module_watchdog_ms(&device) == 100);
+    fio2070_module_restart(&device);
+    CHECK(fio2070_module_counter(&device) == 0 && fio2070_module_watchdog_ms(&device) == 0);
+    CHECK(answers("\x3c", 1, "\xbc\2", 2) && answers("\x31\0", 2, "\xb1\x80\0\0\0\0\0\0", 8));
+}
+
+/* 1,280 transitions where 1,024 may wait: the first block says that some were pushed out, and each
+ * block begins with the oldest entry that is left. */
+static void overflows(void) {
+    uint8_t configuration[2 + 64 * 3] = {51, 64};
+    int place, block;
+    for (place = 0; place < 64; place++) {
+        configuration[2 + 3 * place] = (uint8_t)place;
+        configuration[3 + 3 * place] = configuration[4 + 3 * place] = 1;
+    }
+    CHECK(fio2070_module_start(&device, 2, 255) == 0);
+    CHECK(fio2070_module_receive(&device, configuration, sizeof configuration, out) == 2 && out[1] == 0);
+    for (place = 0; place < 20; place++) fio2070_module_scan(&device, place % 2 ? ~(uint64_t)0 : 0);
+    CHECK(fio2070_module_waiting(&device) == 1024);
+    for (block = 0; block < 5; block++) {
+        uint8_t poll[2] = {54, (uint8_t)block}, count = block < 4 ? 255 : 4;
+        int first = 256 + 255 * block, scan = first / 64 + 1;
+        CHECK(fio2070_module_receive(&device, poll, 2, out) == 8 + 3 * (size_t)count);
+        CHECK(out[0] == 182 && out[1] == block && out[2] == count);
+        CHECK(out[3] == (first % 64 | (scan % 2 ? 0 : 128)) && out[4] == 0 && out[5] == scan);
+        CHECK(out[3 + 3 * count] == (block == 0 ? 12 : block < 4 ? 8 : 0) && out[7 + 3 * count] == 20);
+    }
+    CHECK(fio2070_module_waiting(&device) == 0);
+}
+
+int main(void) {
+    reads_blocks();
+    refuses();
+    says_faults();
+    writes_commands();
+    writes_answers();
+    reads_commands();
+    reads_answers();
+    hears();
+    counts();
+    filters();
+    is_a_module();
+    overflows();
+    printf("%d passed, %d failed\n", passed, failed);
+    return failed != 0;
+}
