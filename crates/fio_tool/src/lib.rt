@@ -8,8 +8,8 @@
 //! tool has done so, and it is never 2.
 //!
 //! The definitions stand in `specs/`, in this order: what is reported of an input with a fault
-//! (`Inputs`); the lines of each message (`ShowCommands`, `ShowAnswers`), what `show` writes of a
-//! text (`Show`); what `simulate` writes of one (`Simulation`); the lines of a transcript and what
+//! (`Inputs`); the lines of each message (`ShowCommands`, `ShowAnswers`, `ShowShort`), what `show`
+//! writes of a text (`Show`); what `simulate` writes of one (`Simulation`); the lines of a transcript and what
 //! they say (`Transcript`), its rules and the verdict on it (`TranscriptRules`), what is kept while it
 //! is checked (`TranscriptFacts`), what `check` writes of a text (`TranscriptTexts`); what is read and
 //! written (`Streams`), what each tool does (`Tools`), the command line (`CommandLine`), the exit

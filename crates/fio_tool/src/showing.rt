@@ -48,10 +48,7 @@ pub fn show_text(alloc: Global, input: &[u8]) -> Result<Report, Memory>
         let said = push_line(&mut text, &mut room, number, line)?;
         good &= said;
     }
-    Ok(Report {
-        text,
-        good,
-    })
+    Ok(Report { text, good })
 }
 
 /// Appends the text for a numbered line, whose octets are read into room for the longest frame, and

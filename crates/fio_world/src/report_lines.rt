@@ -131,11 +131,7 @@ fn push_counts(
 }
 
 /// An item of the record.
-fn push_item(
-    text: &mut Vec<u8>,
-    entry_lines: &mut EntryLines,
-    item: Item,
-) -> Result<(), AllocError>
+fn push_item(text: &mut Vec<u8>, entry_lines: &mut EntryLines, item: Item) -> Result<(), AllocError>
     ensures { OnOk result (text.new.items ≡ text.old.items ++ item_line item) }
 {
     match item {

@@ -14,6 +14,9 @@ pub use numbering::{NumberedLines, numbered_lines};
 pub use octets::{is_octets, read_octets_to};
 pub use printing::{FaultWords, Hexadecimal};
 pub use words::{
-    after_prefix, read_inputs, read_number, read_octet, read_octets, read_small_number, split_at_blank,
+    after_prefix, read_inputs, read_number, read_octet, read_octets, read_small_number,
+    split_at_blank,
 };
-pub use writing::{append_line, line_end, push_hexadecimal, put, put_decimal, put_hexadecimal, put_octet};
+pub use writing::{
+    append_line, line_end, push_hexadecimal, put, put_decimal, put_hexadecimal, put_octet,
+};

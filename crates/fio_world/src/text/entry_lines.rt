@@ -29,7 +29,7 @@ impl Model for EntryLines {
 
     // The line ends with the stamp and the wide time, behind room for what stands before them.
     ghost invariant = { λ v. (drop v.ending v.line ≡ scan_ending v.stamp v.wide)
-      × (64 ≤ v.ending) × (v.ending ≤ 128) };
+        × (64 ≤ v.ending) × (v.ending ≤ 128) };
 }
 
 impl EntryLines {
