@@ -1,0 +1,341 @@
+// The calls of fio2070.h for C++17: values that are always started, views of octets, optional results.
+// Header only; link libfio2070.a. Ranges, errors and sources are those of fio2070.h. Nothing here
+// throws but what a std::vector throws where memory runs out.
+#ifndef FIO2070_HPP
+#define FIO2070_HPP
+
+#include "fio2070.h"
+
+#include <array>
+#include <cstddef>
+#include <cstdint>
+#include <optional>
+#include <string>
+#include <type_traits>
+#include <vector>
+
+namespace fio2070 {
+
+using BlockHeader = ::fio2070_block_header;
+using Entry = ::fio2070_entry;
+using Command = ::fio2070_command;
+using ConfigurationItem = ::fio2070_configuration_item;
+using Answer = ::fio2070_answer;
+using RecordItem = ::fio2070_record_item;
+using Outputs = ::fio2070_outputs;
+
+/// A view of objects that someone else owns, as std::span has it: they must outlive it. It is given an
+/// array, a std::array, a std::vector or anything else with data() and size().
+template <typename T>
+class View {
+public:
+    constexpr View() = default;
+    constexpr View(T *data, std::size_t size) : data_(data), size_(size) {}
+    template <std::size_t Size>
+    constexpr View(T (&array)[Size]) : data_(array), size_(Size) {}
+    template <typename List, typename = std::enable_if_t<std::is_convertible_v<decltype(std::declval<List &>().data()), T *>>>
+    constexpr View(List &&list) : data_(list.data()), size_(list.size()) {}
+
+    /// Never null, as the library wants it.
+    constexpr T *data() const { return data_ != nullptr ? data_ : &nothing; }
+    constexpr std::size_t size() const { return size_; }
+    constexpr bool empty() const { return size_ == 0; }
+    constexpr T *begin() const { return data(); }
+    constexpr T *end() const { return data() + size_; }
+    constexpr T &operator[](std::size_t place) const { return data()[place]; }
+
+private:
+    inline static std::remove_const_t<T> nothing{};
+    T *data_ = nullptr;
+    std::size_t size_ = 0;
+};
+
+using Octets = View<const std::uint8_t>;
+
+/// Why octets are no message.
+class Fault {
+public:
+    constexpr explicit Fault(::fio2070_fault fault) : fault_(fault) {}
+    constexpr ::fio2070_fault_kind kind() const { return static_cast<::fio2070_fault_kind>(fault_.kind); }
+    constexpr std::uint8_t code() const { return fault_.code; }
+    constexpr std::size_t needed() const { return fault_.needed; }
+    constexpr std::size_t got() const { return fault_.got; }
+    /// As `fio2070 show` writes it.
+    std::string text() const {
+        std::array<std::uint8_t, FIO2070_LONGEST_FAULT_TEXT> octets{};
+        std::size_t count = ::fio2070_fault_text(&fault_, octets.data(), octets.size());
+        return std::string(octets.begin(), octets.begin() + static_cast<std::ptrdiff_t>(count));
+    }
+
+private:
+    ::fio2070_fault fault_;
+};
+
+/// A message, or why there is none.
+template <typename Message>
+class Read {
+public:
+    Read(const ::fio2070_fault &fault, const Message &message)
+        : fault_(fault), message_(fault.kind == FIO2070_NO_FAULT ? std::optional<Message>(message) : std::nullopt) {}
+    explicit operator bool() const { return message_.has_value(); }
+    const std::optional<Message> &message() const { return message_; }
+    const Message &operator*() const { return *message_; }
+    const Message *operator->() const { return &*message_; }
+    /// Of kind FIO2070_NO_FAULT where there is a message.
+    const Fault &fault() const { return fault_; }
+
+private:
+    Fault fault_;
+    std::optional<Message> message_;
+};
+
+inline Read<Command> decode_command(Octets octets) {
+    Command command{};
+    ::fio2070_fault fault = ::fio2070_decode_command(octets.data(), octets.size(), &command);
+    return {fault, command};
+}
+
+inline Read<Answer> decode_answer(Octets octets) {
+    Answer answer{};
+    ::fio2070_fault fault = ::fio2070_decode_answer(octets.data(), octets.size(), &answer);
+    return {fault, answer};
+}
+
+inline Read<BlockHeader> read_block(Octets octets) {
+    BlockHeader header{};
+    ::fio2070_fault fault = ::fio2070_read_block(octets.data(), octets.size(), &header);
+    return {fault, header};
+}
+
+/// The entries of a block answer; none where the octets are no block answer.
+inline std::vector<Entry> block_entries(Octets octets) {
+    std::vector<Entry> entries(FIO2070_MOST_ENTRIES);
+    entries.resize(::fio2070_block_entries(octets.data(), octets.size(), entries.data(), entries.size()));
+    return entries;
+}
+
+/// The items of a configuration; none where the octets are no configuration.
+inline std::vector<ConfigurationItem> command_items(Octets octets) {
+    std::vector<ConfigurationItem> items(FIO2070_MOST_ENTRIES);
+    items.resize(::fio2070_command_items(octets.data(), octets.size(), items.data(), items.size()));
+    return items;
+}
+
+/// The octets after the type of a message with a body.
+inline Octets body(Octets octets) { return octets.empty() ? octets : Octets(octets.data() + 1, octets.size() - 1); }
+
+inline std::uint32_t widen(std::uint32_t answer_stamp, std::uint16_t stamp) {
+    return ::fio2070_widen(answer_stamp, stamp);
+}
+
+/// A frame of at most 773 octets, in memory of its own.
+class Frame {
+public:
+    const std::uint8_t *data() const { return octets_.data(); }
+    std::size_t size() const { return size_; }
+    bool empty() const { return size_ == 0; }
+    const std::uint8_t *begin() const { return data(); }
+    const std::uint8_t *end() const { return data() + size_; }
+    std::uint8_t operator[](std::size_t place) const { return octets_[place]; }
+
+    /// What `write(out, room)` writes; none where it writes nothing.
+    template <typename Write>
+    static std::optional<Frame> of(Write write) {
+        std::optional<Frame> frame(std::in_place);
+        frame->size_ = write(frame->octets_.data(), frame->octets_.size());
+        if (frame->empty()) frame.reset();
+        return frame;
+    }
+
+private:
+    std::array<std::uint8_t, FIO2070_LONGEST_FRAME> octets_{};
+    std::size_t size_ = 0;
+};
+
+/// Commands. Those that are always written are values; the others are none where an item names an
+/// input above 127, or there is too much of something.
+namespace encode {
+inline Frame status(std::uint8_t clear) {
+    return *Frame::of([=](auto *out, auto room) { return ::fio2070_encode_status(clear, out, room); });
+}
+inline Frame load_counter(std::uint32_t load) {
+    return *Frame::of([=](auto *out, auto room) { return ::fio2070_encode_load_counter(load, out, room); });
+}
+inline std::optional<Frame> configure_inputs(View<const ConfigurationItem> items) {
+    return Frame::of([=](auto *out, auto room) {
+        return ::fio2070_encode_configure_inputs(items.data(), items.size(), out, room);
+    });
+}
+inline Frame raw_inputs() {
+    return *Frame::of([](auto *out, auto room) { return ::fio2070_encode_raw_inputs(out, room); });
+}
+inline Frame filtered_inputs() {
+    return *Frame::of([](auto *out, auto room) { return ::fio2070_encode_filtered_inputs(out, room); });
+}
+inline Frame poll(std::uint8_t block) {
+    return *Frame::of([=](auto *out, auto room) { return ::fio2070_encode_poll(block, out, room); });
+}
+inline Frame set_outputs(const Outputs &outputs) {
+    return *Frame::of([&](auto *out, auto room) {
+        return ::fio2070_encode_set_outputs(outputs.levels, outputs.controls, out, room);
+    });
+}
+inline Frame watchdog(std::uint8_t timeout) {
+    return *Frame::of([=](auto *out, auto room) { return ::fio2070_encode_watchdog(timeout, out, room); });
+}
+inline Frame identify() {
+    return *Frame::of([](auto *out, auto room) { return ::fio2070_encode_identify(out, room); });
+}
+inline std::optional<Frame> other_command(std::uint8_t code, Octets body) {
+    return Frame::of([=](auto *out, auto room) {
+        return ::fio2070_encode_other_command(code, body.data(), body.size(), out, room);
+    });
+}
+
+/// Answers.
+inline Frame status_answer(std::uint8_t flags, std::uint8_t receive_errors, std::uint8_t transmit_errors,
+                           std::uint32_t stamp) {
+    return *Frame::of([=](auto *out, auto room) {
+        return ::fio2070_encode_status_answer(flags, receive_errors, transmit_errors, stamp, out, room);
+    });
+}
+inline Frame load_counter_answer(std::uint8_t status) {
+    return *Frame::of([=](auto *out, auto room) { return ::fio2070_encode_load_counter_answer(status, out, room); });
+}
+inline Frame configure_inputs_answer(std::uint8_t status) {
+    return *Frame::of([=](auto *out, auto room) { return ::fio2070_encode_configure_inputs_answer(status, out, room); });
+}
+inline Frame raw_inputs_answer(std::uint64_t inputs, std::uint32_t stamp) {
+    return *Frame::of([=](auto *out, auto room) { return ::fio2070_encode_raw_inputs_answer(inputs, stamp, out, room); });
+}
+inline Frame filtered_inputs_answer(std::uint64_t inputs, std::uint32_t stamp) {
+    return *Frame::of([=](auto *out, auto room) {
+        return ::fio2070_encode_filtered_inputs_answer(inputs, stamp, out, room);
+    });
+}
+inline std::optional<Frame> block_answer(std::uint8_t block, View<const Entry> entries, std::uint8_t status,
+                                         std::uint32_t stamp) {
+    return Frame::of([=](auto *out, auto room) {
+        return ::fio2070_encode_block_answer(block, entries.data(), entries.size(), status, stamp, out, room);
+    });
+}
+inline Frame watchdog_answer(std::uint8_t status) {
+    return *Frame::of([=](auto *out, auto room) { return ::fio2070_encode_watchdog_answer(status, out, room); });
+}
+inline std::optional<Frame> other_answer(std::uint8_t code, Octets body) {
+    return Frame::of([=](auto *out, auto room) {
+        return ::fio2070_encode_other_answer(code, body.data(), body.size(), out, room);
+    });
+}
+} // namespace encode
+
+/// What a poller heard.
+class Heard {
+public:
+    constexpr explicit Heard(::fio2070_heard heard) : heard_(heard) {}
+    constexpr ::fio2070_heard_kind kind() const { return static_cast<::fio2070_heard_kind>(heard_.kind); }
+    constexpr bool is_taken() const { return heard_.kind == FIO2070_TAKEN; }
+    constexpr std::uint8_t entries() const { return heard_.entries; }
+    /// How many items joined the record.
+    constexpr std::uint16_t items() const { return heard_.items; }
+    constexpr std::uint8_t status() const { return heard_.status; }
+    constexpr std::uint8_t stale_number() const { return heard_.number; }
+    constexpr std::uint8_t other_code() const { return heard_.code; }
+    constexpr Fault fault() const { return Fault(heard_.fault); }
+
+private:
+    ::fio2070_heard heard_;
+};
+
+/// The CPU's end, with its record.
+class Poller {
+public:
+    explicit Poller(std::uint8_t number = 0) : poller_{number} {}
+    std::uint8_t number() const { return poller_.number; }
+    Frame poll() const { return encode::poll(poller_.number); }
+    /// Where memory runs out it throws std::bad_alloc, and nothing has changed.
+    Heard hear(Octets octets) {
+        std::array<RecordItem, FIO2070_MOST_RECORD_ITEMS> items{};
+        record_.reserve(room_for(items.size()));
+        Heard heard(::fio2070_poller_hear(&poller_, octets.data(), octets.size(), items.data(), items.size()));
+        if (heard.is_taken()) {
+            record_.insert(record_.end(), items.begin(), items.begin() + heard.items());
+        }
+        return heard;
+    }
+    const std::vector<RecordItem> &record() const { return record_; }
+
+private:
+    // Doubles, so that many blocks take few allocations.
+    std::size_t room_for(std::size_t more) const {
+        std::size_t needed = record_.size() + more;
+        return needed <= record_.capacity() ? needed : 2 * needed;
+    }
+    ::fio2070_poller poller_;
+    std::vector<RecordItem> record_;
+};
+
+/// The millisecond counter.
+class Counter {
+public:
+    Counter() { ::fio2070_counter_start(&counter_); }
+    void tick() { ::fio2070_counter_tick(&counter_); }
+    void ask_load(std::uint32_t number) { ::fio2070_counter_ask_load(&counter_, number); }
+    void line_sync() { ::fio2070_counter_line_sync(&counter_); }
+    std::uint32_t now() const { return ::fio2070_counter_now(&counter_); }
+
+private:
+    ::fio2070_counter counter_{};
+};
+
+/// The filters of the 64 inputs.
+class Filters {
+public:
+    Filters() { ::fio2070_filters_start(&filters_); }
+    ::fio2070_configured configure(View<const ConfigurationItem> items) {
+        return ::fio2070_filters_configure(&filters_, items.data(), items.size());
+    }
+    std::uint64_t scan(std::uint64_t raw) { return ::fio2070_filters_scan(&filters_, raw); }
+    std::uint64_t filtered() const { return ::fio2070_filters_filtered(&filters_); }
+    std::uint64_t raw() const { return ::fio2070_filters_raw(&filters_); }
+
+private:
+    ::fio2070_filters filters_{};
+};
+
+/// The module.
+class Module {
+public:
+    /// None where `per_block` is 0.
+    static std::optional<Module> start(std::uint8_t id, std::uint8_t per_block = FIO2070_MOST_ENTRIES) {
+        std::optional<Module> module{Module()};
+        if (::fio2070_module_start(&module->module_, id, per_block) != 0) module.reset();
+        return module;
+    }
+    void restart() { ::fio2070_module_restart(&module_); }
+    void scan(std::uint64_t raw) { ::fio2070_module_scan(&module_, raw); }
+    void line_sync() { ::fio2070_module_line_sync(&module_); }
+    void raise(std::uint8_t mask) { ::fio2070_module_raise(&module_, mask); }
+    /// The answer; none where there is none.
+    std::optional<Frame> receive(Octets octets) {
+        return Frame::of([&](auto *out, auto) {
+            return ::fio2070_module_receive(&module_, octets.data(), octets.size(), out);
+        });
+    }
+    Outputs outputs() const { return ::fio2070_module_outputs(&module_); }
+    /// None before the first command 58.
+    std::optional<std::uint8_t> watchdog_ms() const {
+        std::uint8_t timeout = ::fio2070_module_watchdog_ms(&module_);
+        return timeout != 0 ? std::optional<std::uint8_t>(timeout) : std::nullopt;
+    }
+    std::uint32_t counter() const { return ::fio2070_module_counter(&module_); }
+    std::uint64_t filtered() const { return ::fio2070_module_filtered(&module_); }
+    std::size_t waiting() const { return ::fio2070_module_waiting(&module_); }
+
+private:
+    Module() = default;
+    ::fio2070_module module_{};
+};
+
+} // namespace fio2070
+#endif

@@ -1,0 +1,112 @@
+// The worked examples by fio2070.hpp. The last line is `N passed, M failed`.
+#include "fio2070.hpp"
+
+#include <cstdio>
+
+static int passed, failed;
+#define CHECK(condition) check((condition), #condition, __LINE__)
+
+static void check(bool holds, const char *text, int line) {
+    (holds ? passed : failed)++;
+    if (!holds) std::printf("line %d: %s\n", line, text);
+}
+
+static std::vector<std::uint8_t> octets(const fio2070::Frame &frame) { return {frame.begin(), frame.end()}; }
+using List = std::vector<std::uint8_t>;
+
+static const List BLOCK = {0xb6, 5, 1, 0x8c, 3, 0xe7, 0, 0, 0, 3, 0xe8};
+
+static void reads_and_writes() {
+    CHECK(octets(fio2070::encode::poll(5)) == List({0x36, 5}));
+    CHECK(octets(fio2070::encode::load_counter(65536)) == List({0x32, 0, 1, 0, 0}));
+    CHECK(octets(fio2070::encode::status(0x80)) == List({0x31, 0x80}));
+    CHECK(octets(fio2070::encode::watchdog(200)) == List({0x3a, 200}));
+    CHECK(fio2070::encode::raw_inputs()[0] == 52 && fio2070::encode::filtered_inputs()[0] == 53);
+    CHECK(fio2070::encode::identify().size() == 1 && fio2070::encode::set_outputs({}).size() == 17);
+    CHECK(octets(*fio2070::encode::other_command(56, {})) == List({0x38}));
+    CHECK(!fio2070::encode::other_command(54, {}));
+    const fio2070::ConfigurationItem items[] = {{12, 0, 5, 3}, {3, 1, 0, 0}};
+    const std::array<fio2070::ConfigurationItem, 1> absent = {{{128, 0, 1, 1}}};
+    auto configuration = fio2070::encode::configure_inputs(items);
+    CHECK(configuration && octets(*configuration) == List({0x33, 2, 12, 5, 3, 0x83, 0, 0}));
+    CHECK(!fio2070::encode::configure_inputs(absent));
+    CHECK(fio2070::command_items(*configuration).size() == 2 && fio2070::command_items(*configuration)[1].ignore == 1);
+    auto command = fio2070::decode_command(fio2070::encode::poll(5));
+    CHECK(command && command->code == 54 && command->block == 5 && command.fault().kind() == FIO2070_NO_FAULT);
+    auto nothing = fio2070::decode_command(List());
+    CHECK(!nothing && !nothing.message() && nothing.fault().text() == "empty");
+    auto answer = fio2070::decode_answer(BLOCK);
+    CHECK(answer && (*answer).block == 5 && answer->count == 1 && answer->stamp == 1000);
+    auto cut = fio2070::read_block({BLOCK.data(), 1});
+    CHECK(!cut && cut.fault().text() == "wrong length needed 8 got 1" && cut.fault().needed() == 8);
+    CHECK(cut.fault().got() == 1 && cut.fault().code() == 0);
+    CHECK(fio2070::read_block(BLOCK)->number == 5);
+    auto entries = fio2070::block_entries(BLOCK);
+    CHECK(entries.size() == 1 && entries[0].input == 12 && entries[0].state == 1 && entries[0].stamp == 999);
+    CHECK(fio2070::widen(0x10002, 0xfffe) == 0xfffe && fio2070::body(BLOCK).size() == 10 && fio2070::body({}).empty());
+    CHECK(octets(*fio2070::encode::block_answer(5, entries, 0, 1000)) == BLOCK);
+    CHECK(octets(fio2070::encode::status_answer(0x80, 0, 1, 1000)) == List({0xb1, 0x80, 0, 1, 0, 0, 3, 0xe8}));
+    CHECK(octets(fio2070::encode::load_counter_answer(0xfe)) == List({0xb2, 0xfe}));
+    CHECK(octets(fio2070::encode::configure_inputs_answer(1)) == List({0xb3, 1}));
+    CHECK(octets(fio2070::encode::raw_inputs_answer(1, 2)) == List({0xb4, 1, 0, 0, 0, 0, 0, 0, 0, 0, 0, 0, 2}));
+    CHECK(octets(fio2070::encode::filtered_inputs_answer(1, 2)) == List({0xb5, 1, 0, 0, 0, 0, 0, 0, 0, 0, 0, 0, 2}));
+    CHECK(octets(fio2070::encode::watchdog_answer(1)) == List({0xba, 1}));
+    CHECK(octets(*fio2070::encode::other_answer(188, List({2}))) == List({0xbc, 2}));
+}
+
+static void polls_a_module() {
+    CHECK(!fio2070::Module::start(2, 0));
+    auto module = fio2070::Module::start(2);
+    fio2070::Poller poller(5);
+    CHECK(module && !module->watchdog_ms() && module->filtered() == ~std::uint64_t(0));
+    const fio2070::ConfigurationItem item[] = {{12, 0, 1, 1}};
+    CHECK(octets(*module->receive(*fio2070::encode::configure_inputs(item))) == List({0xb3, 0}));
+    CHECK(!module->receive(List({56})));
+    module->scan(~(std::uint64_t(1) << 12));
+    CHECK(module->counter() == 1 && module->waiting() == 1);
+    auto answer = module->receive(poller.poll());
+    CHECK(answer && octets(*answer) == List({0xb6, 5, 1, 12, 0, 1, 0, 0, 0, 0, 1}));
+    auto heard = poller.hear(*answer);
+    CHECK(heard.is_taken() && heard.entries() == 1 && heard.status() == 0 && poller.number() == 6);
+    CHECK(poller.record().size() == 1 && poller.record()[0].input == 12 && poller.record()[0].wide == 1);
+    CHECK(poller.hear(*answer).kind() == FIO2070_STALE && poller.hear(*answer).stale_number() == 5);
+    CHECK(poller.hear(List({0xb3, 0})).other_code() == 179);
+    CHECK(poller.hear(List()).kind() == FIO2070_UNREADABLE && poller.hear(List()).fault().text() == "empty");
+    CHECK(poller.hear(List({0xb6, 6, 0, 12, 0, 0, 0, 1})).is_taken() && poller.record().size() == 2);
+    CHECK(poller.record()[1].gap == 1);
+    module->receive(fio2070::encode::watchdog(200));
+    CHECK(module->watchdog_ms() == 100);
+    module->receive(fio2070::encode::load_counter(999));
+    module->line_sync();
+    CHECK(module->counter() == 999);
+    module->raise(1);
+    CHECK((*module->receive(fio2070::encode::status(0)))[1] == 0x81);
+    fio2070::Outputs outputs{};
+    outputs.levels[7] = 1;
+    module->receive(fio2070::encode::set_outputs(outputs));
+    CHECK(module->outputs().levels[7] == 1 && module->outputs().controls[7] == 0);
+    module->restart();
+    CHECK(module->counter() == 0 && module->outputs().levels[7] == 0);
+}
+
+static void has_parts() {
+    fio2070::Counter counter;
+    counter.tick();
+    counter.ask_load(5);
+    CHECK(counter.now() == 1);
+    counter.line_sync();
+    CHECK(counter.now() == 5);
+    fio2070::Filters filters;
+    const fio2070::ConfigurationItem items[] = {{12, 0, 2, 2}}, absent[] = {{64, 0, 1, 1}};
+    CHECK(filters.configure(items).kind == FIO2070_APPLIED && filters.configure(absent).kind == FIO2070_ABSENT_INPUT);
+    CHECK(filters.scan(0) == 0 && filters.scan(0) == 1 << 12 && filters.raw() == 0);
+    CHECK(filters.filtered() == ~(std::uint64_t(1) << 12));
+}
+
+int main() {
+    reads_and_writes();
+    polls_a_module();
+    has_parts();
+    std::printf("%d passed, %d failed\n", passed, failed);
+    return failed != 0;
+}
