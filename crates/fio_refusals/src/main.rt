@@ -117,6 +117,7 @@ fn report_texts(rows: &mut Rows<'_>, alloc: Global) {
         Ok(texts::script_with_a_fault(alloc)),
     );
     rows.report("report", texts::told(alloc));
+    rows.report("report_text", Ok(texts::told_of_text(alloc)));
     rows.report("read_trace", Ok(texts::transcript(alloc)));
     rows.report(
         "read_trace of faulty lines",

@@ -6,7 +6,7 @@ use crate::samples::{
 use fio_message::{DecodeError, Memory};
 use fio_tool::{TraceError, Verdict, check_trace, read_trace};
 use fio_world::text::read_octets;
-use fio_world::{ScriptError, push_fault, read_script, report};
+use fio_world::{ScriptError, push_fault, read_script, report, report_text};
 use std::alloc::Global;
 
 /// The words of a refusal at the end of a text, or the text as it was.
@@ -52,6 +52,16 @@ pub(crate) fn told(alloc: Global) -> Result<Answer, Memory> {
         }
         Err(Memory) => Answer::Refused(0),
     })
+}
+
+/// The same report from the text of the script.
+pub(crate) fn told_of_text(alloc: Global) -> Answer {
+    match report_text(alloc, LOST_ANSWER.script) {
+        Ok(report) => {
+            Answer::right_if(report.good && report.text.as_slice() == LOST_ANSWER_REPORT)
+        }
+        Err(fault) => Answer::refused_if(fault == ScriptError::Memory),
+    }
 }
 
 /// A transcript of five frames.

@@ -6,7 +6,7 @@ ghost use Rattle.fio_world.specs.declared.script.ScriptError.TheVariants as erro
 use crate::inputs::{is_too_long, report_too_long};
 use fio_message::Memory;
 use fio_world::text::FaultWords;
-use fio_world::{Report, ScriptError, read_script, report};
+use fio_world::{Report, ScriptError, report_text};
 use std::alloc::{AllocError, Global};
 
 /// The number of the line that is a script's header.
@@ -23,8 +23,8 @@ pub fn simulate_text(alloc: Global, input: &[u8]) -> Result<Report, Memory>
     if is_too_long(input) {
         return report_too_long(alloc);
     }
-    match read_script(alloc, input) {
-        Ok(script) => report(alloc, &script),
+    match report_text(alloc, input) {
+        Ok(report) => Ok(report),
         Err(ScriptError::Memory) => Err(Memory),
         Err(fault) => refused_script(alloc, fault),
     }

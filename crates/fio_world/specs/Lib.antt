@@ -19,6 +19,7 @@ pub mod Worlds
 pub mod Forms
 pub mod Headers
 pub mod EventLines
+pub mod Steps
 pub mod Scripts
 pub mod ReportLines
 pub mod Reports

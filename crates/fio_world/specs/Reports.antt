@@ -1,11 +1,12 @@
 -- The report of a script: a line for each event of its run, and then how it ended.
-use Rattle.std.specs.Prelude.{◌≡◌, ℕ, ◌+◌, Bool, true, false, List, [], ◌∷◌, ◌++◌, Option, Some, None}
+use Rattle.std.specs.Prelude.{◌≡◌, ℕ, ◌+◌, Bool, true, false, List, [], ◌∷◌, ◌++◌, Option, Some, None, Result, Ok, Err}
 use Rattle.fio_module.specs.Settings.{Settings}
 use Rattle.fio_world.specs.declared.event.Event.{Event}
 use Rattle.fio_world.specs.Link.{Machine, Refusal, start, refusal, after, IsRun}
 use Rattle.fio_world.specs.Worlds.{outcome_of}
 use Rattle.fio_world.specs.ReportLines.{outcome_line, refused_line, ending_text}
 use Rattle.fio_world.specs.Scripts.{Scenario}
+use Rattle.fio_world.specs.declared.script.ScriptError.{ScriptError}
 
 -- a text, and whether it reports no fault
 pub record Telling : Type 0 where
@@ -34,6 +35,12 @@ told_from settings first number machine (event ∷ events) =
 -- the report of a script
 abbrev pub report_of : Scenario → Telling
 report_of scenario = told_from scenario.settings scenario.first 1 start scenario.events
+
+-- a text spells a script, and this is its report
+abbrev pub Reports : Result Scenario ScriptError → List ℕ → Bool → Type 0
+Reports (Ok scenario) text good =
+    (text ≡ (report_of scenario).text) × (good ≡ (report_of scenario).good)
+Reports (Err fault) text good = ⊥
 
 -- ---- the law of reports
 

@@ -26,12 +26,16 @@ readings most restarts lines =
 abbrev pub events_of : Bool → List (List ℕ) → Result (List Event) ScriptError
 events_of restarts lines = collected (readings 10000 restarts (numbered 2 lines))
 
-abbrev pub with_events : Header → Result (List Event) ScriptError → Result Scenario ScriptError
-with_events header (Ok events) = Ok (record {
+-- what a header says, and what happens below it
+abbrev pub scenario_below : Header → List Event → Scenario
+scenario_below header events = record {
   settings = settings_with header.id header.limits;
   first = header.first;
   events = events;
-})
+}
+
+abbrev pub with_events : Header → Result (List Event) ScriptError → Result Scenario ScriptError
+with_events header (Ok events) = Ok (scenario_below header events)
 with_events header (Err fault) = Err fault
 
 abbrev pub below : Option Header → List (List ℕ) → Result Scenario ScriptError

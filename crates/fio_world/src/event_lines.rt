@@ -1,10 +1,12 @@
 //! A script's further lines: one event each.
-ghost use Rattle.std.specs.Prelude.{◌≡◌};
+ghost use Rattle.std.specs.Prelude.{◌≡◌, option_map};
 ghost use Rattle.fio_world.specs.EventLines.{event_at, frame_at, plain_event};
 ghost use Rattle.fio_world.specs.Hexadecimal.{octets_in};
+ghost use Rattle.fio_world.specs.Steps.{event_of};
 
 use crate::event::Event;
 use crate::script::ScriptError;
+use crate::steps::{Form, Step};
 use crate::text::{after_prefix, read_inputs, read_number, read_octet, read_octets_to};
 use fio_message::{DecodeError, decode_command};
 
@@ -15,7 +17,32 @@ pub(crate) fn read_event(number: usize, line: &[u8], restarts: bool) -> Result<E
     if let Some(word) = after_prefix(line, b"send ") {
         return read_sending(number, word);
     }
-    read_plain(line, restarts).ok_or(ScriptError::BadLine { line: number })
+    match read_plain(line, restarts) {
+        Some(form) => Ok(form.event()),
+        None => Err(ScriptError::BadLine { line: number }),
+    }
+}
+
+/// The same event, kept in the form of its line.
+pub(crate) fn read_step<'a>(
+    number: usize,
+    line: &'a [u8],
+    restarts: bool,
+) -> Result<Step<'a>, ScriptError>
+    ensures { result ≡ event_at restarts (number, line.now) }
+{
+    if let Some(word) = after_prefix(line, b"send ") {
+        return match read_sending(number, word) {
+            Ok(_) => Ok(Step {
+                form: Form::Send(word),
+            }),
+            Err(fault) => Err(fault),
+        };
+    }
+    match read_plain(line, restarts) {
+        Some(form) => Ok(Step { form }),
+        None => Err(ScriptError::BadLine { line: number }),
+    }
 }
 
 /// The sending of the command that the word's octets spell.
@@ -42,27 +69,27 @@ fn read_sending(number: usize, word: &[u8]) -> Result<Event, ScriptError>
 }
 
 /// The event of a line that sends no command.
-fn read_plain(line: &[u8], restarts: bool) -> Option<Event>
-    ensures { result ≡ plain_event restarts line.now }
+fn read_plain<'a>(line: &'a [u8], restarts: bool) -> Option<Form<'a>>
+    ensures { option_map event_of result ≡ plain_event restarts line.now }
 {
     if line == b"sync".as_slice() {
-        return Some(Event::LineSync);
+        return Some(Form::LineSync);
     }
     if line == b"poll".as_slice() {
-        return Some(Event::Poll);
+        return Some(Form::Poll);
     }
     if line == b"restart".as_slice() {
-        return restarts.then_some(Event::Restart);
+        return restarts.then_some(Form::Restart);
     }
     if let Some(word) = after_prefix(line, b"scan ") {
-        return read_inputs(word).map(Event::Scan);
+        return Some(Form::Scan(read_inputs(word)?));
     }
     if let Some(word) = after_prefix(line, b"raise ") {
-        return read_octet(word).map(Event::Raise);
+        return Some(Form::Raise(read_octet(word)?));
     }
     if let Some(word) = after_prefix(line, b"to-module ") {
-        return read_number(word).map(Event::ToModule);
+        return Some(Form::ToModule(read_number(word)?));
     }
     let word = after_prefix(line, b"to-cpu ")?;
-    read_number(word).map(Event::ToCpu)
+    Some(Form::ToCpu(read_number(word)?))
 }

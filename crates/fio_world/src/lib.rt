@@ -12,7 +12,8 @@
 //! (`Rounds`), the rising record, through restarts too (`Rising`), all of it for one run (`Sound`); then
 //! what contracts see of a world (`Ends`) over frames that stand end to end (`EndToEnd`), what an event
 //! did (`Done`) and how a world shows the machine (`Worlds`); then forms of lines
-//! (`Forms`), a script's first line (`Headers`), its further lines (`EventLines`), scripts (`Scripts`), the
+//! (`Forms`), a script's first line (`Headers`), its further lines (`EventLines`), the steps that they
+//! are kept as (`Steps`), scripts (`Scripts`), the
 //! lines of a report (`ReportLines`), reports (`Reports`). The laws are the contracts of the module `laws`.
 #![tactic(auto)]
 
@@ -26,7 +27,9 @@ mod reporting;
 mod reports;
 mod script;
 mod scripts;
+mod steps;
 pub mod text;
+mod text_reports;
 mod world;
 
 pub use event::Event;
@@ -35,4 +38,5 @@ pub use reporting::report;
 pub use reports::{Report, push_fault};
 pub use script::{Script, ScriptError};
 pub use scripts::read_script;
+pub use text_reports::report_text;
 pub use world::World;

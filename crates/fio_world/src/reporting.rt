@@ -41,7 +41,12 @@ pub fn report(alloc: Global, script: &Script) -> Result<Report, Memory>
 }
 
 /// What the event with this number did, in the world after it.
-fn push_done(text: &mut Vec<u8>, number: usize, world: &World, done: Done) -> Result<(), AllocError>
+pub(crate) fn push_done(
+    text: &mut Vec<u8>,
+    number: usize,
+    world: &World,
+    done: Done,
+) -> Result<(), AllocError>
     ensures { OnOk result (text.new.items
         ≡ text.old.items ++ outcome_line number (outcome_in world.now done)) }
 {

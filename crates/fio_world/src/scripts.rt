@@ -4,9 +4,10 @@ ghost use Rattle.fio_world.specs.Lines.{lines_of};
 ghost use Rattle.fio_world.specs.Scripts.{events_of, scenario_of, script_in, HasGoodFront, HaveGoodFront};
 
 use crate::event::Event;
-use crate::event_lines::read_event;
+use crate::event_lines::{read_event, read_step};
 use crate::headers::{Header, read_header};
 use crate::script::{Script, ScriptError};
+use crate::steps::Step;
 use crate::text::{numbered_lines, split_line};
 use std::alloc::Global;
 
@@ -62,4 +63,25 @@ fn read_events(alloc: Global, text: &[u8], restarts: bool) -> Result<Vec<Event>,
         events.push(event)?;
     }
     Ok(events)
+}
+
+/// The same events, each kept as a step.
+pub(crate) fn read_steps<'a>(
+    alloc: Global,
+    text: &'a [u8],
+    restarts: bool,
+) -> Result<Vec<Step<'a>>, ScriptError>
+    ensures ok { IfOk result (λ steps. events_of restarts (lines_of text.now) ≡ Ok steps.items) }
+    ensures err { IfErr result (λ fault. fault ≢ ScriptError.Memory
+        → events_of restarts (lines_of text.now) ≡ Err fault) }
+{
+    let mut steps = Vec::new(alloc);
+    'lines: for (number, line) in numbered_lines(text, 2) {
+        if steps.len() == MAX_EVENTS {
+            return Err(ScriptError::TooManyEvents { line: number });
+        }
+        let step = read_step(number, line, restarts)?;
+        steps.push(step)?;
+    }
+    Ok(steps)
 }

@@ -1,4 +1,5 @@
-use fio_world::{Report, ScriptError, read_script, report};
+use fio_message::DecodeError;
+use fio_world::{Report, ScriptError, read_script, report, report_text};
 use std::alloc::Global;
 
 /// The report of the script that a text spells.
@@ -49,4 +50,39 @@ fn a_lost_answer(rt: HostRuntime) {
     let report = report.expect(&rt, "a script, and memory for its report");
     assert_eq!(rt; report.text.as_slice(), LOST_BLOCK_REPORT);
     assert!(rt; report.good);
+}
+
+#[test]
+fn a_lost_answer_from_its_text(rt: HostRuntime) {
+    let report = report_text(rt.alloc(), LOST_BLOCK);
+    let report = report.expect(&rt, "a script, and memory for its report");
+    assert_eq!(rt; report.text.as_slice(), LOST_BLOCK_REPORT);
+    assert!(rt; report.good);
+}
+
+/// What is read of a text that spells no script.
+fn fault_of(alloc: Global, text: &[u8]) -> Option<ScriptError> {
+    report_text(alloc, text).err()
+}
+
+#[test]
+fn texts_with_no_report(rt: HostRuntime) {
+    let alloc = rt.alloc();
+    assert_eq!(rt; fault_of(alloc, b""), Some(ScriptError::BadHeader));
+    let restart = b"fio2070 script 1 2 0\n\nrestart\n".as_slice();
+    assert_eq!(rt;
+        fault_of(alloc, restart),
+        Some(ScriptError::BadLine { line: 3 })
+    );
+    let unread = b"fio2070 script 2 2 0\nto-cpu 1\nsend 3\n".as_slice();
+    assert_eq!(rt;
+        fault_of(alloc, unread),
+        Some(ScriptError::BadLine { line: 3 })
+    );
+    let short = b"fio2070 script 2 2 0\npoll\nsend 36\n".as_slice();
+    let fault = DecodeError::WrongLength { needed: 2, got: 1 };
+    assert_eq!(rt;
+        fault_of(alloc, short),
+        Some(ScriptError::BadFrame { line: 3, fault })
+    );
 }

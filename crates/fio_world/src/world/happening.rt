@@ -4,6 +4,7 @@ ghost use Rattle.fio_module.specs.Settings.{Settings};
 ghost use Rattle.fio_world.specs.declared.event.Event.TheVariants as events;
 ghost use Rattle.fio_world.specs.Done.{octets_numbered, outcome_in, result_in};
 ghost use Rattle.fio_world.specs.Link.{Machine};
+ghost use Rattle.fio_world.specs.Steps.{event_of};
 ghost use Rattle.fio_world.specs.Worlds.{Shows, Steps};
 
 use super::World;
@@ -11,6 +12,7 @@ use super::done::Done;
 use super::frames::{check_delivery, frame_of};
 use crate::event::Event;
 use crate::outcome::{Outcome, WorldError};
+use crate::steps::{Form, Step, command_named};
 use fio_message::{Command, Memory, encode_command};
 
 impl World {
@@ -23,30 +25,73 @@ impl World {
         ensures err { OnErr result (self.new ≡ self.old) }
     {
         match event {
-            Event::Scan(raw) => {
+            Event::Scan(raw) => self.take(&Form::Scan(*raw)),
+            Event::LineSync => self.take(&Form::LineSync),
+            Event::Raise(mask) => self.take(&Form::Raise(*mask)),
+            Event::Poll => self.take(&Form::Poll),
+            Event::Send(command) => self.send_command(command),
+            Event::ToModule(index) => self.take(&Form::ToModule(*index)),
+            Event::ToCpu(index) => self.take(&Form::ToCpu(*index)),
+            Event::Restart => self.take(&Form::Restart),
+        }
+    }
+
+    /// The same of the event that a step is.
+    pub(crate) fn take_step(&mut self, step: &Step<'_>) -> Result<Done, WorldError>
+        ensures row { (settings : Settings) (first : ℕ) (machine : Machine)
+            → Shows settings first machine self.old
+            → Steps settings first machine step.now (result_in self.new result) self.new }
+        ensures err { OnErr result (self.new ≡ self.old) }
+    {
+        self.take(&step.form)
+    }
+
+    /// The same of an event in the form of its line.
+    fn take(&mut self, form: &Form<'_>) -> Result<Done, WorldError>
+        ensures row { (settings : Settings) (first : ℕ) (machine : Machine)
+            → Shows settings first machine self.old
+            → Steps settings first machine (event_of form.now) (result_in self.new result)
+            self.new }
+        ensures err { OnErr result (self.new ≡ self.old) }
+    {
+        match form {
+            Form::Scan(raw) => {
                 self.module.scan(*raw);
                 Ok(Done::Quiet)
             }
-            Event::LineSync => {
+            Form::LineSync => {
                 self.module.line_sync();
                 Ok(Done::Quiet)
             }
-            Event::Raise(mask) => {
+            Form::Raise(mask) => {
                 self.module.raise(*mask);
                 Ok(Done::Quiet)
             }
-            Event::Restart => {
+            Form::Restart => {
                 self.module.restart();
                 Ok(Done::Quiet)
             }
-            Event::Poll => {
+            Form::Poll => {
                 let frame = self.poller.poll();
                 self.send(&frame)
             }
-            Event::Send(Command::Poll { .. }) => Err(WorldError::PollIsOurs),
-            Event::Send(command) => self.send(&encode_command(command)),
-            Event::ToModule(index) => self.deliver_to_module(*index),
-            Event::ToCpu(index) => self.deliver_to_cpu(*index),
+            Form::Send(word) => self.send_command(&command_named(word)),
+            Form::ToModule(index) => self.deliver_to_module(*index),
+            Form::ToCpu(index) => self.deliver_to_cpu(*index),
+        }
+    }
+
+    /// The CPU sends a command, unless it is a poll.
+    fn send_command(&mut self, command: &Command) -> Result<Done, WorldError>
+        ensures row { (settings : Settings) (first : ℕ) (machine : Machine)
+            → Shows settings first machine self.old
+            → Steps settings first machine (events.Send command.now) (result_in self.new result)
+            self.new }
+        ensures err { OnErr result (self.new ≡ self.old) }
+    {
+        match command {
+            Command::Poll { .. } => Err(WorldError::PollIsOurs),
+            command => self.send(&encode_command(command)),
         }
     }
 

@@ -1,4 +1,4 @@
-use Rattle.std.proofs.Common.{◌≡◌, ◌≤◌, [], vec_len}
+use Rattle.std.proofs.Common.{◌≡◌, ◌≤◌, vec_len}
 use Rattle.fio_world.specs.Lines.{lines_of, numbered}
 use Rattle.fio_world.specs.Scripts.{events_of}
 use Rattle.fio_world.proofs.ReadingLemmas.{read_on, HaveRead}

@@ -1,4 +1,4 @@
-use Rattle.std.proofs.Common.{Err, sym, ap, ◌∙◌}
+use Rattle.std.proofs.Common.{sym, ◌∙◌}
 use Rattle.std.proofs.lemmas.Result.{err_from_is_err_and}
 use Rattle.fio_world.proofs.ReadingLemmas.{front_with_header}
 use Rattle.fio_world.proofs.scripts.read_script.Goals as goal

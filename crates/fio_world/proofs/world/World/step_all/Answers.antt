@@ -2,7 +2,7 @@ use Rattle.std.proofs.Common.{◌≡◌, ◌+◌, List, ◌∷◌, ◌++◌, [],
 use Rattle.std.proofs.lemmas.List.{take_all}
 use Rattle.std.proofs.lemmas.Option.{slice_get_read}
 use Rattle.fio_world.specs.declared.event.Event.{Event}
-use Rattle.fio_world.specs.Worlds.{events_done, Shows, StandsFor, IsSoundWorld}
+use Rattle.fio_world.specs.Worlds.{events_done, Shows, StandsFor}
 use Rattle.fio_world.proofs.Places.{take_one_more}
 use Rattle.fio_world.proofs.SoundWorlds.{sound_world, stands_for, headline_of}
 use Rattle.fio_world.proofs.world.World.step_all.Goals as goal

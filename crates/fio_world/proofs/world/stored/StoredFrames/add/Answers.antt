@@ -1,4 +1,4 @@
-use Rattle.std.proofs.Common.{◌≡◌, ◌+◌, ◌∷◌, ◌++◌, [], List, ℕ, true, length, ap, sym, ◌∙◌, arith, length-append}
+use Rattle.std.proofs.Common.{◌≡◌, ◌+◌, ◌∷◌, ◌++◌, [], length, ap, ◌∙◌, arith, length-append}
 use Rattle.fio_world.specs.EndToEnd.{frames_in, is_cut, are_short}
 use Rattle.fio_world.proofs.EndToEndLemmas.{frames-append, cut-append, short-push}
 use Rattle.fio_world.proofs.world.stored.StoredFrames.add.Goals as goal

@@ -1,0 +1,34 @@
+use Rattle.std.proofs.Common.{◌<◌, sym, ◌∙◌, vec_len, rules, arith}
+use Rattle.std.proofs.lemmas.Grind.{common_steps}
+use Rattle.std.proofs.lemmas.Result.{err_from_is_err_and}
+use Rattle.fio_world.proofs.ReadingLemmas.{read_on-start, read_on-end, read_on-event, read_on-fault}
+use Rattle.fio_world.proofs.scripts.read_steps.Goals as goal
+
+pub lines-init : goal.lines-init
+lines-init c =
+    let all = c.into_iter-number-iterator.ensures.into_iter_gives ∙ c.numbered_lines-number-items.ensures in
+    record {
+      events = read_on-start _ _ c.args.restarts _ _ c.new-steps.ensures.items c.new-steps.ensures.len all;
+      few = omega arith;
+    }
+
+pub lines-preserved : goal.lines-preserved
+lines-preserved c =
+    let few : vec_len c.lines.steps < 10000 = search rules in
+    let gives = sym c.in_ok-step.ensures in
+    record {
+      events = rw (c.in_ok-push.ensures.items, c.in_ok-push.ensures.len)
+          (sym (read_on-event _ _ _ _ _ _ few gives) ∙ rw c.in-Some.ensures.steps at c.lines.invariant.events);
+      few = omega (arith, few, c.in_ok-push.ensures.len);
+    }
+
+pub returns-in_err-step-clause-err : goal.returns-in_err-step-clause-err
+returns-in_err-step-clause-err c =
+    let fault = err_from_is_err_and c.from_residual.result c.from_residual.ensures.1 in
+    let few : vec_len c.lines.steps < 10000 = search rules in
+    rw (fault.1, fault.2) (λ told.
+    sym c.lines.invariant.events
+    ∙ read_on-fault _ _ _ _ _ _ _ c.in-Some.ensures.steps few (sym c.in_err-step.ensures))
+
+pub returns-clause-ok : goal.returns-clause-ok
+returns-clause-ok c = grind (arith, common_steps, read_on-end)

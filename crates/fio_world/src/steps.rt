@@ -1,0 +1,81 @@
+//! An event as a line of a script writes it, in 24 octets.
+ghost use Rattle.std.specs.Prelude.{◌≡◌};
+ghost use Rattle.fio_world.specs.Steps.{command_named, event_of};
+
+use crate::event::Event;
+use crate::text::read_octets_to;
+use fio_message::{Command, decode_command};
+use std::marker::Model;
+
+/// An event of a script. The command of a `send` stays a word of the text.
+#[derive(Clone, Copy, Debug)]
+pub(crate) enum Form<'a> {
+    /// As `Event::Scan`.
+    Scan(u64),
+    /// As `Event::LineSync`.
+    LineSync,
+    /// As `Event::Raise`.
+    Raise(u8),
+    /// As `Event::Poll`.
+    Poll,
+    /// The CPU sends the command that the word's octets spell.
+    Send(&'a [u8]),
+    /// As `Event::ToModule`.
+    ToModule(usize),
+    /// As `Event::ToCpu`.
+    ToCpu(usize),
+    /// As `Event::Restart`.
+    Restart,
+}
+
+/// An event that is kept in this form.
+#[derive(Debug, Drop)]
+pub(crate) struct Step<'a> {
+    /// What the event is.
+    pub form: Form<'a>,
+}
+
+impl<'a> Model for Step<'a> {
+    ghost use Rattle.fio_world.specs.Steps.{event_of};
+    ghost use Rattle.fio_world.specs.declared.event.Event.{Event as Happening};
+
+    ghost Value = { Happening };
+
+    ghost view = { λ s. event_of s.form };
+}
+
+impl<'a> Form<'a> {
+    /// The event that this is.
+    pub(crate) fn event(&self) -> Event
+        ensures { result ≡ event_of self.now }
+    {
+        match self {
+            Form::Scan(raw) => Event::Scan(*raw),
+            Form::LineSync => Event::LineSync,
+            Form::Raise(mask) => Event::Raise(*mask),
+            Form::Poll => Event::Poll,
+            Form::Send(word) => Event::Send(command_named(word)),
+            Form::ToModule(index) => Event::ToModule(*index),
+            Form::ToCpu(index) => Event::ToCpu(*index),
+            Form::Restart => Event::Restart,
+        }
+    }
+}
+
+/// The command that a word's octets spell. A word that spells none gives a poll, which a world refuses.
+#[tactic(auto, using(crate::proofs::FrameWords::decodes_none))]
+pub(crate) fn command_named(word: &[u8]) -> Command
+    ensures { result ≡ command_named word.now }
+{
+    let mut room = [0; 773];
+    let Some(count) = read_octets_to(word, &mut room) else {
+        return Command::Poll { block: 0 };
+    };
+    if count > room.len() {
+        return Command::Poll { block: 0 };
+    }
+    match decode_command(&room[..count]) {
+        Ok(command) => command,
+        Err(_) => Command::Poll { block: 0 },
+    }
+}
