@@ -12,6 +12,8 @@ from pathlib import Path
 TOP = Path(__file__).resolve().parent.parent
 RUNNER = Path(__file__).resolve().parent / 'run.c'
 COLLECTED = re.compile(r'Collected : (\d+)')
+# A function's share in the lines of callgrind_annotate.
+SHARE = re.compile(r'^ *[\d,]+ \( ?([\d.]+)%\)  [^ ]*?:([^/]+?)(?: \[[^]]*\])?$', re.M)
 
 
 class Failed(Exception):
@@ -20,7 +22,10 @@ class Failed(Exception):
 
 def succeed(command, **options):
     """What a command writes to standard output. It has to end with status 0."""
-    done = subprocess.run([str(word) for word in command], capture_output=True, text=True, check=False, **options)
+    try:
+        done = subprocess.run([str(word) for word in command], capture_output=True, text=True, check=False, **options)
+    except OSError as fault:
+        raise Failed(f'{command[0]}: {fault.strerror}') from fault
     if done.returncode != 0:
         raise Failed(f'{shlex.join(str(word) for word in command)}\n{done.stdout}{done.stderr}')
     return done.stdout
@@ -38,12 +43,18 @@ def build_peer(folder):
     return Path(folder).resolve() / 'target/release/fio2070'
 
 
+def plain_name(name):
+    """The name of a function without the hash of its types, or without what processor a C function is for."""
+    return re.sub(r'^__(mem\w+?)_(?:avx|sse|evex).*', r'\1', re.sub(r'::<#\w+>', '', name))
+
+
 class Bench:
     """Measures runs of programs. A run has one word and an input."""
 
     def __init__(self, folder):
         self.folder = Path(folder)
         self.runner = self.folder / 'run'
+        self.notes = self.folder / 'callgrind.out'
         compiler = shlex.split(os.environ.get('CC') or 'cc')
         succeed([*compiler, '-O2', '-o', self.runner, RUNNER])
 
@@ -57,7 +68,7 @@ class Bench:
         """How many instructions a run takes, `None` where there is no valgrind."""
         if shutil.which('valgrind') is None:
             return None
-        notes = self.folder / 'callgrind.out'
+        notes = self.notes
         command = ['valgrind', '--tool=callgrind', f'--callgrind-out-file={notes}', program, word]
         with path.open() as text:
             done = subprocess.run(command, stdin=text, stdout=subprocess.DEVNULL, stderr=subprocess.PIPE, text=True,
@@ -67,6 +78,11 @@ class Bench:
             raise Failed(f'{shlex.join(map(str, command))}\n{done.stderr}')
         return int(found.group(1))
 
+    def shares(self):
+        """The functions of the run that was counted last, with their shares of its instructions in percent."""
+        text = succeed(['callgrind_annotate', '--show-percs=yes', self.notes])
+        return [(float(share), plain_name(name)) for share, name in SHARE.findall(text)]
+
     def times(self, programs, word, path, rounds):
         """The median of a run's milliseconds, and of the most memory that it holds in MB, for each of the programs,
         which run in turns."""
@@ -75,8 +91,8 @@ class Bench:
             for place, program in enumerate(programs):
                 line = succeed([self.runner, path, 1, program, word])
                 runs[place].append([int(number) for number in line.split()])
-        return [(statistics.median(run[0] for run in some) / 1e6, statistics.median(run[1] for run in some) / 1e3)
-                for some in runs]
+        return [(statistics.median(run[0] for run in some) / 1e6,
+                 statistics.median(run[1] for run in some) * 1024 / 1e6) for some in runs]
 
 
 def folder_for_work():

@@ -1,6 +1,8 @@
 """Tables of what was measured, in Markdown."""
 
+import os
 import re
+import shutil
 import subprocess
 from pathlib import Path
 
@@ -37,7 +39,7 @@ def heads_of(name, pair):
 
 
 def millions(bench, program, word, path):
-    """Instructions of a run in millions."""
+    """Instructions of a run in millions, `None` where there is no valgrind."""
     count = bench.instructions(program, word, path)
     return None if count is None else count / 1e6
 
@@ -58,18 +60,33 @@ def of_programs(bench, pair, inputs, rounds):
 
 
 def of_growth(bench, pair):
-    """Instructions, or times where there is no valgrind, at three sizes of each input."""
+    """Instructions at three sizes of each input, or times where there is no valgrind."""
     rows = []
     for name in workloads.NAMES:
         word = name.split('-', maxsplit=1)[0]
         paths = [bench.keep(f'{name}-{part}', workloads.make(name, part)) for part, _ in PARTS]
         row = [name]
         for program in pair:
-            row += [figure(millions(bench, program, word, path), 2) for path in paths]
+            counts = [millions(bench, program, word, path) for path in paths]
+            if None in counts:
+                counts = [bench.times([program], word, path, 11)[0][0] for path in paths]
+            row += [figure(count, 2) for count in counts]
         rows.append(row)
-    heads = [f'instructions, millions: {size}' for _, size in PARTS]
+    quantity = 'time, ms' if shutil.which('valgrind') is None else 'instructions, millions'
+    heads = [f'{quantity}: {size}' for _, size in PARTS]
     heads += [f'peer: {size}' for _, size in PARTS] if len(pair) == 2 else []
     return table(['Input', *heads], rows)
+
+
+def of_profile(bench, program):
+    """The functions that take most of the instructions of each input, a function with those that it has inlined."""
+    rows = []
+    for name in workloads.NAMES:
+        path = bench.keep(name, workloads.make(name))
+        if bench.instructions(program, name.split('-', maxsplit=1)[0], path) is None:
+            return ''
+        rows.append([name, ', '.join(f'`{call}` {share:.0f} %' for share, call in bench.shares()[:6] if share >= 2)])
+    return table(['Input', 'functions'], rows).replace('---:', '---')
 
 
 def of_calls(found):
@@ -79,18 +96,19 @@ def of_calls(found):
     return table(heads, rows).replace('| --- | ---: |', '| --- | --- |', 1)
 
 
-def machine():
-    """The name of this machine's processor, and how busy the machine was."""
-    name = re.search(r'Model name:\s*(.*)', subprocess.run(['lscpu'], capture_output=True, text=True, check=True).stdout)
+def machine(rounds):
+    """The name of this machine's processor, how busy the machine was, and how often each program was timed."""
+    about = subprocess.run(['lscpu'], capture_output=True, text=True, check=True).stdout
+    name = re.search(r'Model name:\s*(.*)', about)
     with open('/proc/loadavg', encoding='utf-8') as loads:
         load = loads.read().split()[0]
-    return f'{name.group(1)}, load {load} at the end\n'
+    return f'{name.group(1)}, {os.cpu_count()} processors, load {load} at the end; medians of {rounds} runs in turns.\n'
 
 
-def write(found):
+def write(found, rounds):
     """Replaces the tables of the page, each between its two marks."""
     page = PAGE.read_text()
-    for part, lines in {**found, 'machine': machine()}.items():
+    for part, lines in {**found, 'machine': machine(rounds)}.items():
         marks = f'<!-- {part} -->\n', f'<!-- end of {part} -->'
         before, rest = page.split(marks[0])
         page = before + marks[0] + '\n' + lines + '\n' + marks[1] + rest.split(marks[1], maxsplit=1)[1]

@@ -39,7 +39,8 @@ for _, words in ipairs { "empty", "too long", "unknown type", "wrong length" } d
 end
 declare_notice("not_whole", "UNDECODED", "WARN", "frame not captured whole")
 declare_notice("bad_input", "PROTOCOL", "WARN", "input above 63")
-declare_notice("lost_without_more", "PROTOCOL", "WARN", "F without C: entries are lost only where more wait than a block takes")
+declare_notice("lost_without_more", "PROTOCOL", "WARN",
+  "F without C: entries are lost only where more wait than a block takes")
 declare_notice("repeated_poll", "SEQUENCE", "NOTE", "poll of the same block again")
 declare_notice("repeated_answer", "SEQUENCE", "NOTE", "further answer to one command")
 declare_notice("unasked", "SEQUENCE", "NOTE", "no command in this capture asks for this answer")
@@ -133,7 +134,8 @@ local function read_item(range, tree)
 end
 
 local add_entry = element("entry", "Entry", {
-  { "input", "Input", 0, 1, 127 }, { "state", "State after the transition", 0, 1, 128 }, { "stamp", "Stamp, low 16 bits", 1, 2 },
+  { "input", "Input", 0, 1, 127 }, { "state", "State after the transition", 0, 1, 128 },
+  { "stamp", "Stamp, low 16 bits", 1, 2 },
 })
 declare("uint32", "entry.wide", "Time, widened from the stamp of the block", base.DEC)
 
@@ -156,8 +158,8 @@ end
 
 local function module_flags(name, label, ...)
   return flags(name, label, {
-    { "P", 128, "the module was reset", ... }, { "E", 64, "label" }, { "K", 32, "label" }, { "R", 16, "label" },
-    { "T", 8, "label" }, { "M", 4, "label" }, { "L", 2, "label" }, { "W", 1, "label" },
+    { "P", 128, "the module was reset", ... }, { "E", 64, "status flag" }, { "K", 32, "status flag" }, { "R", 16, "status flag" },
+    { "T", 8, "status flag" }, { "M", 4, "status flag" }, { "L", 2, "status flag" }, { "W", 1, "status flag" },
   })
 end
 
@@ -185,7 +187,8 @@ local messages = {
   [52] = { "raw inputs" },
   [53] = { "filtered inputs" },
   [POLL] = { "poll block", block_number },
-  [55] = { "set outputs data", octets("outputs.data", "Data octets", 8), "control", octets("outputs.control", "Control octets", 8) },
+  [55] = { "set outputs data", octets("outputs.data", "Data octets", 8),
+           "control", octets("outputs.control", "Control octets", 8) },
   [58] = { "watchdog ms", number("watchdog.timeout", "Timeout in milliseconds", 1) },
   [60] = { "identify" },
   [177] = { "status flags", remaining, "receive", number("errors.receive", "Errors in receiving", 1),
@@ -308,7 +311,8 @@ local function add_links(fact, tree, is_answer)
     local nanoseconds = math.floor((fact.at - command.at) * 1e9 + 0.5)
     add("time", NSTime.new(math.floor(nanoseconds / 1e9), nanoseconds % 1e9))
     if command.response_in ~= fact.frame then
-      tree:add_proto_expert_info(notice.repeated_answer, ("further answer to one command, the first is in frame %d"):format(command.response_in))
+      tree:add_proto_expert_info(notice.repeated_answer,
+        ("further answer to one command, the first is in frame %d"):format(command.response_in))
     end
   elseif is_answer then
     tree:add_proto_expert_info(notice.unasked)
@@ -364,7 +368,8 @@ sdlc.fields = {
   ProtoField.uint8("fio2070_sdlc.control", "Control", base.HEX),
   ProtoField.uint16("fio2070_sdlc.check", "Frame check", base.HEX),
 }
-local bad_check = ProtoExpert.new("fio2070_sdlc.bad_check", "wrong frame check", expert.group.CHECKSUM, expert.severity.ERROR)
+local bad_check =
+  ProtoExpert.new("fio2070_sdlc.bad_check", "wrong frame check", expert.group.CHECKSUM, expert.severity.ERROR)
 sdlc.experts = { bad_check }
 sdlc.prefs.check = Pref.bool("Two octets of frame check", true, "Each frame ends with two octets of frame check")
 
@@ -427,7 +432,8 @@ DissectorTable.get("udp.port"):add_for_decode_as(sdlc)
 -- Each protocol has a preference for the user link types (DLT_USER) it takes.
 for _, proto in ipairs { link, sdlc } do
   local encapsulations, taken = DissectorTable.get("wtap_encap"), {}
-  proto.prefs.user = Pref.range("User link types", "", "Numbers 0 to 15 of the user link types (DLT 147 to 162) to take", 15)
+  proto.prefs.user =
+    Pref.range("User link types", "", "Numbers 0 to 15 of the user link types (DLT 147 to 162) to take", 15)
 
   function proto.prefs_changed()
     for _, number in ipairs(taken) do

@@ -11,7 +11,7 @@ use std::{env, io};
 /// The exit status for words that are no text.
 const MISUSED: u8 = 2;
 
-/// The exit status for want of memory.
+/// The exit status where memory runs out.
 const FAILED: u8 = 3;
 
 fn main(rt: HostRuntime) -> ExitCode {

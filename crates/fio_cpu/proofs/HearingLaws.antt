@@ -1,4 +1,4 @@
--- What the reader of block answers tells of octets, as what the CPU hears in them.
+-- What the reader of block answers reports of octets, as what the CPU hears in them.
 use Rattle.std.proofs.Common.{◌≡◌, ◌↔◌, ℕ, List, Option, Some, None, Result, Ok, Err, ap, refl}
 use Rattle.fio_message.specs.declared.faults.DecodeError.{DecodeError}
 use Rattle.fio_message.specs.Octets.{IsOctets}

@@ -17,7 +17,7 @@ heard_answer number (answers.Block block entries status stamp) =
     if block == number then Block (length entries.items) status else Stale block
 heard_answer number other = Other (answer_code other)
 
--- what a CPU with this number tells of octets that are decoded so
+-- what a CPU with this number reports of octets that are decoded so
 abbrev pub heard_as : ℕ → Result Answer DecodeError → Heard
 heard_as number (Err fault) = Unreadable fault
 heard_as number (Ok answer) = heard_answer number answer

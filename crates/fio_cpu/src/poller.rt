@@ -63,7 +63,7 @@ impl Poller {
     }
 
     /// Hears the octets of a frame. A block answer (TEES 2009, answer 182) with the present number
-    /// is taken whole; anything else is told and changes nothing (own profile).
+    /// is taken whole; anything else is reported and changes nothing (own profile).
     ///
     /// Taking a block appends one gap mark to the record if F is set, then all its entries in
     /// order, each with its time in milliseconds, and raises the number by one modulo 256.

@@ -1,4 +1,4 @@
--- The words in which the program tells of a refusal, with decimal numbers (own profile).
+-- The words in which the program reports a refusal, with decimal numbers (own profile).
 use Rattle.std.specs.Prelude.{ℕ, List, ◌++◌, codes, decimal}
 use Rattle.fio_message.specs.declared.faults.DecodeError.{DecodeError}
 use Rattle.fio_message.specs.declared.faults.DecodeError.TheVariants.{Empty, TooLong, UnknownType, WrongLength}

@@ -12,7 +12,7 @@ abbrev pub settings_with : ℕ → Limits → Settings
 settings_with id limits =
     record { id = id; per_block = limits.per_block; waiting = limits.waiting }
 
--- where no limits are handed in
+-- where the caller gives no limits
 abbrev pub standard_settings : ℕ → Settings
 standard_settings id = settings_with id standard_limits
 

@@ -27,7 +27,7 @@ impl Limits {
     ghost use Rattle.std.specs.Prelude.{◌≡◌, Some, None, if◌then◌else◌};
     ghost use Rattle.fio_module.specs.Limits.{are_limits};
 
-    /// Those of TEES 2009, which a module has where none are handed in.
+    /// Those of TEES 2009, which a module has where the caller gives none.
     pub const STANDARD: Limits = Limits {
         per_block: 255,
         waiting: 1024,

@@ -160,6 +160,29 @@ impl ModuleState {
             → Encodes (reply_to settings history octets.now) (frame_if result frame.new) }
     {
         match &decode_command(octets) {
+            Ok(Command::ConfigureInputs { .. }) => self.answer_listed(ring, octets, frame),
+            Ok(command) => self.obey(ring, command, frame),
+            Err(_) => false,
+        }
+    }
+
+    /// The same where the command has a list of items, a kilobyte as a value. It stands apart, so
+    /// that the compiler keeps no room for a list where other commands are decoded.
+    #[inline(never)]
+    fn answer_listed<R: EntryRing>(
+        &mut self,
+        ring: &mut R,
+        octets: &[u8],
+        frame: &mut Frame,
+    ) -> bool
+        ensures stands { (settings : Settings) (history : History)
+            → IsAfterHistory settings self.old (R.held ring.old) history
+            → IsAfterHistory settings self.new (R.held ring.new) (Received octets.now ∷ history) }
+        ensures reply { (settings : Settings) (history : History)
+            → IsAfterHistory settings self.old (R.held ring.old) history
+            → Encodes (reply_to settings history octets.now) (frame_if result frame.new) }
+    {
+        match &decode_command(octets) {
             Ok(command) => self.obey(ring, command, frame),
             Err(_) => false,
         }
@@ -167,6 +190,7 @@ impl ModuleState {
 
     /// Each command has a function of its own, which is not inlined and writes into the one frame:
     /// room for a frame of its own would be cleared at each entry.
+    #[inline(always)]
     fn obey<R: EntryRing>(&mut self, ring: &mut R, command: &Command, frame: &mut Frame) -> bool
         ensures { Obeys self.old (R.held ring.old) self.new (R.held ring.new) command.now
             (frame_if result frame.new) }

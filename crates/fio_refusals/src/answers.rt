@@ -5,7 +5,7 @@
 pub(crate) enum Answer {
     /// As it does where memory is there.
     Right,
-    /// It told of want of memory and changed nothing; of events, at the one with this place.
+    /// It reported that memory ran out and changed nothing; of events, at the one with this place.
     Refused(usize),
     /// In any other way.
     Wrong,

@@ -1,4 +1,4 @@
-//! Makes each call that can want memory once, and tells of each whether its answer was right. Where a growth
+//! Makes each call that can allocate once, and reports of each whether its answer was right. Where a growth
 //! of memory is refused to the program, the one call that meets it has to say so and to leave all as it was.
 //! `tests/refused-memory` runs it once for each growth, with that one refused.
 #![tactic(auto)]
@@ -83,6 +83,11 @@ fn report_ends(rows: &mut Rows<'_>, alloc: Global) {
         worlds::step(alloc, &NINE_ROUNDS),
     );
     rows.report("World::step with limits", worlds::step(alloc, &ONE_ENTRY));
+    rows.report("World::step_all", worlds::step_all(alloc, &LOST_ANSWER));
+    rows.report(
+        "World::step_all of nine rounds",
+        worlds::step_all(alloc, &NINE_ROUNDS),
+    );
     rows.report(
         "World::step that adds nothing",
         worlds::adding_nothing(alloc),
@@ -103,8 +108,24 @@ fn report_texts(rows: &mut Rows<'_>, alloc: Global) {
     rows.report("push_fault", texts::push_words(alloc));
     rows.report("read_octets", Ok(texts::octets(alloc)));
     rows.report("read_script", Ok(texts::script(alloc)));
+    rows.report(
+        "read_script of faulty lines",
+        Ok(texts::faulty_scripts(alloc)),
+    );
+    rows.report(
+        "read_script of a fault below a good line",
+        Ok(texts::script_with_a_fault(alloc)),
+    );
     rows.report("report", texts::told(alloc));
     rows.report("read_trace", Ok(texts::transcript(alloc)));
+    rows.report(
+        "read_trace of faulty lines",
+        Ok(texts::faulty_transcripts(alloc)),
+    );
+    rows.report(
+        "read_trace of a fault below a good line",
+        Ok(texts::transcript_with_a_fault(alloc)),
+    );
     rows.report("check_trace", texts::verdict(alloc));
 }
 

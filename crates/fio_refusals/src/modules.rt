@@ -4,7 +4,7 @@ use fio_message::Memory;
 use fio_module::{Limits, Module};
 use std::alloc::Global;
 
-/// A module that tells its identification.
+/// A module with an identification.
 pub(crate) fn new(alloc: Global) -> Answer {
     made(Module::new(alloc, 2))
 }

@@ -1,4 +1,6 @@
 //! Scripts with their ends, and the texts of the tools with what they write.
+use fio_message::DecodeError;
+use fio_world::ScriptError;
 
 /// A script, and what can be counted of both ends when it is done.
 #[derive(Drop)]
@@ -82,7 +84,7 @@ pub(crate) const NINE_ROUNDS: Sample = Sample {
 /// Captured frames.
 pub(crate) const FRAMES: &[u8] = b"3605\nb605018c03e700000003e8\n";
 
-/// What `show` tells of them.
+/// What `show` writes of them.
 pub(crate) const SHOWN: &[u8] = b"poll block 5\n\
     block 5 entries 1 status 00 stamp 1000\n  input 12 state 1 stamp 999 wide 999\n";
 
@@ -93,5 +95,38 @@ pub(crate) const TRANSCRIPT: &[u8] = b"> 3605\n\
     > 3606\n\
     < b6060002000003e9\n";
 
-/// What `check` tells of it.
+/// What `check` writes of it.
 pub(crate) const VERDICT: &[u8] = b"good 5 frames\n";
+
+/// Scripts whose second line is faulty, and its fault.
+pub(crate) const FAULTY_SCRIPTS: [(&[u8], ScriptError); 5] = [
+    (
+        b"fio2070 script 1 2 0\nsend zz\n",
+        ScriptError::BadLine { line: 2 },
+    ),
+    (
+        b"fio2070 script 1 2 0\nsend 333\n",
+        ScriptError::BadLine { line: 2 },
+    ),
+    (
+        b"fio2070 script 1 2 0\nsend 33\n",
+        ScriptError::BadFrame {
+            line: 2,
+            fault: DecodeError::WrongLength { needed: 2, got: 1 },
+        },
+    ),
+    (
+        b"fio2070 script 1 2 0\nsend b300\n",
+        ScriptError::BadFrame {
+            line: 2,
+            fault: DecodeError::UnknownType { code: 179 },
+        },
+    ),
+    (
+        b"fio2070 script 1 2 0\nscan zz\n",
+        ScriptError::BadLine { line: 2 },
+    ),
+];
+
+/// Transcripts whose first line is no frame.
+pub(crate) const FAULTY_TRANSCRIPTS: [&[u8]; 4] = [b"> zz", b"< 360", b"> 3605zz\n", b"? 3605\n"];

@@ -1,6 +1,8 @@
 //! Texts that are read and made.
 use crate::answers::Answer;
-use crate::samples::{LOST_ANSWER, LOST_ANSWER_REPORT, TRANSCRIPT};
+use crate::samples::{
+    FAULTY_SCRIPTS, FAULTY_TRANSCRIPTS, LOST_ANSWER, LOST_ANSWER_REPORT, TRANSCRIPT,
+};
 use fio_message::{DecodeError, Memory};
 use fio_tool::{TraceError, Verdict, check_trace, read_trace};
 use fio_world::text::read_octets;
@@ -67,4 +69,46 @@ pub(crate) fn verdict(alloc: Global) -> Result<Answer, Memory> {
     };
     let is_wanted = check_trace(lines.as_slice()) == Verdict::Good { frames: 5 };
     Ok(Answer::right_if(is_wanted))
+}
+
+/// Scripts whose first event has a fault. No line above it takes memory, so its fault is the answer.
+pub(crate) fn faulty_scripts(alloc: Global) -> Answer {
+    for (text, fault) in FAULTY_SCRIPTS {
+        match read_script(alloc, text) {
+            Err(ScriptError::Memory) => return Answer::Refused(0),
+            Err(found) if found == fault => (),
+            _ => return Answer::Wrong,
+        }
+    }
+    Answer::Right
+}
+
+/// The fault of a line below a good one, which took memory.
+pub(crate) fn script_with_a_fault(alloc: Global) -> Answer {
+    match read_script(alloc, b"fio2070 script 1 2 0\npoll\nsend zz\n") {
+        Err(ScriptError::Memory) => Answer::Refused(0),
+        Err(fault) => Answer::right_if(fault == ScriptError::BadLine { line: 3 }),
+        Ok(_) => Answer::Wrong,
+    }
+}
+
+/// Transcripts whose first line is no frame.
+pub(crate) fn faulty_transcripts(alloc: Global) -> Answer {
+    for text in FAULTY_TRANSCRIPTS {
+        match read_trace(alloc, text) {
+            Err(TraceError::Memory) => return Answer::Refused(0),
+            Err(TraceError::BadLine { line: 1 }) => (),
+            _ => return Answer::Wrong,
+        }
+    }
+    Answer::Right
+}
+
+/// A line that is no frame, below one that is, which took memory.
+pub(crate) fn transcript_with_a_fault(alloc: Global) -> Answer {
+    match read_trace(alloc, b"> 3605\n< zz\n") {
+        Err(TraceError::Memory) => Answer::Refused(0),
+        Err(fault) => Answer::right_if(fault == TraceError::BadLine { line: 2 }),
+        Ok(_) => Answer::Wrong,
+    }
 }

@@ -50,7 +50,7 @@ pub(crate) fn streams(alloc: Global, tool: Tool) -> Result<Answer, Memory> {
     })
 }
 
-/// The text of what is read and status 0, or what the program says of want of memory and status 3.
+/// The text of what is read and status 0, or what the program says where memory runs out and status 3.
 pub(crate) fn program(alloc: Global, tool: Tool) -> Result<Answer, Memory> {
     let (mut input, wanted) = sample(tool);
     let word = match tool {

@@ -47,7 +47,7 @@ pub(crate) fn run_with_limits(alloc: Global, sample: &Sample) -> Result<Answer, 
     Ok(ended(&ran, &script, sample))
 }
 
-/// A run comes to the end of its sample, or tells after how many events memory was refused.
+/// A run comes to the end of its sample, or says after how many events memory was refused.
 fn ended(ran: &Result<World, RunError>, script: &Script, sample: &Sample) -> Answer {
     match ran {
         Ok(world) => Answer::right_if(counts(world) == sample.end),
@@ -87,6 +87,28 @@ pub(crate) fn step(alloc: Global, sample: &Sample) -> Result<Answer, Memory> {
     } else {
         Answer::Wrong
     })
+}
+
+/// The events of a sample, together: where memory is refused at one of them, those above it are done, and
+/// the rest is tried again.
+pub(crate) fn step_all(alloc: Global, sample: &Sample) -> Result<Answer, Memory> {
+    let script = script_of(alloc, sample)?;
+    let mut world = World::with_limits(alloc, script.id, script.first, script.limits)?;
+    let mut answer = Answer::Right;
+    if let Err(error) = world.step_all(script.events.as_slice()) {
+        let Some(rest) = script.events.as_slice().get(error.place..) else {
+            return Ok(Answer::Wrong);
+        };
+        if error.fault != WorldError::Memory || world.step_all(rest).is_err() {
+            return Ok(Answer::Wrong);
+        }
+        answer = Answer::Refused(error.place);
+    }
+    if counts(&world) == sample.end {
+        Ok(answer)
+    } else {
+        Ok(Answer::Wrong)
+    }
 }
 
 /// Events that take no memory, at the end of a sample: those of the module alone, a delivery that adds

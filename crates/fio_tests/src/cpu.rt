@@ -101,11 +101,11 @@ fn more_items_than_sixteen_bits_count(rt: HostRuntime) {
     let mut poller = Poller::new(rt.alloc(), 5);
     assert_eq!(rt; hear(&rt, &mut poller, &ONE_ENTRY), taken(1, 0));
     let mut block = full_block();
-    let mut items = 1;
+    let mut items: usize = 1;
     for _ in 0..258 {
         block[1] = poller.number();
         assert_eq!(rt; hear(&rt, &mut poller, &block), taken(255, 8));
-        items += 255;
+        items = items.saturating_add(255);
         assert_eq!(rt; poller.items().len(), items);
     }
     assert_eq!(rt; items, 65_791);

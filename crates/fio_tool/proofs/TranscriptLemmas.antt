@@ -7,13 +7,13 @@ use Rattle.std.proofs.lemmas.Bool.Decides.{eqb_tells}
 use Rattle.std.proofs.lemmas.Option.{slice_get_within}
 use Rattle.fio_tool.specs.Inputs.{is_too_long}
 use Rattle.fio_tool.specs.Transcript.{TraceLine, Placed, latest_above, trace_in}
-use Rattle.fio_tool.specs.TranscriptLaws.{IsLatestAbove, TellsTheLatest, HasOneVerdict, HasOneCheckText}
+use Rattle.fio_tool.specs.TranscriptLaws.{IsLatestAbove, TellsTheLatest, HasOneVerdict, HasOneCheckText, IsTextOfItsLines}
 use Rattle.fio_tool.specs.TranscriptRules.{IsFirstBreach, KeepsRulesAbove, rule_broken}
 use Rattle.fio_tool.specs.TranscriptTexts.{TellsOf, verdict_text, is_good}
 use Rattle.fio_tool.specs.declared.transcript.reading.TraceError.{TraceError}
 use Rattle.fio_tool.specs.declared.transcript.reading.TraceError.TheVariants.{BadLine, Memory}
 use Rattle.fio_tool.specs.declared.transcript.rules.Rule.{Rule}
-use Rattle.fio_tool.specs.declared.transcript.rules.Verdict.TheVariants.{Good, Broken}
+use Rattle.fio_tool.specs.declared.transcript.verdict.Verdict.TheVariants.{Good, Broken}
 
 -- ---- numbers and options
 
@@ -106,3 +106,8 @@ one-choice false words read text other_text good other_good one other = one-tell
 pub one_check_text : (input : List ℕ) → HasOneCheckText input
 one_check_text input text other_text good other_good one other =
     one-choice (is_too_long input) _ (trace_in input) text other_text good other_good one other
+
+-- ---- the text of the lines that are read
+
+pub text_of_its_lines : (input : List ℕ) → IsTextOfItsLines input
+text_of_its_lines input lines verdict short reads is = rw (short, reads) (verdict, is, refl, refl)

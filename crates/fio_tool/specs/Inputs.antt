@@ -1,4 +1,4 @@
--- What each tool tells of an input with a fault.
+-- What each tool writes of an input with a fault.
 use Rattle.std.specs.Prelude.{ℕ, Bool, List, ◌++◌, length, codes, decimal, nat_lt}
 
 -- more octets than an input may have
@@ -9,7 +9,7 @@ is_too_long input = nat_lt 1048576 (length input)
 abbrev pub too_long_text : List ℕ
 too_long_text = codes "input too long\n"
 
--- the line that tells of the fault of the line with this number, by its words
+-- the line that reports the fault of the line with this number, by its words
 abbrev pub line_fault_text : ℕ → List ℕ → List ℕ
 line_fault_text number fault =
     codes "line " ++ (decimal number ++ (codes ": " ++ (fault ++ codes "\n")))

@@ -27,11 +27,11 @@ abbrev pub IsRefusalStatus : Kinds → ℕ → Type 0
 IsRefusalStatus kinds status =
     (status ≡ 3) ⊎ ((kind : ErrorKind) × IsAmong kind kinds × (status ≡ refusal_status kind))
 
--- the line that tells of words that name no subcommand
+-- the line for a command line that names no subcommand
 abbrev pub no_subcommand_line : List ℕ
 no_subcommand_line = codes "fio2070: no subcommand\n"
 
--- the line that tells of a tool's fault
+-- the line that reports a tool's fault
 abbrev pub fault_line : ToolFault → List ℕ
 fault_line Read = codes "fio2070: read fault\n"
 fault_line Write = codes "fio2070: write fault\n"

@@ -1,4 +1,4 @@
--- What `show` tells of a text: each line that says something is octets in hexadecimal digits.
+-- What `show` writes of a text: each line that says something is octets in hexadecimal digits.
 use Rattle.std.specs.Prelude.{ℕ, Bool, List, ◌&&◌, codes, nat_le, not, if◌then◌else◌, slice_index_or, Option, Some, None, Result, Ok, Err, is_ok}
 use Rattle.std.specs.List.{flat_map, list_all}
 use Rattle.fio_message.specs.Decoding.{decoded_command, decoded_answer}
@@ -30,7 +30,7 @@ shown_octets (Some octets) = shown_frame octets
 abbrev pub shown_line : List ℕ → Result (List ℕ) (List ℕ)
 shown_line line = shown_octets (octets_in line)
 
--- these lines, or the one line that tells of the fault at this number
+-- these lines, or the one line that reports the fault at this number
 abbrev pub told_at : ℕ → Result (List ℕ) (List ℕ) → List ℕ
 told_at number (Ok lines) = lines
 told_at number (Err fault) = line_fault_text number fault
@@ -48,7 +48,7 @@ show_text input =
     if is_too_long input then too_long_text
     else flat_map line_text (numbered 1 (lines_of input))
 
--- whether it tells of no fault
+-- whether it reports no fault
 abbrev pub is_show_good : List ℕ → Bool
 is_show_good input =
     not (is_too_long input) && list_all is_line_good (numbered 1 (lines_of input))

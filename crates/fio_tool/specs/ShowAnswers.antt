@@ -33,7 +33,7 @@ levels_text name inputs stamp =
     name ++ (codes " inputs " ++ (digits_of (inputs_octets inputs)
     ++ (codes " stamp " ++ (decimal stamp ++ codes "\n"))))
 
--- an entry of a block answer with this stamp: as the record tells it, behind two blanks
+-- an entry of a block answer with this stamp: as the record has it, behind two blanks
 abbrev pub entry_text : ℕ → Entry → List ℕ
 entry_text stamp entry =
     codes "  "

@@ -1,4 +1,4 @@
--- What `simulate` tells of a text.
+-- What `simulate` writes of a text.
 use Rattle.std.specs.Prelude.{◌≡◌, ℕ, Bool, false, List, ◌++◌, codes, Result, Ok, Err, MatchBool}
 use Rattle.fio_message.specs.Texts.{fault_text}
 use Rattle.fio_world.specs.Scripts.{Scenario, script_in}
@@ -21,7 +21,7 @@ TellsOfScript (Err (BadFrame line fault)) text good =
     (text ≡ line_fault_text line (codes "bad frame " ++ fault_text fault)) × (good ≡ false)
 TellsOfScript (Err Memory) text good = ⊥
 
--- the text that `simulate` writes for an input, and whether it tells of no fault
+-- the text that `simulate` writes for an input, and whether it reports no fault
 abbrev pub IsSimulateText : List ℕ → List ℕ → Bool → Type 0
 IsSimulateText input text good = MatchBool (is_too_long input)
     ((text ≡ too_long_text) × (good ≡ false)) (TellsOfScript (script_in input) text good)

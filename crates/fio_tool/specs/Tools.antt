@@ -20,7 +20,7 @@ name_of Show = codes "show"
 name_of Simulate = codes "simulate"
 name_of Check = codes "check"
 
--- the text that a tool writes for an input, and whether it tells of no fault
+-- the text that a tool writes for an input, and whether it reports no fault
 abbrev pub Tells : Tool → List ℕ → List ℕ → Bool → Type 0
 Tells Show input text good = (text ≡ show_text input) × (good ≡ is_show_good input)
 Tells Simulate input text good = IsSimulateText input text good

@@ -51,13 +51,20 @@ pub record HasFrameToKeep (text : List ℕ) : Type 0 where
 
 -- ---- what a line says
 
--- the command that was sent, where the line says so and its octets spell one
-abbrev pub command_on : TraceLine → Option Command
-command_on line = if line.from_cpu then command_in line.octets else None
+-- the command in octets that were sent, where they spell one
+abbrev pub command_from : Bool → List ℕ → Option Command
+command_from from_cpu octets = if from_cpu then command_in octets else None
 
--- the answer that was heard, where the line says so and its octets spell one
+-- the answer in octets that were heard, where they spell one
+abbrev pub answer_from : Bool → List ℕ → Option Answer
+answer_from from_cpu octets = if from_cpu then None else answer_in octets
+
+-- the command that a line sends, and the answer that it hears
+abbrev pub command_on : TraceLine → Option Command
+command_on line = command_from line.from_cpu line.octets
+
 abbrev pub answer_on : TraceLine → Option Answer
-answer_on line = if line.from_cpu then None else answer_in line.octets
+answer_on line = answer_from line.from_cpu line.octets
 
 -- ---- what the line at a place says; the first line has place 0
 

@@ -1,9 +1,10 @@
 -- Laws of the rules of a transcript.
-use Rattle.std.specs.Prelude.{◌≡◌, ◌↔◌, ℕ, ◌<◌, Bool, List, Option, Some, None}
-use Rattle.fio_tool.specs.Transcript.{TraceLine, Placed, latest_above}
+use Rattle.std.specs.Prelude.{◌≡◌, ◌↔◌, ℕ, ◌<◌, Bool, false, List, Option, Some, None, Ok}
+use Rattle.fio_tool.specs.Inputs.{is_too_long}
+use Rattle.fio_tool.specs.Transcript.{TraceLine, Placed, latest_above, trace_in}
 use Rattle.fio_tool.specs.TranscriptRules.{IsVerdict}
-use Rattle.fio_tool.specs.TranscriptTexts.{IsCheckText}
-use Rattle.fio_tool.specs.declared.transcript.rules.Verdict.{Verdict}
+use Rattle.fio_tool.specs.TranscriptTexts.{IsCheckText, is_good, verdict_text}
+use Rattle.fio_tool.specs.declared.transcript.verdict.Verdict.{Verdict}
 
 -- it is said at its place, above this one, and not again between the two
 pub record IsLatestAbove {A : Type 0} (said : ℕ → Option A) (place : ℕ) (found : Placed A)
@@ -28,3 +29,10 @@ abbrev pub HasOneCheckText : List ℕ → Type 0
 HasOneCheckText input = (text other_text : List ℕ) (good other_good : Bool)
     → IsCheckText input text good → IsCheckText input other_text other_good
     → (text ≡ other_text) × (good ≡ other_good)
+
+-- where a text that is not too long is read as lines, its text and ending are those of the verdict
+-- on these lines
+abbrev pub IsTextOfItsLines : List ℕ → Type 0
+IsTextOfItsLines input = (lines : List TraceLine) (verdict : Verdict)
+    → is_too_long input ≡ false → trace_in input ≡ Ok lines → IsVerdict lines verdict
+    → IsCheckText input (verdict_text verdict) (is_good verdict)

@@ -1,7 +1,7 @@
--- The rules of a transcript. It is what the CPU's end logs on a bus that doubles nothing and brings
+-- The rules of a transcript. It is what the CPU's end logs on a bus that doubles nothing and delivers
 -- an answer before the CPU's next command or never. The module is not restarted, and has the limits
--- of 255 entries in a block and 1,024 waiting. The CPU's end meets no want of memory.
-use Rattle.std.specs.Prelude.{◌≡◌, ℕ, suc, ◌+◌, ◌%◌, ◌<◌, Bool, false, List, [], ◌∷◌, Option, Some, None, length, find, slice_get, ◌==◌, ◌&&◌, ◌||◌, nat_lt, not, is_some, if◌then◌else◌}
+-- of 255 entries in a block and 1,024 waiting. The CPU's end never runs out of memory.
+use Rattle.std.specs.Prelude.{◌≡◌, ℕ, suc, ◌+◌, ◌%◌, ◌<◌, Bool, false, List, [], ◌∷◌, Option, Some, None, length, find, Ok, slice_get, ◌==◌, ◌&&◌, ◌||◌, nat_lt, not, is_some, if◌then◌else◌}
 use Rattle.std.specs.List.{list_any}
 use Rattle.fio_message.specs.Answers.{answer_code}
 use Rattle.fio_message.specs.Blocks.{Block}
@@ -11,11 +11,11 @@ use Rattle.fio_message.specs.declared.answers.Answer.{Answer}
 use Rattle.fio_message.specs.declared.answers.Answer.TheVariants as answers
 use Rattle.fio_message.specs.declared.commands.Command.{Command}
 use Rattle.fio_message.specs.declared.commands.Command.TheVariants as commands
-use Rattle.fio_tool.specs.Transcript.{TraceLine, Placed, command_sent, answer_heard, poll_sent, block_heard, command_above, poll_above, earlier_poll, earlier_block, is_some_and}
+use Rattle.fio_tool.specs.Transcript.{TraceLine, Placed, command_sent, answer_heard, poll_sent, block_heard, command_above, poll_above, earlier_poll, earlier_block, is_some_and, trace_in}
 use Rattle.fio_tool.specs.declared.transcript.rules.Rule.{Rule}
 use Rattle.fio_tool.specs.declared.transcript.rules.Rule.TheVariants.{Readable, Pair, Number, Advance, Same, Sequence, Limits, Rest, Refusal}
-use Rattle.fio_tool.specs.declared.transcript.rules.Verdict.{Verdict}
-use Rattle.fio_tool.specs.declared.transcript.rules.Verdict.TheVariants.{Good, Broken}
+use Rattle.fio_tool.specs.declared.transcript.verdict.Verdict.{Verdict}
+use Rattle.fio_tool.specs.declared.transcript.verdict.Verdict.TheVariants.{Good, Broken}
 
 -- ---- each rule, broken by the line at a place
 
@@ -132,3 +132,9 @@ pub record IsFirstBreach (lines : List TraceLine) (number : ℕ) (rule : Rule) :
 abbrev pub IsVerdict : List TraceLine → Verdict → Type 0
 IsVerdict lines (Good frames) = (frames ≡ length lines) × KeepsRulesAbove lines (length lines)
 IsVerdict lines (Broken number rule) = IsFirstBreach lines number rule
+
+-- the text is a transcript, and this is the verdict on it
+pub record IsVerdictOn (text : List ℕ) (verdict : Verdict) : Type 0 where
+  pub lines : List TraceLine
+  pub read : trace_in text ≡ Ok lines
+  pub is : IsVerdict lines verdict

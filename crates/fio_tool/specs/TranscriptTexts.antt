@@ -1,4 +1,4 @@
--- What `check` tells of a text.
+-- What `check` writes of a text.
 use Rattle.std.specs.Prelude.{◌≡◌, ℕ, Bool, true, false, List, ◌++◌, codes, decimal, Result, Ok, Err, MatchBool}
 use Rattle.fio_tool.specs.Inputs.{is_too_long, too_long_text, line_fault_text}
 use Rattle.fio_tool.specs.Transcript.{TraceLine, trace_in}
@@ -7,8 +7,8 @@ use Rattle.fio_tool.specs.declared.transcript.reading.TraceError.{TraceError}
 use Rattle.fio_tool.specs.declared.transcript.reading.TraceError.TheVariants.{BadLine, Memory}
 use Rattle.fio_tool.specs.declared.transcript.rules.Rule.{Rule}
 use Rattle.fio_tool.specs.declared.transcript.rules.Rule.TheVariants.{Readable, Pair, Number, Advance, Same, Sequence, Limits, Rest, Refusal}
-use Rattle.fio_tool.specs.declared.transcript.rules.Verdict.{Verdict}
-use Rattle.fio_tool.specs.declared.transcript.rules.Verdict.TheVariants.{Good, Broken}
+use Rattle.fio_tool.specs.declared.transcript.verdict.Verdict.{Verdict}
+use Rattle.fio_tool.specs.declared.transcript.verdict.Verdict.TheVariants.{Good, Broken}
 
 abbrev pub rule_name : Rule → List ℕ
 rule_name Readable = codes "readable"
@@ -39,7 +39,7 @@ TellsOf (Err (BadLine line)) text good =
     (text ≡ line_fault_text line (codes "bad line")) × (good ≡ false)
 TellsOf (Err Memory) text good = ⊥
 
--- the text that `check` writes for an input, and whether it tells of no fault
+-- the text that `check` writes for an input, and whether it reports no fault
 abbrev pub IsCheckText : List ℕ → List ℕ → Bool → Type 0
 IsCheckText input text good = MatchBool (is_too_long input)
     ((text ≡ too_long_text) × (good ≡ false)) (TellsOf (trace_in input) text good)

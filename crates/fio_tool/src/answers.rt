@@ -70,8 +70,12 @@ fn push_errors(
 }
 
 /// Appends the line for an answer that has a status alone, behind its name of at most 40 octets.
-pub(crate) fn push_status(text: &mut Vec<u8>, name: &[u8], status: u8) -> Result<(), AllocError>
-    requires { length name.now ≤ 40 }
+pub(crate) fn push_status<const N: usize>(
+    text: &mut Vec<u8>,
+    name: &[u8; N],
+    status: u8,
+) -> Result<(), AllocError>
+    requires { N ≤ 40 }
     ensures { OnOk result (text.new.items
         ≡ text.old.items ++ status_text name.now status) }
 {
@@ -79,13 +83,13 @@ pub(crate) fn push_status(text: &mut Vec<u8>, name: &[u8], status: u8) -> Result
 }
 
 /// Appends the line for the levels of all inputs, behind their name of at most 40 octets.
-pub(crate) fn push_levels(
+pub(crate) fn push_levels<const N: usize>(
     text: &mut Vec<u8>,
-    name: &[u8],
+    name: &[u8; N],
     inputs: u64,
     stamp: u32,
 ) -> Result<(), AllocError>
-    requires { length name.now ≤ 40 }
+    requires { N ≤ 40 }
     ensures { OnOk result (text.new.items
         ≡ text.old.items ++ levels_text name.now inputs stamp) }
 {
@@ -143,6 +147,7 @@ fn push_block_head(
 }
 
 /// Appends the line for an entry of a block answer with this stamp.
+#[inline(always)]
 fn push_entry(
     text: &mut Vec<u8>,
     entry_lines: &mut EntryLines,

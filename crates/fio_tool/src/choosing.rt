@@ -31,8 +31,8 @@ const USAGE: &str = "fio2070 COMMAND < FILE";
 pub fn choose<'a>(alloc: Global, words: &'a [&'a str]) -> Result<Option<Tool>, Error>
     ensures tool { IfOk result (λ tool.
         option_map name_of tool ≡ chosen_name (map (λ word. word.now) words.entry.now)) }
-    // An `Ok` comes only where the words have no fault, and an `Err` tells of one, or of want of
-    // memory.
+    // An `Ok` comes only where the command line is valid, and an `Err` where it is not, or where
+    // memory runs out.
     ensures fault { FailsBy
         (fault_of command_line (map (λ word. word.now) words.entry.now)) result }
 {

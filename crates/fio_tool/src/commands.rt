@@ -27,8 +27,13 @@ pub(crate) fn push_command(text: &mut Vec<u8>, command: &Command) -> Result<(), 
 }
 
 /// Appends the line for a message that has one number, behind its name of at most 40 octets.
-pub(crate) fn push_number(text: &mut Vec<u8>, name: &[u8], number: u32) -> Result<(), AllocError>
-    requires { length name.now ≤ 40 }
+#[inline(always)]
+pub(crate) fn push_number<const N: usize>(
+    text: &mut Vec<u8>,
+    name: &[u8; N],
+    number: u32,
+) -> Result<(), AllocError>
+    requires { N ≤ 40 }
     ensures { OnOk result (text.new.items ≡ text.old.items ++ number_text name.now number) }
 {
     push_line!(text; (name) {number} b"\n")

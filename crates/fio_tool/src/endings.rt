@@ -6,9 +6,9 @@ use thiserror::Error;
 /// How a tool ended that wrote its text.
 #[derive(Clone, Copy, Debug, PartialEq, Eq)]
 pub enum Ending {
-    /// The text tells of no fault.
+    /// The text reports no fault.
     Good,
-    /// The text tells of a fault, or of an input that is too long.
+    /// The text reports a fault, or an input that is too long.
     Bad,
 }
 

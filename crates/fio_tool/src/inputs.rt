@@ -16,7 +16,7 @@ pub(crate) fn is_too_long(input: &[u8]) -> bool
     input.len() > MAX_INPUT
 }
 
-/// What is told of such an input.
+/// What is reported of such an input.
 pub(crate) fn report_too_long(alloc: Global) -> Result<Report, Memory>
     ensures text { IfOk result (λ report. report.text.items ≡ too_long_text) }
     ensures good { IfOk result (λ report. report.good ≡ false) }

@@ -3,15 +3,15 @@
 //! tool.
 //!
 //! What the program relies on: each tool writes exactly the text of what it read, and nothing where
-//! a read fails or memory is wanting; the words of a command line give exactly the tool that
+//! a read fails or memory runs out; the words of a command line give exactly the tool that
 //! `clap`'s own function of them names; and an exit status of 0 or 1 after such words says that the
 //! tool has done so, and it is never 2.
 //!
-//! The definitions stand in `specs/`, in this order: what is told of an input with a fault
-//! (`Inputs`); the lines that tell of each message (`ShowCommands`, `ShowAnswers`), what `show` tells
-//! of a text (`Show`); what `simulate` tells of one (`Simulation`); the lines of a transcript and what
+//! The definitions stand in `specs/`, in this order: what is reported of an input with a fault
+//! (`Inputs`); the lines of each message (`ShowCommands`, `ShowAnswers`, `ShowShort`), what `show`
+//! writes of a text (`Show`); what `simulate` writes of one (`Simulation`); the lines of a transcript and what
 //! they say (`Transcript`), its rules and the verdict on it (`TranscriptRules`), what is kept while it
-//! is checked (`TranscriptFacts`), what `check` tells of a text (`TranscriptTexts`); what is read and
+//! is checked (`TranscriptFacts`), what `check` writes of a text (`TranscriptTexts`); what is read and
 //! written (`Streams`), what each tool does (`Tools`), the command line (`CommandLine`), the exit
 //! status (`Running`). Their laws are the contracts of the modules `laws` and `transcript_laws`.
 #![tactic(auto)]

@@ -22,8 +22,8 @@ use std::io::{Read, Write};
 ///
 /// | Status | When |
 /// |---|---|
-/// | 0 | the text tells of no fault; also where help or the version was asked for |
-/// | 1 | the text tells of a fault, or of an input that is too long |
+/// | 0 | the text reports no fault; also where help or the version was asked for |
+/// | 1 | the text reports a fault, or an input that is too long |
 /// | 2 | the words name no subcommand, or have another fault |
 /// | 3 | a read or a write failed, or there was no memory |
 ///
@@ -40,7 +40,7 @@ pub fn run_program<'a, R: Read, W: Write>(
     // Where the words name no tool, nothing is read.
     ensures unread { ((tool : Tool) → NamesTool (map (λ word. word.now) words.entry.now) tool → ⊥)
         → reader.new ≡ reader.old }
-    // Where the words name a tool, a status of 0 or 1 says that the tool has told what it read.
+    // Where the words name a tool, a status of 0 or 1 says that the tool has reported what it read.
     ensures told { (tool : Tool) → NamesTool (map (λ word. word.now) words.entry.now) tool
         → result ≤ 1
         → HasTold tool (R.remaining reader.old) (R.remaining reader.new)
@@ -48,15 +48,15 @@ pub fn run_program<'a, R: Read, W: Write>(
     // 2 says that the words are wrong: not where they name a tool.
     ensures named { (tool : Tool) → NamesTool (map (λ word. word.now) words.entry.now) tool
         → result ≢ 2 }
-    // Words without a fault that name no tool give 2, or 3 for want of memory.
+    // Words without a fault that name no tool give 2, or 3 where memory runs out.
     ensures no_subcommand { fault_of command_line (map (λ word. word.now) words.entry.now) ≡ []
         → chosen_name (map (λ word. word.now) words.entry.now) ≡ None
         → (result ≡ 2) ⊎ (result ≡ 3) }
-    // Words with a fault give the status of that fault, or 3 for want of memory.
+    // Words with a fault give the status of that fault, or 3 where memory runs out.
     ensures refused { fault_of command_line (map (λ word. word.now) words.entry.now) ≢ []
         → IsRefusalStatus
         (fault_of command_line (map (λ word. word.now) words.entry.now)) result }
-    // 1 tells of the text of a tool: words with a fault never give it.
+    // 1 is for the text of a tool: words with a fault never give it.
     ensures never_one { fault_of command_line (map (λ word. word.now) words.entry.now) ≢ []
         → result ≢ 1 }
 {
@@ -70,7 +70,7 @@ pub fn run_program<'a, R: Read, W: Write>(
     }
 }
 
-/// Runs a tool, whose fault is told, and gives the exit status.
+/// Runs a tool, reports its fault, and returns the exit status.
 fn run_tool<R: Read, W: Write>(alloc: Global, tool: Tool, reader: &mut R, writer: &mut W) -> u8
     ensures known { result ≤ 3 }
     ensures never_two { result ≢ 2 }
@@ -101,7 +101,7 @@ fn status_of(ending: Result<Ending, ToolFault>) -> u8
     }
 }
 
-/// The line that tells of a tool's fault.
+/// The line that reports a tool's fault.
 fn fault_line(fault: ToolFault) -> &'static str
     ensures { result.now ≡ fault_line fault }
 {
@@ -112,15 +112,15 @@ fn fault_line(fault: ToolFault) -> &'static str
     }
 }
 
-/// The line that tells of words that name no subcommand.
+/// The line for a command line that names no subcommand.
 fn no_subcommand_line() -> &'static str
     ensures { result.now ≡ no_subcommand_line }
 {
     "fio2070: no subcommand\n"
 }
 
-/// Tells why a command line gave no tool, and gives the exit status: that of the error's kind, or 3
-/// for want of memory.
+/// Reports why a command line gave no tool, and returns the exit status: that of the error's kind, or
+/// 3 where memory runs out.
 fn refuse<W: Write>(alloc: Global, error: &Error, writer: &mut W) -> u8
     ensures { (result ≡ refusal_status (kind_of error.now)) ⊎ (result ≡ 3) }
 {

@@ -11,12 +11,20 @@ use std::alloc::AllocError;
 /// A message whose fields are a few numbers.
 #[derive(Clone, Copy, Debug)]
 pub(crate) enum ShortMessage {
-    Clear { flags: u8 },
-    LoadCounter { load: u32 },
+    Clear {
+        flags: u8,
+    },
+    LoadCounter {
+        load: u32,
+    },
     RawInputs,
     FilteredInputs,
-    Poll { block: u8 },
-    Watchdog { timeout: u8 },
+    Poll {
+        block: u8,
+    },
+    Watchdog {
+        timeout: u8,
+    },
     Identify,
     Flags {
         flags: u8,
@@ -24,11 +32,23 @@ pub(crate) enum ShortMessage {
         transmit_errors: u8,
         stamp: u32,
     },
-    CounterLoaded { status: u8 },
-    InputsConfigured { status: u8 },
-    RawLevels { inputs: u64, stamp: u32 },
-    FilteredLevels { inputs: u64, stamp: u32 },
-    WatchdogSet { status: u8 },
+    CounterLoaded {
+        status: u8,
+    },
+    InputsConfigured {
+        status: u8,
+    },
+    RawLevels {
+        inputs: u64,
+        stamp: u32,
+    },
+    FilteredLevels {
+        inputs: u64,
+        stamp: u32,
+    },
+    WatchdogSet {
+        status: u8,
+    },
 }
 
 /// The message that octets spell, if it is one of these.

@@ -1,9 +1,9 @@
 //! What a text of frames says, line for line.
-ghost use Rattle.std.specs.Prelude.{◌≡◌, ◌≢◌, ◌⊎◌, ◌++◌, [], is_ok, false, true, nat_le, slice_index_or, Err, OnOk, OnErr, IfOk};
+ghost use Rattle.std.specs.Prelude.{◌≡◌, ◌≢◌, ◌⊎◌, ◌++◌, [], codes, is_ok, false, true, nat_le, slice_index_or, Err, OnOk, OnErr, IfOk};
 ghost use Rattle.fio_message.specs.Texts.{fault_text};
 ghost use Rattle.fio_message.specs.Decoding.{decoded_answer, decoded_command};
 ghost use Rattle.fio_world.specs.Lines.{lines_of, numbered};
-ghost use Rattle.fio_tool.specs.Inputs.{is_too_long};
+ghost use Rattle.fio_tool.specs.Inputs.{is_too_long, line_fault_text};
 ghost use Rattle.fio_tool.specs.Show.{is_line_good, is_show_good, line_text, show_text, shown, shown_frame, told_at};
 ghost use Rattle.fio_tool.specs.ShowAnswers.{answer_text};
 ghost use Rattle.fio_tool.specs.ShowCommands.{command_text};
@@ -14,7 +14,7 @@ use crate::inputs::{is_too_long, report_too_long};
 use crate::short_messages::{push_short, short_message};
 use fio_message::{DecodeError, Memory, decode_answer, decode_command, read_block};
 use fio_world::Report;
-use fio_world::text::{FaultWords, numbered_lines, read_octets_into};
+use fio_world::text::{FaultWords, numbered_lines, read_octets_to};
 use std::alloc::Global;
 
 /// How many octets of text to expect for an octet of input: an entry of a block, six digits, gives a
@@ -27,8 +27,8 @@ const EXPECTED: usize = 8;
 /// one line `input too long`. Lines that are empty or begin with `#` give none.
 ///
 /// # Errors
-/// `Memory` where there is none for the text or for a line's octets: only where some line of the input
-/// gives a text, or the input is too long.
+/// `Memory` where there is none for the text: only where some line of the input gives one, or the
+/// input is too long.
 pub fn show_text(alloc: Global, input: &[u8]) -> Result<Report, Memory>
     ensures text { IfOk result (λ report. report.text.items ≡ show_text input.now) }
     ensures good { IfOk result (λ report. report.good ≡ is_show_good input.now) }
@@ -39,25 +39,23 @@ pub fn show_text(alloc: Global, input: &[u8]) -> Result<Report, Memory>
         return report_too_long(alloc);
     }
     let mut text = Vec::new(alloc);
-    let mut octets = Vec::new(alloc);
+    let mut room = [0; 773];
     let mut good = true;
     'lines: for (number, line) in numbered_lines(input, 1) {
         if text.capacity() == 0 {
             text.reserve(EXPECTED * input.len())?;
         }
-        let said = push_line(&mut text, &mut octets, number, line)?;
+        let said = push_line(&mut text, &mut room, number, line)?;
         good &= said;
     }
-    Ok(Report {
-        text,
-        good,
-    })
+    Ok(Report { text, good })
 }
 
-/// Appends the text for a numbered line, and returns whether the line has no fault.
+/// Appends the text for a numbered line, whose octets are read into room for the longest frame, and
+/// returns whether the line has no fault.
 fn push_line(
     text: &mut Vec<u8>,
-    octets: &mut Vec<u8>,
+    room: &mut [u8; 773],
     number: usize,
     line: &[u8],
 ) -> Result<bool, Memory>
@@ -65,12 +63,22 @@ fn push_line(
         ≡ text.old.items ++ line_text (number, line.now)) }
     ensures good { IfOk result (λ good. good ≡ is_line_good (number, line.now)) }
 {
-    if !read_octets_into(line, octets)? {
-        let line = format!(in *text.allocator(); "line {number}: bad line\n")?;
-        text.extend_from_slice(line.as_bytes())?;
-        return Ok(false);
+    match read_octets_to(line, room) {
+        None => push_bad_line(text, number),
+        Some(got) if got > room.len() => push_refusal(text, number, DecodeError::TooLong { got }),
+        Some(count) => push_frame(text, number, &room[..count]),
     }
-    push_frame(text, number, octets.as_slice())
+}
+
+/// Appends the line for a line that is not octets in hexadecimal digits, which is a fault.
+fn push_bad_line(text: &mut Vec<u8>, number: usize) -> Result<bool, Memory>
+    ensures text { OnOk result (text.new.items
+        ≡ text.old.items ++ line_fault_text number (codes "bad line")) }
+    ensures good { IfOk result (λ good. good ≡ false) }
+{
+    let line = format!(in *text.allocator(); "line {number}: bad line\n")?;
+    text.extend_from_slice(line.as_bytes())?;
+    Ok(false)
 }
 
 /// Appends the text for a frame on the line with this number, and returns whether it has no fault.

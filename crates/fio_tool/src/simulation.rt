@@ -1,4 +1,4 @@
-//! The text that tells what a script brings.
+//! The text of a script's run.
 ghost use Rattle.std.specs.Prelude.{◌≡◌, ◌≢◌, Err, IfOk, OnOk, string_bytes, false};
 ghost use Rattle.fio_tool.specs.Simulation.{IsSimulateText, TellsOfScript};
 ghost use Rattle.fio_world.specs.declared.script.ScriptError.TheVariants as errors;
@@ -12,9 +12,8 @@ use std::alloc::{AllocError, Global};
 /// The number of the line that is a script's header.
 const HEADER: usize = 1;
 
-/// The text that tells what the script in the input brings: its report, which is good unless an event
-/// is refused. A script with a fault is not run: it gives the one line that tells of its first faulty
-/// line, and an input of more than 1,048,576 octets the one line `input too long`.
+/// The text of the run of the script in the input: its report, which is good unless an event is
+/// refused. A script with a fault is not run: it gives the one line for its first faulty line, and an input of more than 1,048,576 octets the one line `input too long`.
 ///
 /// # Errors
 /// `Memory` where there is none for the script, for its run or for the text.
@@ -31,7 +30,7 @@ pub fn simulate_text(alloc: Global, input: &[u8]) -> Result<Report, Memory>
     }
 }
 
-/// The text that tells of a script's first faulty line.
+/// The text for a script's first faulty line.
 fn refused_script(alloc: Global, fault: ScriptError) -> Result<Report, Memory>
     requires { fault ≢ errors.Memory }
     ensures { IfOk result (λ report. TellsOfScript (Err fault) report.text.items report.good) }

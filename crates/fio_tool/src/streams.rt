@@ -13,6 +13,9 @@ use std::io::{Read, Write};
 /// One octet more than an input may have: what is enough to know that it is too long.
 const ENOUGH: usize = 1_048_577;
 
+/// The most octets that are read at a time.
+const READ: usize = 65_536;
+
 /// The input whole, or the front of one that is too long.
 pub(crate) fn read_input<R: Read>(alloc: Global, reader: &mut R) -> Result<Vec<u8>, ToolFault>
     ensures ok { IfOk result (λ input.
@@ -20,7 +23,7 @@ pub(crate) fn read_input<R: Read>(alloc: Global, reader: &mut R) -> Result<Vec<u
     ensures taken { TakesAtMost 1048577 (R.remaining reader.old) (R.remaining reader.new) }
 {
     let mut input = Vec::new(alloc);
-    let mut buffer = [0u8; 4096];
+    let mut buffer = [0u8; READ];
     'reads: while input.len() < ENOUGH {
         let room = buffer.len().min(ENOUGH - input.len());
         let Ok(count) = reader.read(&mut buffer[..room]) else {

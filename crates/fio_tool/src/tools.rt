@@ -18,7 +18,7 @@ use std::io::{Read, Write};
 pub enum Tool {
     /// To tell what each frame of the input says.
     Show,
-    /// To run a script, and to tell what each of its events brings.
+    /// To run a script, and to report the outcome of each of its events.
     Simulate,
     /// To tell whether a transcript keeps the rules.
     Check,
@@ -98,7 +98,7 @@ pub fn show<R: Read, W: Write>(
     write_report(writer, &report)
 }
 
-/// Writes what the script that the input is brings: the text of `simulate_text`. The input is read
+/// Writes the run of the script that the input is: the text of `simulate_text`. The input is read
 /// whole, up to one octet more than it may have; its text is made whole, and then written and flushed.
 ///
 /// # Errors

@@ -1,11 +1,11 @@
 -- Frames that stand end to end, one by one.
-use Rattle.std.proofs.Common.{◌≡◌, ℕ, zero, suc, ◌+◌, ◌-◌, ◌<◌, ◌≤◌, ◌==◌, true, List, [], ◌∷◌, ◌++◌, length, take, drop, Some, None, slice_get, get_or, refl, ap, ◌∙◌, arith}
+use Rattle.std.proofs.Common.{◌≡◌, ℕ, zero, suc, ◌+◌, ◌-◌, ◌<◌, ◌≤◌, ◌==◌, true, List, [], ◌∷◌, ◌++◌, length, take, drop, Some, None, slice_get, get_or, refl, ap, sym, ◌∙◌, arith}
 use Rattle.std.specs.Prelude.{nat_le}
 use Rattle.std.proofs.lemmas.Bool.{and_parts, and_from, leb-true, le-leb, eqb-true, eq-eqb}
 use Rattle.std.proofs.lemmas.List.{take-append-le, drop-append-le, length-drop, take_all}
 use Rattle.std.proofs.Math.Seq.{drop-append_seam}
 use Rattle.fio_world.specs.Link.{item_numbered}
-use Rattle.fio_world.specs.EndToEnd.{between, frames_in, is_cut, start_at}
+use Rattle.fio_world.specs.EndToEnd.{between, frames_in, is_cut, are_short, start_at}
 
 -- as many frames as ends
 pub length-frames : (octets : List ℕ) (start : ℕ) (ends : List ℕ) → length (frames_in octets start ends) ≡ length ends
@@ -89,3 +89,25 @@ past_none (frame ∷ frames) (suc k) h = past_none frames k (omega (arith, h))
 pub none_past : (frames : List (List ℕ)) (index : ℕ) → length frames < index → None ≡ item_numbered frames index
 none_past frames zero h = absurd (omega (arith, h))
 none_past frames (suc k) h = past_none frames k (omega (arith, h))
+
+-- one more short frame
+pub short-push : (frames : List (List ℕ)) (frame : List ℕ) → are_short frames ≡ true → length frame ≤ 773
+    → are_short (frames ++ frame ∷ []) ≡ true
+short-push [] frame all short = and_from (nat_le (length frame) 773) true (le-leb (length frame) 773 short) refl
+short-push (first ∷ frames) frame all short =
+    let parts = and_parts (nat_le (length first) 773) (are_short frames) all in
+    and_from (nat_le (length first) 773) (are_short (frames ++ frame ∷ [])) parts.0 (short-push frames frame parts.1 short)
+
+short-at : (frames : List (List ℕ)) (place : ℕ) (octets : List ℕ) → are_short frames ≡ true → slice_get frames place ≡ Some octets → length octets ≤ 773
+short-at [] place octets all at = absurd (cc at)
+short-at (first ∷ frames) zero octets all at =
+    let same : first ≡ octets = cc at in
+    let here = leb-true (length first) 773 (and_parts (nat_le (length first) 773) (are_short frames) all).0 in
+    rw same at here
+short-at (first ∷ frames) (suc place) octets all at =
+    short-at frames place octets (and_parts (nat_le (length first) 773) (are_short frames) all).1 at
+
+-- each frame is short
+pub short-numbered : (frames : List (List ℕ)) (index : ℕ) (octets : List ℕ) → are_short frames ≡ true → Some octets ≡ item_numbered frames index → length octets ≤ 773
+short-numbered frames zero octets all at = absurd (cc at)
+short-numbered frames (suc place) octets all at = short-at frames place octets all (sym at)

@@ -115,6 +115,6 @@ not_sent_comes_first : refusal (done (standard_settings 2) 0 start (Poll ∷ ToM
 unfolding message_in
 not_sent_comes_first = refl
 
--- a poll that is handed in
+-- a poll that is given to be sent
 poll_is_ours : refusal start (Send (commands.Poll 0)) ≡ Some PollIsOurs
 poll_is_ours = refl

@@ -25,6 +25,10 @@ pub mod OneLifeRows
 pub mod Times
 pub mod CleanRounds
 pub mod CatchingUp
+pub mod InTime
+pub mod Arrivals
+pub mod InAllRounds
+pub mod MovedScans
 pub mod WholeRecords
 pub mod Promises
 pub mod Examples

@@ -16,7 +16,8 @@ use Rattle.fio_world.specs.Headline.{RecordIsLog, Headline}
 use Rattle.fio_world.specs.Claims.{blocks_in, StandsAtTaken, RestIsTold, HasTimes, IsTimed, sources_of}
 use Rattle.fio_world.specs.Rounds.{next_round, PollsOf, PollsReceivedHaveRounds, NewestPollMadeNewestBlock, BlockAnswersOf, AnswersCarryBlocks}
 use Rattle.fio_world.specs.Rising.{IsRising}
-use Rattle.fio_world.specs.Delivery.{CleanRoundTakesBlock, Delivers}
+use Rattle.fio_world.specs.Delivery.{CleanRoundTakesBlock}
+use Rattle.fio_world.specs.InTime.{Delivers}
 use Rattle.fio_world.specs.Sound.{IsSound, IsSoundRun, HoldsOfRuns, HoldsWithoutRestart}
 use Rattle.fio_world.proofs.MadeBlocks.{each-take}
 use Rattle.fio_world.proofs.PieceLaws.{taken_are_pieces, pieces_begin_log}
@@ -25,14 +26,11 @@ use Rattle.fio_world.proofs.OneLife.{recorded_of}
 use Rattle.fio_world.proofs.OneLifeRows.{IsKept, kept, carries_own}
 use Rattle.fio_world.proofs.CleanRounds.{LastWereSent, last_were_sent, clean_round_takes_block}
 use Rattle.fio_world.proofs.CatchingUp.{IsBetween, clean_round_takes_all, clean_rounds_catch_up}
+use Rattle.fio_world.proofs.Arrivals.{got_entries}
+use Rattle.fio_world.proofs.InAllRounds.{arrives, keeps_up}
+use Rattle.fio_world.proofs.InTime.{has_stretch}
 use Rattle.fio_world.proofs.WholeRecords.{whole_unless_full, gaps_name_times, whole_where_polled_often, whole_after_outage}
 use Rattle.fio_world.proofs.Times.{BlockTimely, blocks_timely, blocks_timed}
-
--- what a block is in the record, without times
-got_entries : (stamp : ℕ) (ts : List Transition)
-    → map piece_of (map (item_of stamp) (map entry_of ts)) ≡ map (λ transition. Got (entry_of transition)) ts
-got_entries stamp [] = refl
-got_entries stamp (t ∷ ts) = ap (λ ps. Got (entry_of t) ∷ ps) (got_entries stamp ts)
 
 -- the same with its gap mark
 got_marked : (lost : Bool) (stamp : ℕ) (ts : List Transition)
@@ -120,6 +118,14 @@ module _ (settings : Settings) (range : AreInRange settings) (first : ℕ) (mach
         gaps = gaps_name_times settings machine pieces;
         polled_often = whole_where_polled_often settings range machine pieces;
         outage = whole_after_outage settings machine pieces;
+        rounds_make_blocks = λ scans begin last taken t leads.
+            (has_stretch settings range first scans machine begin last between taken t leads).makes;
+        rounds_keep_up = λ filter untaken scans begins last now later stretch p t is none.
+            keeps_up settings range first filter untaken scans machine between p.all_taken p.nothing_waits p.some p.filters p.enough
+            begins last now later stretch p.rounds p.since t is none;
+        in_time = λ filter untaken scans begins last later p.
+            arrives settings range first filter untaken scans machine between p.all_taken p.nothing_waits p.some p.filters p.enough
+            begins last later p.rounds p.since p.not_applied;
       }
 
   -- all that is promised without restarts

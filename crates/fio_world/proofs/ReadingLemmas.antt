@@ -93,18 +93,18 @@ numbered-front number lines [] left same = (0, refl)
 numbered-front number [] (first ∷ above) left same = absurd (cc same)
 numbered-front number (line ∷ lines) (first ∷ above) left same =
     in_front (is_skipped line) refl (numbered-front (suc number) lines) where
-  in_front : (skipped : Bool) → is_skipped line ≡ skipped
-      → ((above left : List (ℕ × List ℕ)) → numbered (suc number) lines ≡ above ++ left
-      → (count : ℕ) × (numbered (suc number) (take count lines) ≡ above))
-      → (count : ℕ) × (numbered number (take count (line ∷ lines)) ≡ first ∷ above)
-  in_front true says further =
-      let rest = further (first ∷ above) left (rw says at same) in
-      (suc rest.0, rw says rest.1)
-  in_front false says further =
-      let here : (number, line) ∷ numbered (suc number) lines ≡ first ∷ (above ++ left) = rw says at same in
-      let rest = further above left (cc here) in
-      let line_is : (number, line) ≡ first = cc here in
-      (suc rest.0, rw (says, rest.1, line_is) refl)
+      in_front : (skipped : Bool) → is_skipped line ≡ skipped
+          → ((above left : List (ℕ × List ℕ)) → numbered (suc number) lines ≡ above ++ left
+          → (count : ℕ) × (numbered (suc number) (take count lines) ≡ above))
+          → (count : ℕ) × (numbered number (take count (line ∷ lines)) ≡ first ∷ above)
+      in_front true says further =
+          let rest = further (first ∷ above) left (rw says at same) in
+          (suc rest.0, rw says rest.1)
+      in_front false says further =
+          let here : (number, line) ∷ numbered (suc number) lines ≡ first ∷ (above ++ left) = rw says at same in
+          let rest = further above left (cc here) in
+          let line_is : (number, line) ≡ first = cc here in
+          (suc rest.0, rw (says, rest.1, line_is) refl)
 
 collected-values : (events : List Event) → collected (map {B = Result Event ScriptError} Ok events) ≡ Ok events
 collected-values [] = refl

@@ -1,10 +1,10 @@
 -- A world shows the machine after each event.
-use Rattle.std.proofs.Common.{◌≡◌, ℕ, zero, suc, ◌+◌, ◌-◌, ◌%◌, ◌<◌, ◌≤◌, ◌==◌, Bool, true, false, List, [], ◌∷◌, ◌++◌, length, map, Option, Some, None, Result, Ok, Err, slice_get, refl, ap, sym, subst, ◌∙◌, arith, if◌then◌else◌}
-use Rattle.std.specs.Option.{option_map}
+use Rattle.std.proofs.Common.{◌≡◌, ℕ, zero, suc, ◌+◌, ◌-◌, ◌%◌, ◌<◌, ◌≤◌, ◌==◌, Bool, true, false, List, [], ◌∷◌, ◌++◌, length, map, Option, Some, None, Result, Ok, Err, slice_get, get_or, add-one, refl, ap, sym, subst, ◌∙◌, arith, if◌then◌else◌}
+use Rattle.std.specs.Option.{option_map, unwrap_or}
 use Rattle.std.specs.Result.{OnErr}
 use Rattle.std.proofs.lemmas.Bool.Decides.{nat_tests}
-use Rattle.std.proofs.lemmas.List.{length-map, map-append}
-use Rattle.std.proofs.lemmas.Option.{slice_get-map}
+use Rattle.std.proofs.lemmas.List.{length-map, map-append, length_push}
+use Rattle.std.proofs.lemmas.Option.{slice_get-map, slice_get_read}
 use Rattle.arrayvec.specs.ArrayVec.{ArrayVec}
 use Rattle.fio_message.specs.declared.answers.Answer.{Answer}
 use Rattle.fio_message.specs.declared.commands.Command.{Command}
@@ -27,7 +27,9 @@ use Rattle.fio_world.specs.declared.outcome.Outcome.TheVariants as outcomes
 use Rattle.fio_world.specs.declared.outcome.WorldError.{WorldError}
 use Rattle.fio_world.specs.declared.outcome.WorldError.TheVariants as errors
 use Rattle.fio_world.specs.Link.{Machine, Sent, Refusal, start, number_of, item_numbered, delivery_refusal, refusal, sent, answered, received, with_block, heard, after, Leads}
+use Rattle.fio_world.specs.Done.{octets_numbered}
 use Rattle.fio_world.specs.Ends.{Ends}
+use Rattle.fio_world.proofs.Places.{get_push}
 use Rattle.fio_world.specs.Worlds.{octets_of, polling_of, Shows, sent_after, replied_after, received_outcome, heard_outcome, AddsFrom, TakesMemory, IsFault, IsDone, Steps, StandsFor, events_done}
 
 -- the frame with a number, and its octets where the octets of all frames are listed
@@ -96,6 +98,14 @@ told_outcome count None frame e = absurd cc
 told_outcome count (Some answer) frame e =
     let same : answer_octets answer ≡ frame.items = cc in
     ap (λ (os : List ℕ). sent_after count os) same
+
+-- the frame that was added last, as an outcome
+pub newest : (frames old : List (List ℕ)) (frame : List ℕ) (count : ℕ) → frames ≡ old ++ frame ∷ [] → count ≡ length frames
+    → outcomes.Sent count (record { items = octets_numbered frames count }) ≡ outcomes.Sent (length old + 1) (record { items = frame })
+newest frames old frame count added last =
+    let next : count ≡ suc (length old) = last ∙ ap length added ∙ length_push old frame ∙ add-one (length old) in
+    let octets : octets_numbered frames (suc (length old)) ≡ frame = ap (λ fs. octets_numbered fs (suc (length old))) added ∙ ap (λ found. unwrap_or found []) (get_push old frame) in
+    rw (next, octets, add-one) refl
 
 -- a refusal is the same fault whether the event takes memory or not
 with_takes : (why : Option Refusal) (takes : Type 0) (fault : WorldError) → IsFault why ⊥ fault → IsFault why takes fault

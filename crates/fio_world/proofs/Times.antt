@@ -118,7 +118,7 @@ widened_back counter age fits recent =
     (record { in_range = fits; same_low = refl; age = age; is_recent = recent; stamped = refl })
 
 -- the widened time of an entry is its counter, where it is in time
-wide_time : (block : MadeBlock) (t : Transition) → IsTimely block.stamp block.scans block.loads t
+pub wide_time : (block : MadeBlock) (t : Transition) → IsTimely block.stamp block.scans block.loads t
     → IsInTime t block
     → widened block.stamp (t.counter % 2 ^ 16) ≡ t.counter
 wide_time block t p q =

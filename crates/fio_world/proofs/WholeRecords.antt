@@ -1,5 +1,5 @@
 -- The record is whole where no block says that entries were lost.
-use Rattle.std.proofs.Common.{◌≡◌, ℕ, zero, suc, ◌+◌, ◌-◌, ◌≤◌, true, false, List, [], ◌∷◌, length, take, drop, map, Some, slice_get, refl, ap, sym, subst, ◌∙◌, arith}
+use Rattle.std.proofs.Common.{◌≡◌, ℕ, zero, suc, ◌+◌, ◌-◌, ◌≤◌, false, List, [], ◌∷◌, length, take, drop, map, Some, slice_get, refl, ap, sym, subst, ◌∙◌, arith}
 use Rattle.std.specs.Prelude.{Contains, option_map}
 use Rattle.std.specs.List.{AllByRecursion}
 use Rattle.std.proofs.lemmas.Option.{slice_get-map, slice_get_read}
@@ -12,7 +12,7 @@ use Rattle.fio_module.proofs.Losses.{nothing_is_lost, losses_name_times}
 use Rattle.fio_module.proofs.Polling.{polled_often_stays_few}
 use Rattle.fio_module.proofs.Outages.{outage_stays_few}
 use Rattle.fio_world.specs.Link.{Machine}
-use Rattle.fio_world.specs.Pieces.{Piece, Gap, Got, piece_of, HasLoss, ArePieces}
+use Rattle.fio_world.specs.Pieces.{Piece, Gap, Got, piece_of, ArePieces}
 use Rattle.fio_world.specs.Headline.{end_taken}
 use Rattle.fio_world.specs.Delivery.{IsWholeUnlessFull, GapsNameTimes, IsWholeWherePolledOften, IsWholeAfterOutage}
 use Rattle.fio_world.proofs.MadeBlocks.{each-at}

@@ -102,12 +102,3 @@ abbrev pub IsWholeAfterOutage : Settings → Machine → Type 0
 IsWholeAfterOutage settings machine = (filter : ℕ) (life later : Life) →
     life_of machine.history ≡ later ++ life → NeverTooMany settings life →
     IsOutage settings filter life later → RecordIsWhole settings machine
-
--- all that is promised of what arrives without restarts
-pub record Delivers (settings : Settings) (first : ℕ) (machine : Machine) : Type 0 where
-  pub takes_all : CleanRoundTakesAll settings first machine
-  pub catches_up : CleanRoundsCatchUp settings first machine
-  pub unless_full : IsWholeUnlessFull settings machine
-  pub gaps : GapsNameTimes settings machine
-  pub polled_often : IsWholeWherePolledOften settings machine
-  pub outage : IsWholeAfterOutage settings machine

@@ -10,9 +10,11 @@ pub mod Claims
 pub mod Rounds
 pub mod Rising
 pub mod Delivery
+pub mod InTime
 pub mod Sound
 pub mod EndToEnd
 pub mod Ends
+pub mod Done
 pub mod Worlds
 pub mod Forms
 pub mod Headers

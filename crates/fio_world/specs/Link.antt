@@ -17,7 +17,7 @@ use Rattle.fio_world.specs.declared.event.Event.{Event}
 use Rattle.fio_world.specs.declared.event.Event.TheVariants.{Scan, LineSync, Raise, Poll, Send, ToModule, ToCpu, Restart}
 
 -- why an event is refused: no such frame was sent, a later one was delivered already, a poll is
--- handed in
+-- given to be sent
 pub data Refusal : Type 0 where
   NotSent : (index : ℕ) → Refusal
   OutOfOrder : (index last : ℕ) → Refusal

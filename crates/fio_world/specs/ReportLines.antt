@@ -37,13 +37,13 @@ sent_line number index octets =
     decimal number ++ (codes " sent " ++ (decimal index
     ++ (codes " " ++ (digits_of octets ++ codes "\n"))))
 
--- what the event with this number brought
+-- the outcome of the event with this number
 abbrev pub outcome_line : ℕ → Outcome → List ℕ
 outcome_line number outcomes.Quiet = decimal number ++ codes " quiet\n"
 outcome_line number (outcomes.Sent index frame) = sent_line number index frame.items
 outcome_line number (outcomes.Heard heard) = heard_line number heard
 
--- the refusal that a fault tells of, unless it is want of memory
+-- the refusal that a fault reports, unless it is out of memory
 abbrev pub refusal_in : WorldError → Option Refusal
 refusal_in (errors.NotSent index) = Some (NotSent index)
 refusal_in (errors.OutOfOrder index last) = Some (OutOfOrder index last)

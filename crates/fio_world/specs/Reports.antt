@@ -7,7 +7,7 @@ use Rattle.fio_world.specs.Worlds.{outcome_of}
 use Rattle.fio_world.specs.ReportLines.{outcome_line, refused_line, ending_text}
 use Rattle.fio_world.specs.Scripts.{Scenario}
 
--- a text, and whether it tells of no fault
+-- a text, and whether it reports no fault
 pub record Telling : Type 0 where
   pub text : List ℕ
   pub good : Bool
@@ -16,13 +16,13 @@ pub record Telling : Type 0 where
 abbrev pub told_after : List ℕ → Telling → Telling
 told_after text telling = record { text = text ++ telling.text; good = telling.good }
 
--- an event that is refused is the last of which is told; else its line stands above what follows
+-- an event that is refused has the last line; else its line stands above what follows
 abbrev pub unless_refused : ℕ → Option Refusal → List ℕ → Telling → Telling
 unless_refused number None line telling = told_after line telling
 unless_refused number (Some reason) line telling =
     record { text = refused_line number reason; good = false }
 
--- what is told of these events from a machine on, the first of which has this number
+-- what is reported of these events from a machine on, the first of which has this number
 abbrev pub told_from : Settings → ℕ → ℕ → Machine → List Event → Telling
 told_from settings first number machine [] =
     record { text = ending_text settings first machine; good = true }

@@ -61,7 +61,7 @@ abbrev pub heard_outcome : ℕ → Option Sent → Outcome
 heard_outcome number None = outcomes.Quiet
 heard_outcome number (Some frame) = outcomes.Heard (heard_as number (decoded_answer frame.octets))
 
--- what an event brings that is not refused
+-- the outcome of an event that is not refused
 abbrev pub outcome_of : Settings → ℕ → Machine → Event → Outcome
 outcome_of settings first machine events.Poll =
     sent_after (length machine.to_module)
@@ -74,13 +74,13 @@ outcome_of settings first machine (events.ToCpu index) =
     heard_outcome (number_of first machine.round) (item_numbered machine.to_cpu index)
 outcome_of settings first machine other = outcomes.Quiet
 
--- how a refusal of the machine is told
+-- how a refusal of the machine is reported
 abbrev pub error_of : Refusal → WorldError
 error_of (NotSent index) = errors.NotSent index
 error_of (OutOfOrder index last) = errors.OutOfOrder index last
 error_of PollIsOurs = errors.PollIsOurs
 
--- this frame brings a block that adds to the record
+-- this frame carries a block that adds to the record
 abbrev pub AddsFrom : Polling → Option Sent → Type 0
 AddsFrom polling None = ⊥
 AddsFrom polling (Some frame) = AddsItems polling (block_in frame.octets)
@@ -95,8 +95,8 @@ TakesMemory first machine (events.ToCpu index) =
     AddsFrom (polling_of first machine) (item_numbered machine.to_cpu index)
 TakesMemory first machine other = ⊥
 
--- the fault is the machine's refusal; where the machine does not refuse, the memory that the event
--- takes was wanting
+-- the fault is the machine's refusal; where the machine does not refuse, an event that may allocate
+-- ran out of memory
 abbrev pub IsFault : Option Refusal → Type 0 → WorldError → Type 0
 IsFault None takes fault = (fault ≡ errors.Memory) × takes
 IsFault (Some refusal) takes fault = fault ≡ error_of refusal
@@ -110,7 +110,7 @@ pub record IsDone (settings : Settings) (first : ℕ) (machine : Machine) (event
   pub shown : Shows settings first (after settings first machine event) world
 
 -- one event on a world that shows a machine: it is done, or it is refused exactly as the machine
--- refuses it, or memory is wanting
+-- refuses it, or memory runs out
 abbrev pub Steps : Settings → ℕ → Machine → Event → Result Outcome WorldError → Ends → Type 0
 Steps settings first machine event result world =
     MatchResult result

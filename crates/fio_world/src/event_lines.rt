@@ -5,7 +5,7 @@ ghost use Rattle.fio_world.specs.Hexadecimal.{octets_in};
 
 use crate::event::Event;
 use crate::script::ScriptError;
-use crate::text::{LONGEST, after_prefix, read_frame, read_inputs, read_number, read_octet};
+use crate::text::{after_prefix, read_inputs, read_number, read_octet, read_octets_to};
 use fio_message::{DecodeError, decode_command};
 
 /// The event of the line with this number, where the module may restart or not. It asks for no memory.
@@ -22,11 +22,11 @@ pub(crate) fn read_event(number: usize, line: &[u8], restarts: bool) -> Result<E
 fn read_sending(number: usize, word: &[u8]) -> Result<Event, ScriptError>
     ensures { result ≡ frame_at number (octets_in word.now) }
 {
-    let mut room = [0; LONGEST];
-    let Some(count) = read_frame(word, &mut room) else {
+    let mut room = [0; 773];
+    let Some(count) = read_octets_to(word, &mut room) else {
         return Err(ScriptError::BadLine { line: number });
     };
-    if count > LONGEST {
+    if count > room.len() {
         return Err(ScriptError::BadFrame {
             line: number,
             fault: DecodeError::TooLong { got: count },

@@ -2,13 +2,15 @@
 //! does nothing.
 ghost use Rattle.std.specs.Prelude.{◌≡◌, ℕ, ◌≤◌, true, List, ◌≢◌, ◌++◌, [], ◌∷◌, Result};
 ghost use Rattle.fio_module.specs.Limits.{Limits, are_limits};
-ghost use Rattle.fio_module.specs.Settings.{standard_settings, settings_with, AreInRange};
+ghost use Rattle.fio_module.specs.Settings.{Settings, standard_settings, settings_with, AreInRange};
+ghost use Rattle.fio_world.specs.Link.{Machine};
 ghost use Rattle.fio_world.specs.Pieces.{TakenArePieces, PiecesBeginLog};
 ghost use Rattle.fio_world.specs.Headline.{Headline};
 ghost use Rattle.fio_world.specs.Rounds.{PollsOf, PollsReceivedHaveRounds, NewestPollMadeNewestBlock, BlockAnswersOf, AnswersCarryBlocks};
 ghost use Rattle.fio_world.specs.Rising.{IsRising};
 ghost use Rattle.fio_world.specs.Sound.{HoldsOfRuns, HoldsWithoutRestart, IsSoundRun, LeadToOneMachine};
 ghost use Rattle.fio_world.specs.Delivery.{CleanRoundTakesBlock, CleanRoundTakesAll, CleanRoundsCatchUp, IsWholeUnlessFull, GapsNameTimes, IsWholeWherePolledOften, IsWholeAfterOutage};
+ghost use Rattle.fio_world.specs.InTime.{RoundsMakeBlocks, RoundsKeepUp, AllArrivesInTime, ScansMoveOut};
 ghost use Rattle.std.specs.List.{AllByRecursion};
 ghost use Rattle.fio_world.specs.Collected.{Collects};
 ghost use Rattle.fio_world.specs.Scripts.{Scenario};
@@ -104,6 +106,30 @@ pub fn polled_often_is_whole()
         IsWholeWherePolledOften settings machine) }
     ensures outage { HoldsWithoutRestart (λ settings first machine.
         IsWholeAfterOutage settings machine) }
+{}
+
+/// Without restarts each clean round, with what comes before it since the one before, makes a block,
+/// whatever was lost or repeated. So the blocks are never more scans behind than lie between two clean
+/// rounds, and twice as many where answers are lost.
+pub fn clean_rounds_keep_up()
+    ensures blocks { HoldsWithoutRestart RoundsMakeBlocks }
+    ensures behind { HoldsWithoutRestart RoundsKeepUp }
+{}
+
+/// Where clean rounds come at least every n scans, with k * n at most `per_block` * f, from a time on
+/// at which the CPU has taken all blocks and nothing waits, and no configuration is applied: the
+/// record gains each transition once, in order, with its time, and no gap mark; and at the end of a
+/// clean round it lacks none that was logged before the one two rounds earlier began, or more than
+/// n + f - 2 scans ago. Where no answer is lost it is one round, and f - 2 scans.
+pub fn all_arrives_in_time()
+    ensures { HoldsWithoutRestart AllArrivesInTime }
+{}
+
+/// Scans that come while a poll or its answer is under way lead where they lead before the poll is
+/// sent, and after its answer is received: a clean round may take time.
+pub fn scans_move_out_of_rounds()
+    ensures { (settings : Settings) (first : ℕ) (machine : Machine)
+        → ScansMoveOut settings first machine }
 {}
 
 /// Events lead to one machine at most.

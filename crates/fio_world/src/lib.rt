@@ -10,7 +10,8 @@
 //! block answers among its frames (`Frames`), the record as pieces of the transition log (`Pieces`), the
 //! headline (`Headline`), what else is promised (`Claims`), the order of rounds that it rests on
 //! (`Rounds`), the rising record, through restarts too (`Rising`), all of it for one run (`Sound`); then
-//! what contracts see of a world (`Ends`) and how it shows the machine (`Worlds`); then forms of lines
+//! what contracts see of a world (`Ends`) over frames that stand end to end (`EndToEnd`), what an event
+//! did (`Done`) and how a world shows the machine (`Worlds`); then forms of lines
 //! (`Forms`), a script's first line (`Headers`), its further lines (`EventLines`), scripts (`Scripts`), the
 //! lines of a report (`ReportLines`), reports (`Reports`). The laws are the contracts of the module `laws`.
 #![tactic(auto)]

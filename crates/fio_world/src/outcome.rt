@@ -1,9 +1,9 @@
-//! What an event brings, and why it may not happen.
+//! The outcome of an event, and why it may not happen.
 use fio_cpu::Heard;
 use fio_message::Frame;
 use thiserror::Error;
 
-/// What an event brought.
+/// The outcome of an event.
 #[derive(Clone, Debug, Drop, PartialEq, Eq)]
 pub enum Outcome {
     /// A frame was sent: a command of the CPU, or the module's answer.
@@ -36,7 +36,7 @@ pub enum WorldError {
         /// The number that was delivered last.
         last: usize,
     },
-    /// A poll was handed in to be sent: polls are sent by `Event::Poll` alone.
+    /// A poll was given to be sent: polls are sent by `Event::Poll` alone.
     #[error("poll is ours")]
     PollIsOurs,
     /// There was no memory for what the event adds.

@@ -7,29 +7,13 @@ ghost use Rattle.fio_world.specs.Worlds.{Shows};
 ghost use Rattle.fio_world.specs.declared.outcome.Outcome.TheVariants as outcomes;
 ghost use Rattle.fio_cpu.specs.declared.hearing.Heard.TheVariants as heards;
 
-use crate::outcome::{Outcome, WorldError};
+use crate::outcome::WorldError;
 use crate::push_line;
 use crate::text::{EntryLines, FaultWords, push_hexadecimal};
 use crate::world::World;
 use fio_cpu::{Heard, Item};
 use fio_message::{Entry, Memory};
 use std::alloc::AllocError;
-
-/// What the event with this number brought.
-pub(crate) fn push_outcome(
-    text: &mut Vec<u8>,
-    number: usize,
-    outcome: &Outcome,
-) -> Result<(), AllocError>
-    ensures { OnOk result (text.new.items
-        ≡ text.old.items ++ outcome_line number outcome.now) }
-{
-    match outcome {
-        Outcome::Quiet => push_quiet(text, number),
-        Outcome::Sent { index, frame } => push_sent(text, number, *index, frame),
-        Outcome::Heard(heard) => push_heard(text, number, *heard),
-    }
-}
 
 pub(crate) fn push_quiet(text: &mut Vec<u8>, number: usize) -> Result<(), AllocError>
     ensures { OnOk result (text.new.items
@@ -89,7 +73,7 @@ fn push_taken(
 /// Why the event with this number did not happen, where that is a refusal.
 ///
 /// # Errors
-/// `Memory` where the event wanted memory, or the text could not grow.
+/// `Memory` where the event ran out of memory, or the text could not grow.
 pub(crate) fn push_refusal(
     text: &mut Vec<u8>,
     number: usize,
@@ -147,11 +131,7 @@ fn push_counts(
 }
 
 /// An item of the record.
-fn push_item(
-    text: &mut Vec<u8>,
-    entry_lines: &mut EntryLines,
-    item: Item,
-) -> Result<(), AllocError>
+fn push_item(text: &mut Vec<u8>, entry_lines: &mut EntryLines, item: Item) -> Result<(), AllocError>
     ensures { OnOk result (text.new.items ≡ text.old.items ++ item_line item) }
 {
     match item {

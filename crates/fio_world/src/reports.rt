@@ -1,11 +1,11 @@
-//! What a run tells.
+//! What is written of a run.
 ghost use Rattle.std.specs.Prelude.{◌≡◌, ◌++◌, OnOk, OnErr};
 ghost use Rattle.fio_message.specs.Texts.{fault_text};
 
 use crate::text::FaultWords;
 use fio_message::{DecodeError, Memory};
 
-/// A text, and whether it tells of no fault.
+/// A text, and whether it reports no fault.
 #[derive(Debug, Drop)]
 pub struct Report {
     /// Its lines, each with its line feed.

@@ -1,7 +1,6 @@
 //! What the texts of the program share: lines and words, how they are read, and what is printed.
 
 mod entry_lines;
-mod fixed;
 mod lines;
 mod numbering;
 mod octets;
@@ -10,13 +9,14 @@ mod words;
 mod writing;
 
 pub use entry_lines::EntryLines;
-pub use fixed::{LONGEST, read_frame};
 pub use lines::{is_skipped, split_line};
 pub use numbering::{NumberedLines, numbered_lines};
 pub use octets::{is_octets, read_octets_to};
 pub use printing::{FaultWords, Hexadecimal};
 pub use words::{
-    after_prefix, read_inputs, read_number, read_octet, read_octets, read_octets_into,
-    read_small_number, split_at_blank,
+    after_prefix, read_inputs, read_number, read_octet, read_octets, read_small_number,
+    split_at_blank,
 };
-pub use writing::{append_line, line_end, push_hexadecimal, put, put_decimal, put_hexadecimal, put_octet};
+pub use writing::{
+    append_line, line_end, push_hexadecimal, put, put_decimal, put_hexadecimal, put_octet,
+};

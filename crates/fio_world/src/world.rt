@@ -8,10 +8,12 @@ ghost use Rattle.fio_world.specs.Link.{Machine, item_numbered};
 ghost use Rattle.fio_world.specs.Headline.{Headline};
 ghost use Rattle.fio_world.specs.Worlds.{Shows, Steps, StandsFor, IsSoundWorld, HasStopped, HasStoppedAt, all_done, events_done};
 
+mod done;
 mod frames;
 mod happening;
 mod stored;
 
+pub(crate) use self::done::Done;
 use self::stored::StoredFrames;
 use crate::event::Event;
 use crate::outcome::{Outcome, RunError, WorldError};
@@ -130,7 +132,7 @@ impl World {
     ///
     /// # Errors
     /// The first that applies: `NotSent` for a delivery of a frame that was not sent, `OutOfOrder`
-    /// for one of a frame before that delivered last, `PollIsOurs` for a poll handed in to be sent,
+    /// for one of a frame before that delivered last, `PollIsOurs` for a poll given to be sent,
     /// and `Memory` where there is none. `Scan`, `LineSync`, `Raise`, `Restart` and a delivery to
     /// the CPU that adds nothing to the record take no memory. A delivery to the module asks for
     /// the place of its answer before the module receives the frame.
@@ -147,7 +149,10 @@ impl World {
             → Headline settings first (events_done events event.now result)
             self.new.poller_end.items }
     {
-        self.happen(event)
+        match self.happen(event) {
+            Ok(done) => Ok(self.outcome(done)),
+            Err(fault) => Err(fault),
+        }
     }
 
     /// Lets these events happen in order, up to the first that is refused. What was done stays, and

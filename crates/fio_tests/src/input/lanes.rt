@@ -47,7 +47,7 @@ impl PlainInput {
         self.run = 0;
     }
 
-    /// Takes a sample, and tells whether a transition is reported.
+    /// Takes a sample, and returns whether a transition is reported.
     fn scan(&mut self, sample: bool) -> bool {
         if sample != self.level {
             self.run = 0;

@@ -1,8 +1,8 @@
-//! Examples as rows, an event and what it brings, and their two runs.
+//! Examples as rows, an event and its outcome, and their three runs: at once, in two parts, event by event.
 use fio_cpu::{Heard, Item};
 use fio_message::{Frame, InputNumber, decode_command};
 use fio_module::Limits;
-use fio_world::{Event, Outcome, World};
+use fio_world::{Event, Outcome, RunError, World};
 use std::alloc::{AllocError, Global};
 use std::process::Abort;
 use std::test::Fail;
@@ -45,12 +45,14 @@ pub(super) fn entry(rt: &impl Abort, input: u8, level: bool, counter: u16) -> It
     }
 }
 
-/// The world to which these rows lead, run at once and event by event, with one result.
+/// The world to which these rows lead, run at once, in two parts and event by event, with one result.
 pub(super) fn both(rt: &impl Abort, alloc: Global, first: u8, rows: &[Row]) -> Result<World, Fail> {
-    let stepped = step_all(rt, World::new(alloc, ID, first)?, rows);
+    let stepped = one_by_one(rt, World::new(alloc, ID, first)?, rows);
     let events = events_of(alloc, rows)?;
     let ran = World::run(alloc, ID, first, events.as_slice())?;
     are_same(rt, &ran, &stepped);
+    let parted = in_two_parts(World::new(alloc, ID, first)?, events.as_slice())?;
+    are_same(rt, &ran, &parted);
     Ok(ran)
 }
 
@@ -62,20 +64,33 @@ pub(super) fn both_with_limits(
     limits: Limits,
     rows: &[Row],
 ) -> Result<World, Fail> {
-    let stepped = step_all(rt, World::with_limits(alloc, ID, first, limits)?, rows);
+    let stepped = one_by_one(rt, World::with_limits(alloc, ID, first, limits)?, rows);
     let events = events_of(alloc, rows)?;
     let ran = World::run_with_limits(alloc, ID, first, limits, events.as_slice())?;
     are_same(rt, &ran, &stepped);
+    let parted = in_two_parts(
+        World::with_limits(alloc, ID, first, limits)?,
+        events.as_slice(),
+    )?;
+    are_same(rt, &ran, &parted);
     Ok(ran)
 }
 
-/// Each event is done and brings what its row says.
-fn step_all(rt: &impl Abort, mut world: World, rows: &[Row]) -> World {
+/// Each event is done and has the outcome of its row.
+fn one_by_one(rt: &impl Abort, mut world: World, rows: &[Row]) -> World {
     for (event, outcome) in rows {
         let brought = world.step(event).expect(rt, "an event that is done");
         assert_eq!(rt; &brought, outcome);
     }
     world
+}
+
+/// The first half of the events at once, and then the rest.
+fn in_two_parts(mut world: World, events: &[Event]) -> Result<World, RunError> {
+    let (front, rest) = events.split_at(events.len() / 2);
+    world.step_all(front)?;
+    world.step_all(rest)?;
+    Ok(world)
 }
 
 /// The events of these rows.

@@ -6,7 +6,8 @@ use std::alloc::Global;
 use std::process::Abort;
 use std::test::Fail;
 
-/// A run of these events, of a refused one and of a poll stops at the refused one.
+/// A run of these events, of a refused one and of a poll stops at the refused one, with the others above
+/// it done.
 fn run_stops(
     rt: &impl Abort,
     alloc: Global,
@@ -21,8 +22,11 @@ fn run_stops(
     events.push(refused.clone()?)?;
     events.push(Event::Poll)?;
     let place = done.len();
-    let stopped = World::run(alloc, ID, 0, events.as_slice()).err();
-    assert_eq!(rt; stopped, Some(RunError { place, fault }));
+    let stopped = Some(RunError { place, fault });
+    assert_eq!(rt; World::run(alloc, ID, 0, events.as_slice()).err(), stopped);
+    let mut world = World::new(alloc, ID, 0)?;
+    assert_eq!(rt; world.step_all(events.as_slice()).err(), stopped);
+    are_same(rt, &world, &World::run(alloc, ID, 0, done)?);
     Ok(())
 }
 

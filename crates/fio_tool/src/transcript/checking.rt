@@ -1,39 +1,42 @@
-//! The text that tells whether a transcript keeps the rules.
+//! The text that says whether a transcript keeps the rules.
 ghost use Rattle.std.specs.Prelude.{◌≡◌, ◌++◌, IfOk, OnOk, string_bytes};
 ghost use Rattle.fio_tool.specs.TranscriptTexts.{IsCheckText, is_good, rule_name, verdict_text};
 
-use super::reading::{TraceError, read_trace};
-use super::rules::{Rule, Verdict, check_trace};
+use super::one_pass::{BadLine, check_lines};
+use super::rules::Rule;
+use super::verdict::Verdict;
 use crate::inputs::{is_too_long, report_too_long};
 use fio_message::Memory;
 use fio_world::Report;
 use std::alloc::{AllocError, Global};
 
-/// The text that tells whether the transcript in the input keeps the rules: `good N frames`, or
-/// `line N breaks RULE` with the first line that breaks one. A line that is no frame gives the one
-/// line `line N: bad line`, and then no rule is tried; an input of more than 1,048,576 octets gives
-/// the one line `input too long`. The report is good for `good N frames` alone.
+/// Room for the longest line of a text, the one for `sequence` at line 1,048,576.
+const LONGEST_LINE: usize = 32;
+
+/// The text that says whether the transcript in the input keeps the rules: `good N frames`, or
+/// `line N breaks RULE` with the first line that breaks one. The first line that is no frame gives
+/// the one line `line N: bad line`, also where a line breaks a rule; an input of more than 1,048,576
+/// octets gives the one line `input too long`. The report is good for `good N frames` alone.
 ///
 /// # Errors
-/// `Memory` where there is none for the lines of the transcript or for the text.
+/// `Memory` where there is no room for the text's one line, which is asked for once. Nothing else
+/// allocates: the transcript is checked in one pass over the input.
 pub fn check_text(alloc: Global, input: &[u8]) -> Result<Report, Memory>
     ensures { IfOk result (λ report. IsCheckText input.now report.text.items report.good) }
 {
     if is_too_long(input) {
         return report_too_long(alloc);
     }
-    let mut text = String::new(alloc);
-    let good = match read_trace(alloc, input) {
-        Ok(lines) => {
-            let verdict = check_trace(lines.as_slice());
+    let mut text = String::with_capacity(alloc, LONGEST_LINE)?;
+    let good = match check_lines(input) {
+        Ok(verdict) => {
             push_verdict(&mut text, verdict)?;
             matches!(verdict, Verdict::Good { .. })
         }
-        Err(TraceError::BadLine { line }) => {
+        Err(BadLine { line }) => {
             write!(text, "line {line}: bad line\n")?;
             false
         }
-        Err(TraceError::Memory) => return Err(Memory),
     };
     Ok(Report {
         text: text.into_bytes(),

@@ -1,5 +1,5 @@
 //! The lines of entries.
-ghost use Rattle.std.specs.Prelude.{◌≡◌, ◌≤◌, ◌++◌, length, drop, OnOk};
+ghost use Rattle.std.specs.Prelude.{◌≡◌, ◌≤◌, ◌++◌, drop, OnOk};
 ghost use Rattle.fio_world.specs.ReportLines.{entry_line, scan_ending};
 
 use super::writing::{append_line, line_end};
@@ -29,7 +29,7 @@ impl Model for EntryLines {
 
     // The line ends with the stamp and the wide time, behind room for what stands before them.
     ghost invariant = { λ v. (drop v.ending v.line ≡ scan_ending v.stamp v.wide)
-      × (64 ≤ v.ending) × (v.ending ≤ 128) };
+        × (64 ≤ v.ending) × (v.ending ≤ 128) };
 }
 
 impl EntryLines {
@@ -45,19 +45,20 @@ impl EntryLines {
         }
     }
 
-    /// Appends the line of an entry with this wide time to a text, behind `margin`, at most 8 octets:
+    /// Appends the line of an entry with this wide time to a text, behind a margin of at most 8 octets:
     /// `input I state L stamp S wide W`.
     ///
     /// # Errors
     /// `AllocError` where the text cannot grow.
-    pub fn push(
+    #[inline(always)]
+    pub fn push<const N: usize>(
         &mut self,
         text: &mut Vec<u8>,
-        margin: &[u8],
+        margin: &[u8; N],
         entry: Entry,
         wide: u32,
     ) -> Result<(), AllocError>
-        requires { length margin.now ≤ 8 }
+        requires { N ≤ 8 }
         ensures { OnOk result (text.new.items ≡ text.old.items
             ++ (margin.now ++ entry_line entry.input entry.level entry.stamp wide)) }
     {

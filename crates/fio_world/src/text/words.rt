@@ -89,16 +89,3 @@ pub fn read_octets(alloc: Global, word: &[u8]) -> Result<Option<Vec<u8>>, Memory
         Err(_) => Ok(None),
     }
 }
-
-/// The same into octets that are used again, which hold the word's where the answer is yes.
-pub fn read_octets_into(word: &[u8], octets: &mut Vec<u8>) -> Result<bool, Memory>
-    ensures { IfOk result (λ found.
-        octets_in word.now ≡ (if found then Some octets.new.items else None)) }
-{
-    octets.clear();
-    if word.is_empty() || word.len() % 2 == 1 {
-        return Ok(false);
-    }
-    octets.resize(word.len() / 2, 0)?;
-    Ok(hex::decode_to_slice(word, octets.as_mut_slice()).is_ok())
-}

@@ -6,8 +6,8 @@ ghost use Rattle.fio_world.specs.Hexadecimal.{digits_of, octet_digits};
 
 use std::alloc::AllocError;
 
-/// Appends a line of at most 128 octets to a text, made of these pieces: octets as they are (`b".."`
-/// or `(octets)`), a number of at most 64 bits in decimal digits (`{number}`), an octet or octets in
+/// Appends a line of at most 128 octets to a text, made of these pieces: octets of a known
+/// number as they are (`b".."` or `(octets)`), a number of at most 64 bits in decimal digits (`{number}`), an octet or octets in
 /// hexadecimal digits of lower case (`[octet]`, `[&octets]`). It is an `AllocError` where the text cannot grow.
 #[macro_export]
 macro_rules! push_line {
@@ -55,18 +55,30 @@ pub fn line_end(line: &[u8; 128]) -> usize
     line.len()
 }
 
-/// Puts octets before what stands in a line from `end` on, for which there has to be room, and
-/// returns where the line starts then. What stood from `end` on stays.
+/// Puts octets, whose number is known when this is compiled, before what stands in a line from `end`
+/// on, for which there has to be room, and returns where the line starts then. What stood from `end`
+/// on stays.
 #[inline(always)]
-pub fn put(line: &mut [u8; 128], end: usize, octets: &[u8]) -> usize
-    requires { (length octets.now ≤ end) × (end ≤ 128) }
-    ensures start { result + length octets.now ≡ end }
+pub fn put<const N: usize>(line: &mut [u8; 128], end: usize, octets: &[u8; N]) -> usize
+    requires { (N ≤ end) × (end ≤ 128) }
+    ensures start { result + N ≡ end }
     ensures put { drop result line.new ≡ octets.now ++ drop end line.old }
     ensures kept { (at : ℕ) → end ≤ at → drop at line.new ≡ drop at line.old }
 {
-    let start = end - octets.len();
-    line[start..end].copy_from_slice(octets);
+    let start = end - N;
+    begin_with(&mut line[start..], octets);
     start
+}
+
+/// Puts octets at the beginning of others.
+#[inline(always)]
+fn begin_with<const N: usize>(octets: &mut [u8], first: &[u8; N])
+    requires { N ≤ length octets.old }
+    ensures { octets.new ≡ first.now ++ drop N octets.old }
+{
+    if let Some(place) = octets.first_chunk_mut::<N>() {
+        *place = *first;
+    }
 }
 
 /// Puts a number in decimal digits, of which it has at most 20, as `put` puts octets.

@@ -1,7 +1,8 @@
 //! The frames sent in one direction, end to end.
-ghost use Rattle.std.specs.Prelude.{◌≡◌, ◌≢◌, ◌≤◌, ◌<◌, ◌∷◌, ◌++◌, [], List, ℕ, Some, true, length, OnOk, OnErr};
+ghost use Rattle.std.specs.Prelude.{◌≡◌, ◌≢◌, ◌≤◌, ◌<◌, ◌∷◌, ◌++◌, [], List, ℕ, Some, true, length, IfSome, OnOk, OnErr};
 ghost use Rattle.std.specs.Option.{option_map};
 ghost use Rattle.std.specs.Borrow.{Bor};
+ghost use Rattle.fio_world.specs.Done.{octets_numbered};
 ghost use Rattle.fio_world.specs.Link.{item_numbered};
 ghost use Rattle.fio_world.specs.EndToEnd.{between, start_at};
 
@@ -21,17 +22,20 @@ pub(crate) struct StoredFrames {
 
 impl Model for StoredFrames {
     ghost use Rattle.std.specs.Prelude.{◌≡◌, ◌&&◌, ◌+◌, true, nat_le, nat_lt, length, vec_len, vec_capacity};
-    ghost use Rattle.fio_world.specs.EndToEnd.{Stored, frames_in, is_cut};
+    ghost use Rattle.fio_world.specs.EndToEnd.{Stored, frames_in, is_cut, are_short};
 
     ghost Value = { Stored };
 
     ghost view = { λ f. record {
       frames = frames_in f.octets.items 0 f.ends.items;
       has_room = nat_lt (vec_len f.ends) (vec_capacity f.ends)
-        && nat_le (vec_len f.octets + 773) (vec_capacity f.octets);
+          && nat_le (vec_len f.octets + 773) (vec_capacity f.octets);
     } };
 
-    ghost invariant = { λ f. is_cut 0 f.ends.items (length f.octets.items) ≡ true };
+    ghost invariant = { λ f. record {
+      cut : is_cut 0 f.ends.items (length f.octets.items) ≡ true;
+      short : are_short (frames_in f.octets.items 0 f.ends.items) ≡ true;
+    } };
 }
 
 impl StoredFrames {
@@ -75,16 +79,29 @@ impl StoredFrames {
     /// The octets of the frame with this number.
     pub(crate) fn octets_of(&self, index: usize) -> &[u8]
         requires { (index ≢ 0) × (index ≤ length self.now.frames) }
-        ensures { Some result.now ≡ item_numbered self.now.frames index }
+        ensures is { Some result.now ≡ item_numbered self.now.frames index }
+        ensures short { length result.now ≤ 773 }
     {
         let start = start_of(self.ends.as_slice(), index - 1);
         part(self.octets.as_slice(), start, self.ends[index - 1])
     }
 
+    /// The octets of the frame with this number, or none where there is no such frame.
+    pub(crate) fn octets_or_none(&self, index: usize) -> &[u8]
+        ensures is { result.now ≡ octets_numbered self.now.frames index }
+        ensures short { length result.now ≤ 773 }
+    {
+        match self.get(index) {
+            Some(octets) => octets,
+            None => &[],
+        }
+    }
+
     /// The octets of the frame with this number, or `None` where none has it.
     pub(crate) fn get(&self, index: usize) -> Option<&[u8]>
-        ensures { option_map (λ (octets : Bor (List ℕ)). octets.now) result
+        ensures is { option_map (λ (octets : Bor (List ℕ)). octets.now) result
             ≡ item_numbered self.now.frames index }
+        ensures short { IfSome result (λ octets. length octets.now ≤ 773) }
     {
         if index == 0 {
             return None;

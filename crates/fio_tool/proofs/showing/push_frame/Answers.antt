@@ -1,6 +1,6 @@
 use Rattle.std.proofs.Common.{arith, refl}
 use Rattle.fio_message.proofs.Numbers.{octets_from_each}
-use Rattle.fio_tool.proofs.BlockShown.{block_shown}
+use Rattle.fio_tool.proofs.FramesShown.{block_shown}
 use Rattle.fio_tool.proofs.showing.push_frame.Goals as goal
 
 pub returns-in-Ok-clause-text : goal.returns-in-Ok-clause-text

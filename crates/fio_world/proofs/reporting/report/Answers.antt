@@ -7,7 +7,7 @@ loop-place-preserved c =
     let on = c.loop-place.invariant in
     let within : c.loop-place.place < length c.args.script.now.events.items = search rules in
     let here = rw c.deref-event-items.ensures.value at c.event-item.is in
-    rw c.in_ok-push_outcome-in-Ok.ensures
+    rw c.in_ok-push_done-in-Ok.ensures
     (TellsOn-done _ _ _ _ _ _ _ on within here (c.in-Ok.ensures.row _ _ _ on.shown))
 
 pub returns-in-Err : goal.returns-in-Err

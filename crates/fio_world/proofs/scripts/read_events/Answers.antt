@@ -21,9 +21,9 @@ lines-preserved c =
     let gives = sym c.in_ok-event.ensures in
     record {
       events = rw (c.in_ok-push.ensures.items, c.in_ok-push.ensures.len)
-      (sym (read_on-event _ _ _ _ _ _ few gives) ∙ rw c.in-Some.ensures.steps at c.lines.invariant.events);
+          (sym (read_on-event _ _ _ _ _ _ few gives) ∙ rw c.in-Some.ensures.steps at c.lines.invariant.events);
       front = rw c.in_ok-push.ensures.items
-      (HaveRead-event _ _ _ _ _ _ _ c.lines.invariant.front c.in-Some.ensures.steps gives);
+          (HaveRead-event _ _ _ _ _ _ _ c.lines.invariant.front c.in-Some.ensures.steps gives);
       few = omega (arith, few, c.in_ok-push.ensures.len);
     }
 

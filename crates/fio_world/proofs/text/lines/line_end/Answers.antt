@@ -8,16 +8,22 @@ lanes-preserved c = record {
   within = omega arith;
   before = λ k less at. elim (cases_lt k c.lanes.at) [
     | inl old ↦ c.lanes.invariant.before k old at
-    | inr new ↦ cc (run_in_chunk_fails (λ octet. eqb octet 10) c.args.text.now c.lanes.at 16 c.before_feed-free.result 0
-        (omega arith) c.before_feed-free.ensures k new (omega arith), eq-eqb _ _ at)
+    | inr new ↦ cc (
+      run_in_chunk_fails (λ octet. eqb octet 10) c.args.text.now c.lanes.at 16 c.before_feed-free.result 0
+          (omega arith) c.before_feed-free.ensures k new (omega arith),
+      eq-eqb _ _ at,
+    )
   ];
 }
 
 pub returns-then-free-lt-LANES-clause-before : goal.returns-then-free-lt-LANES-clause-before
 returns-then-free-lt-LANES-clause-before c = λ k less at. elim (cases_lt k c.lanes.at) [
   | inl old ↦ c.lanes.invariant.before k old at
-  | inr new ↦ cc (run_in_chunk_fails (λ octet. eqb octet 10) c.args.text.now c.lanes.at 16 c.before_feed-free.result 0
-      (omega arith) c.before_feed-free.ensures k new less, eq-eqb _ _ at)
+  | inr new ↦ cc (
+    run_in_chunk_fails (λ octet. eqb octet 10) c.args.text.now c.lanes.at 16 c.before_feed-free.result 0
+        (omega arith) c.before_feed-free.ensures k new less,
+    eq-eqb _ _ at,
+  )
 ]
 
 pub returns-then-free-lt-LANES-clause-feed : goal.returns-then-free-lt-LANES-clause-feed

@@ -1,8 +1,11 @@
-use Rattle.std.proofs.Common.{◌-◌, length, arith}
-use Rattle.std.proofs.lemmas.Slice.{drop-put_mid}
+use Rattle.std.proofs.Common.{◌-◌, arith}
+use Rattle.std.proofs.lemmas.Grind.{common_steps}
+use Rattle.fio_world.proofs.RoomLemmas.{kept}
 use Rattle.fio_world.proofs.text.writing.put.Goals as goal
 
+pub returns-clause-put : goal.returns-clause-put
+returns-clause-put g c = grind (arith, common_steps)
+
 pub returns-clause-kept : goal.returns-clause-kept
-returns-clause-kept c at past =
-    let start = c.args.end - length c.args.octets.now in
-    drop-put_mid start (c.args.end - start) c.args.line.now c.copy_from_slice.new.self at (omega arith) (omega arith) (omega (arith, c.copy_from_slice.ensures.len))
+returns-clause-kept g c at past =
+    kept _ _ c.args.octets.now (c.args.end - g.row.N) c.args.end at (returns-clause-put g c) (omega arith) past

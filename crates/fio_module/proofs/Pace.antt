@@ -1,0 +1,409 @@
+-- Blocks that keep up with the scans leave few entries, and young ones.
+use Rattle.std.proofs.Common.{◌≡◌, ℕ, zero, suc, ◌+◌, ◌-◌, ◌*◌, ◌<◌, ◌≤◌, Bool, true, false, List, [], ◌∷◌, ◌++◌, length, drop, Some, slice_get, refl, ap, sym, subst, ◌∙◌, arith, inl, inr, append_assoc, length-drop, if◌then◌else◌}
+use Rattle.std.specs.List.{AllByRecursion}
+use Rattle.std.proofs.Math.Nat.{mul-le-mul_left, mul-le-mul_right, le_of_mul-le-mul_right}
+use Rattle.std.proofs.lemmas.Bool.{cases_lt}
+use Rattle.std.proofs.lemmas.Option.{slice_get_within}
+use Rattle.fio_message.specs.declared.commands.Command.TheVariants.{Poll, ConfigureInputs}
+use Rattle.fio_input.specs.FilterHistory.{is_reported}
+use Rattle.fio_input.specs.Delivery.{scans_in, all_reports_in, open_inputs, OpenHaveFiltersOf, NoneIsApplied}
+use Rattle.fio_input.proofs.FewReports.{reports_times_filter, open_inputs-carried, open_filters-carried}
+use Rattle.fio_module.specs.Settings.{Settings, AreInRange}
+use Rattle.fio_module.specs.Life.{Life, Occurrence, Scanned, Commanded, scans_of, filter_events}
+use Rattle.fio_module.specs.Log.{Transition, transition_at, transitions_below, log_of}
+use Rattle.fio_module.specs.Blocks.{latest_poll, is_new, blocks_of, next_block, newest_end, start_after, count_from, waiting_from, waiting_of}
+use Rattle.fio_module.specs.Delivery.{AtEachTime, FewBeyond}
+use Rattle.fio_module.specs.KeepingUp.{scans_behind, IsYoung, KeepsUp}
+use Rattle.fio_module.proofs.Ends.{last_end-append}
+use Rattle.fio_module.proofs.BlockLaws.{blocks_end_within}
+use Rattle.fio_module.proofs.Losses.{holds_now}
+use Rattle.fio_module.proofs.Growth.{filter_events-append, log-grows}
+
+-- what holds of each element of two lists holds of each
+pub each-front : {A : Type 0} (P : A → Type 0) (xs ys : List A) → AllByRecursion P (xs ++ ys) → AllByRecursion P xs
+each-front P [] ys all = tt
+each-front P (x ∷ xs) ys all = (all.0, each-front P xs ys all.1)
+
+pub each-back : {A : Type 0} (P : A → Type 0) (xs ys : List A) → AllByRecursion P (xs ++ ys) → AllByRecursion P ys
+each-back P [] ys all = all
+each-back P (x ∷ xs) ys all = each-back P xs ys all.1
+
+-- where no configuration is applied, none was before
+pub none_before : (later life : Life) → NoneIsApplied (filter_events (later ++ life)) → NoneIsApplied (filter_events life)
+none_before later life none =
+    each-back _ (filter_events later) (filter_events life) (subst NoneIsApplied (filter_events-append later life) none)
+
+none_since : (later life : Life) → NoneIsApplied (filter_events (later ++ life)) → NoneIsApplied (filter_events later)
+none_since later life none =
+    each-front _ (filter_events later) (filter_events life) (subst NoneIsApplied (filter_events-append later life) none)
+
+-- where nothing waits, the newest block ends the log
+pub nothing_left : (settings : Settings) → AreInRange settings → (life : Life) → length (waiting_of settings life) ≡ 0
+    → newest_end settings life ≡ length (log_of life)
+nothing_left settings range life none =
+    let rest = length-drop (waiting_from settings life) (log_of life) in
+    let within : newest_end settings life ≤ length (log_of life) = blocks_end_within settings life in
+    let some = range.many_waiting in
+    omega arith
+
+-- Since a time at which all were taken, `full` whole blocks were taken, each of which made up for so
+-- many scans.
+pub record IsPaced (settings : Settings) (scans : ℕ) (life later : Life) : Type 0 where
+  pub since : Life
+  pub before : Life
+  pub split : later ≡ since ++ before
+  pub full : ℕ
+  pub ended : newest_end settings (later ++ life) ≡ length (log_of (before ++ life)) + settings.per_block * full
+  pub scanned : scans_in (filter_events since) ≤ scans * full + scans_behind scans later life
+
+-- Reports that are few for their scans are few for the blocks: those that so many blocks leave, `age`
+-- scans later.
+few_at_pace : (reports left filter opened scans count age full behind per_block : ℕ)
+    → reports * filter + opened * 1 ≤ opened * (count + filter)
+    → count + age ≤ scans * full + behind → opened * scans ≤ per_block * filter
+    → left + per_block * full ≤ reports
+    → left * filter + opened * (age + 1) ≤ opened * (behind + filter)
+few_at_pace reports left filter opened scans count age full behind per_block few counted enough more =
+    let in_all : opened * (count + age) ≤ opened * (scans * full + behind) = mul-le-mul_left opened counted in
+    let by_blocks : opened * (scans * full + behind) ≡ (opened * scans) * full + opened * behind = grind arith in
+    let whole : (opened * scans) * full ≤ (per_block * filter) * full = mul-le-mul_right full enough in
+    let turned : (per_block * filter) * full ≡ (per_block * full) * filter = grind arith in
+    let times : (left + per_block * full) * filter ≤ reports * filter = mul-le-mul_right filter more in
+    omega arith
+
+-- so none is left `age` scans later, where that is no fewer than there are behind and the filter's
+young_at_pace : (left filter opened age behind : ℕ) → 1 ≤ left → 1 ≤ filter
+    → left * filter + opened * (age + 1) ≤ opened * (behind + filter) → age + 2 ≤ behind + filter
+young_at_pace left filter opened age behind one some few =
+    elim (cases_lt (age + 1) (behind + filter)) as (λ _. age + 2 ≤ behind + filter) [
+      | inl less ↦ omega arith
+      | inr more ↦
+          let less : opened * (behind + filter) ≤ opened * (age + 1) = mul-le-mul_left opened more in
+          let product : 1 * filter ≤ left * filter = mul-le-mul_right filter one in
+          absurd (omega arith)
+    ]
+
+-- The time at which the transition at a place of the log was logged.
+record WasLogged (since rest : Life) (place : ℕ) (transition : Transition) : Type 0 where
+  pub after : Life
+  pub upto : Life
+  pub split : since ≡ after ++ upto
+  pub logged : place < length (log_of (upto ++ rest))
+  pub age : scans_of (since ++ rest) ≡ transition.scans + scans_in (filter_events after)
+
+-- it was logged at this scan
+logged_at : (count raw : ℕ) (life : Life) (k : ℕ) (transition : Transition)
+    → slice_get (transitions_below count raw life) k ≡ Some transition
+    → transition.scans ≡ scans_of (Scanned raw ∷ life)
+unfolding transitions_below
+logged_at zero raw life k transition is = absurd (cc is)
+logged_at (suc input) raw life k transition is =
+    found (transitions_below input raw life) (is_reported input raw (filter_events life)) k (logged_at input raw life) is
+  where
+    found : (earlier : List Transition) (reported : Bool) (k : ℕ)
+        → ((k : ℕ) (t : Transition) → slice_get earlier k ≡ Some t → t.scans ≡ scans_of (Scanned raw ∷ life))
+        → slice_get (earlier ++ (if reported then transition_at (Scanned raw ∷ life) input ∷ [] else [])) k ≡ Some transition
+        → transition.scans ≡ scans_of (Scanned raw ∷ life)
+    found [] true zero each is =
+        let same : transition_at (Scanned raw ∷ life) input ≡ transition = cc in
+        ap (λ (t : Transition). t.scans) (sym same)
+    found [] true (suc k) each is = absurd (cc is)
+    found [] false k each is = absurd (cc is)
+    found (t ∷ earlier) reported zero each is = each 0 transition is
+    found (t ∷ earlier) reported (suc k) each is = found earlier reported k (λ k. each (suc k)) is
+
+-- what stands in one of two lists
+get_in_front : {A : Type 0} (xs ys : List A) (k : ℕ) (x : A) → k < length xs → slice_get (xs ++ ys) k ≡ Some x
+    → slice_get xs k ≡ Some x
+get_in_front [] ys k x low is = absurd (omega arith)
+get_in_front (z ∷ xs) ys zero x low is = is
+get_in_front (z ∷ xs) ys (suc k) x low is = get_in_front xs ys k x (omega arith) is
+
+get_in_back : {A : Type 0} (xs ys : List A) (k : ℕ) (x : A) → length xs ≤ k → slice_get (xs ++ ys) k ≡ Some x
+    → slice_get ys (k - length xs) ≡ Some x
+get_in_back [] ys k x high is = let same : k - 0 ≡ k = omega arith in ap (slice_get ys) same ∙ is
+get_in_back (z ∷ xs) ys zero x high is = absurd (omega arith)
+get_in_back (z ∷ xs) ys (suc k) x high is =
+    let same : suc k - length (z ∷ xs) ≡ k - length xs = omega arith in
+    ap (slice_get ys) same ∙ get_in_back xs ys k x (omega arith) is
+
+-- each transition that was logged since a life was logged at some time
+was_logged : (since rest : Life) (place : ℕ) (transition : Transition) → length (log_of rest) ≤ place
+    → slice_get (log_of (since ++ rest)) place ≡ Some transition → WasLogged since rest place transition
+was_logged [] rest place transition high is = absurd (omega (arith, slice_get_within (log_of rest) place transition is))
+was_logged (Scanned raw ∷ since) rest place transition high is =
+    let here = since ++ rest in
+    let within = slice_get_within (log_of (Scanned raw ∷ here)) place transition is in
+    elim (cases_lt place (length (log_of here))) as (λ _. WasLogged (Scanned raw ∷ since) rest place transition) [
+      | inl before ↦
+          let w = was_logged since rest place transition high
+          (get_in_front (log_of here) (transitions_below 64 raw here) place transition before is) in
+          record {
+            after = Scanned raw ∷ w.after;
+            upto = w.upto;
+            split = ap (λ l. Scanned raw ∷ l) w.split;
+            logged = w.logged;
+            age = omega (arith, w.age);
+          }
+      | inr now ↦
+          let at = logged_at 64 raw here (place - length (log_of here)) transition
+          (get_in_back (log_of here) (transitions_below 64 raw here) place transition now is) in
+          record { after = []; upto = Scanned raw ∷ since; split = refl; logged = within; age = omega (arith, at) }
+    ]
+was_logged (Commanded (ConfigureInputs items) ∷ since) rest place transition high is =
+    let w = was_logged since rest place transition high is in
+    record {
+      after = Commanded (ConfigureInputs items) ∷ w.after;
+      upto = w.upto;
+      split = ap (λ l. Commanded (ConfigureInputs items) ∷ l) w.split;
+      logged = w.logged;
+      age = w.age;
+    }
+was_logged (other ∷ since) rest place transition high is =
+    let w = was_logged since rest place transition high is in
+    record {
+      after = other ∷ w.after;
+      upto = w.upto;
+      split = ap (λ l. other ∷ l) w.split;
+      logged = w.logged;
+      age = w.age;
+    }
+
+-- what holds of what stands at each place holds of each
+each-from_get : {A : Type 0} (P : A → Type 0) (xs : List A) → ((k : ℕ) (x : A) → slice_get xs k ≡ Some x → P x)
+    → AllByRecursion P xs
+each-from_get P [] at = tt
+each-from_get P (x ∷ xs) at = (at 0 x refl, each-from_get P xs (λ k. at (suc k)))
+
+-- what is left of a list stood there before
+get_in_drop : {A : Type 0} (n : ℕ) (xs : List A) (k : ℕ) (x : A) → slice_get (drop n xs) k ≡ Some x
+    → slice_get xs (n + k) ≡ Some x
+get_in_drop zero xs k x is = let same : 0 + k ≡ k = omega arith in ap (slice_get xs) same ∙ is
+get_in_drop (suc n) [] k x is = absurd (cc is)
+get_in_drop (suc n) (y ∷ xs) k x is =
+    let same : suc n + k ≡ suc (n + k) = omega arith in ap (slice_get (y ∷ xs)) same ∙ get_in_drop n xs k x is
+
+-- how many scans there are among two lists of events
+pub scans_in-append : (later life : Life)
+    → scans_in (filter_events (later ++ life)) ≡ scans_in (filter_events later) + scans_in (filter_events life)
+scans_in-append [] life = omega arith
+scans_in-append (Scanned raw ∷ later) life = let rest = scans_in-append later life in omega arith
+scans_in-append (Commanded (ConfigureInputs items) ∷ later) life = scans_in-append later life
+scans_in-append (other ∷ later) life = scans_in-append later life
+
+module _ (settings : Settings) (filter scans most : ℕ) (life : Life)
+    (some : 1 ≤ filter) (filters : OpenHaveFiltersOf (filter_events life) filter)
+    (enough : open_inputs (filter_events life) * scans ≤ settings.per_block * filter)
+    (room : open_inputs (filter_events life) * (most + (filter - 1)) ≤ settings.waiting * filter) where
+  abbrev opened : ℕ
+  opened = open_inputs (filter_events life)
+
+  -- how many stand beyond the newest block
+  abbrev beyond : Life → ℕ
+  beyond later = length (log_of (later ++ life)) - newest_end settings (later ++ life)
+
+  -- what the log gained, from one time to another
+  record HasGained (upto before : Life) : Type 0 where
+    pub reports : ℕ
+    pub gained : length (log_of (upto ++ (before ++ life))) ≡ length (log_of (before ++ life)) + reports
+    pub few : reports * filter + opened * 1 ≤ opened * (scans_in (filter_events upto) + filter)
+
+  has_gained : (upto before : Life) → NoneIsApplied (filter_events (upto ++ before)) → HasGained upto before
+  has_gained upto before none =
+      let rest = before ++ life in
+      let events = filter_events rest in
+      let earlier = none_before upto before none in
+      let joined : events ≡ filter_events before ++ filter_events life = filter_events-append before life in
+      let as_many : open_inputs events ≡ opened = ap open_inputs joined ∙ open_inputs-carried (filter_events before) (filter_events life) earlier in
+      let still = subst (λ es. OpenHaveFiltersOf es filter) (sym joined)
+      (open_filters-carried (filter_events before) (filter_events life) filter earlier filters) in
+      let reports = all_reports_in (filter_events upto) events in
+      record {
+        reports = reports;
+        gained = log-grows upto rest;
+        few = subst (λ n. reports * filter + n * 1 ≤ n * (scans_in (filter_events upto) + filter)) as_many
+            (reports_times_filter filter (filter_events upto) events (none_since upto before none) some still);
+      }
+
+  -- few stand beyond the newest block
+  bound : (later : Life) → NoneIsApplied (filter_events later) → IsPaced settings scans life later
+      → beyond later * filter + opened * 1 ≤ opened * (scans_behind scans later life + filter)
+  bound later none p =
+      let g = has_gained p.since p.before (subst (λ l. NoneIsApplied (filter_events l)) p.split none) in
+      let whole : later ++ life ≡ p.since ++ (p.before ++ life) = ap (λ l. l ++ life) p.split ∙ append_assoc p.since p.before life in
+      let grown = ap (λ l. length (log_of l)) whole in
+      let within : newest_end settings (later ++ life) ≤ length (log_of (later ++ life)) = blocks_end_within settings (later ++ life) in
+      few_at_pace g.reports (beyond later) filter opened scans (scans_in (filter_events p.since)) 0 p.full
+      (scans_behind scans later life) settings.per_block g.few (omega (arith, p.scanned)) enough
+      (omega (arith, g.gained, p.ended))
+
+  -- so no more than may wait
+  few_beyond : (later : Life) → scans_behind scans later life ≤ most
+      → beyond later * filter + opened * 1 ≤ opened * (scans_behind scans later life + filter)
+      → FewBeyond settings (later ++ life)
+  few_beyond later near few =
+      let most_behind : opened * (scans_behind scans later life + filter) ≤ opened * (most + filter) = mul-le-mul_left opened (omega arith) in
+      let one_less : opened * (most + filter) ≡ opened * (most + (filter - 1)) + opened = one_more most filter some in
+      let product : beyond later * filter ≤ settings.waiting * filter = omega arith in
+      let most_beyond : beyond later ≤ settings.waiting = le_of_mul-le-mul_right product (omega arith) in
+      omega arith
+    where
+      one_more : (a b : ℕ) → 1 ≤ b → opened * (a + b) ≡ opened * (a + (b - 1)) + opened
+      one_more a zero le = absurd (omega arith)
+      one_more a (suc b) le = let same : suc b - 1 ≡ b = omega arith in rw same (grind arith)
+
+  -- none of them is old
+  young : (later : Life) → NoneIsApplied (filter_events later) → IsPaced settings scans life later
+      → (place : ℕ) (transition : Transition) → newest_end settings (later ++ life) ≤ place
+      → slice_get (log_of (later ++ life)) place ≡ Some transition
+      → IsYoung (scans_behind scans later life) filter (later ++ life) transition
+  young later none p place transition high is =
+      let rest = p.before ++ life in
+      let whole : later ++ life ≡ p.since ++ rest = ap (λ l. l ++ life) p.split ∙ append_assoc p.since p.before life in
+      let is' = subst (λ l. slice_get (log_of l) place ≡ Some transition) whole is in
+      let w = was_logged p.since rest place transition (omega (arith, p.ended)) is' in
+      let none' = subst (λ l. NoneIsApplied (filter_events l)) (p.split ∙ ap (λ l. l ++ p.before) w.split ∙ append_assoc w.after w.upto p.before) none in
+      let g = has_gained w.upto p.before (none_before w.after (w.upto ++ p.before) none') in
+      let counts = ap (λ l. scans_in (filter_events l)) w.split ∙ scans_in-append w.after w.upto in
+      let left = place + 1 - newest_end settings (later ++ life) in
+      let age = scans_in (filter_events w.after) in
+      let few = few_at_pace g.reports left filter opened scans (scans_in (filter_events w.upto)) age p.full
+      (scans_behind scans later life) settings.per_block g.few (omega (arith, p.scanned)) enough
+      (omega (arith, g.gained, p.ended, w.logged)) in
+      let recent = young_at_pace left filter opened age (scans_behind scans later life) (omega arith) some few in
+      let now = ap scans_of whole in
+      omega (arith, w.age)
+
+  -- something happens that makes no block, adds nothing to the log, and is no scan
+  paced-other : (later : Life) (occurrence : Occurrence)
+      → newest_end settings (occurrence ∷ (later ++ life)) ≡ newest_end settings (later ++ life)
+      → scans_behind scans (occurrence ∷ later) life ≡ scans_behind scans later life
+      → ((since : Life) → scans_in (filter_events (occurrence ∷ since)) ≡ scans_in (filter_events since))
+      → IsPaced settings scans life later → IsPaced settings scans life (occurrence ∷ later)
+  paced-other later occurrence ends recent counts p =
+      record {
+        since = occurrence ∷ p.since;
+        before = p.before;
+        split = ap (λ l. occurrence ∷ l) p.split;
+        full = p.full;
+        ended = ends ∙ p.ended;
+        scanned = omega (arith, counts p.since, p.scanned);
+      }
+
+  -- a scan
+  paced-scan : (later : Life) (raw : ℕ) → IsPaced settings scans life later
+      → IsPaced settings scans life (Scanned raw ∷ later)
+  paced-scan later raw p =
+      record {
+        since = Scanned raw ∷ p.since;
+        before = p.before;
+        split = ap (λ l. Scanned raw ∷ l) p.split;
+        full = p.full;
+        ended = p.ended;
+        scanned = omega (arith, p.scanned);
+      }
+
+  -- a new poll, after which nothing waits or a whole block was taken
+  paced-new : (later : Life) (number : ℕ) → is_new (latest_poll (later ++ life)) number ≡ true
+      → FewBeyond settings (later ++ life)
+      → IsPaced settings scans life later → IsPaced settings scans life (Commanded (Poll number) ∷ later)
+  paced-new later number new few p =
+      let here = later ++ life in
+      let polled = Commanded (Poll number) ∷ here in
+      let log = log_of here in
+      let end = newest_end settings here in
+      let start = start_after settings log end in
+      let ends : newest_end settings polled ≡ start + count_from settings log start =
+      rw new (last_end-append 0 (blocks_of settings here) (next_block settings here)) in
+      let behind : scans_behind scans (Commanded (Poll number) ∷ later) life ≡ scans_behind scans later life - scans = rw new refl in
+      let within : end ≤ length log = blocks_end_within settings here in
+      let begins : start ≡ end = omega arith in
+      elim (cases_lt settings.per_block (length log - end)) as (λ _. IsPaced settings scans life (Commanded (Poll number) ∷ later)) [
+        | inl more ↦
+            let taken : newest_end settings polled ≡ end + settings.per_block = omega arith in
+            let one_more : settings.per_block * (p.full + 1) ≡ settings.per_block * p.full + settings.per_block = grind arith in
+            let scans_more : scans * (p.full + 1) ≡ scans * p.full + scans = grind arith in
+            record {
+              since = Commanded (Poll number) ∷ p.since;
+              before = p.before;
+              split = ap (λ l. Commanded (Poll number) ∷ l) p.split;
+              full = p.full + 1;
+              ended = omega (arith, p.ended);
+              scanned = omega (arith, p.scanned);
+            }
+        | inr few_left ↦
+            let taken : newest_end settings polled ≡ length log = omega arith in
+            let nothing : settings.per_block * 0 ≡ 0 = grind arith in
+            record {
+              since = [];
+              before = Commanded (Poll number) ∷ later;
+              split = refl;
+              full = 0;
+              ended = omega arith;
+              scanned = omega arith;
+            }
+      ]
+
+  -- a poll, new or not
+  paced-poll : (later : Life) (number : ℕ) (new : Bool) → is_new (latest_poll (later ++ life)) number ≡ new
+      → FewBeyond settings (later ++ life)
+      → IsPaced settings scans life later → IsPaced settings scans life (Commanded (Poll number) ∷ later)
+  paced-poll later number true is few p = paced-new later number is few p
+  paced-poll later number false is few p =
+      let ends : newest_end settings (Commanded (Poll number) ∷ (later ++ life)) ≡ newest_end settings (later ++ life) = rw is refl in
+      let behind : scans_behind scans (Commanded (Poll number) ∷ later) life ≡ scans_behind scans later life = rw is refl in
+      paced-other later (Commanded (Poll number)) ends behind (λ since. refl) p
+
+  abbrev IsNear : Life → Type 0
+  IsNear later = scans_behind scans later life ≤ most
+
+  -- so from a time at which nothing waits
+  paced : (later : Life) → newest_end settings life ≡ length (log_of life) → NoneIsApplied (filter_events later)
+      → AtEachTime IsNear later → IsPaced settings scans life later
+  paced [] ends none near =
+      let none_full : settings.per_block * 0 ≡ 0 = grind arith in
+      record { since = []; before = []; split = refl; full = 0; ended = omega arith; scanned = omega arith }
+  paced (Scanned raw ∷ later) ends none near = paced-scan later raw (paced later ends none.1 near.1)
+  paced (Commanded (Poll number) ∷ later) ends none near =
+      let p = paced later ends none near.1 in
+      paced-poll later number (is_new (latest_poll (later ++ life)) number) refl
+      (few_beyond later (holds_now IsNear later near.1) (bound later none p)) p
+  paced (Commanded (ConfigureInputs items) ∷ later) ends none near =
+      paced-other later (Commanded (ConfigureInputs items)) refl refl (λ since. refl) (paced later ends none.1 near.1)
+  paced (other ∷ later) ends none near =
+      paced-other later other refl refl (λ since. refl) (paced later ends none near.1)
+
+  -- what holds at such a time
+  keeps_up : (later : Life) → newest_end settings life ≡ length (log_of life) → NoneIsApplied (filter_events later)
+      → AtEachTime IsNear later → KeepsUp settings filter scans life later
+  keeps_up later ends none near =
+      let p = paced later ends none near in
+      let fewer = bound later none p in
+      let few = few_beyond later (holds_now IsNear later near) fewer in
+      let here = later ++ life in
+      let waiting = length-drop (waiting_from settings here) (log_of here) in
+      let from : waiting_from settings here ≡ newest_end settings here =
+      let within : newest_end settings here ≤ length (log_of here) = blocks_end_within settings here in omega arith in
+      let count : length (waiting_of settings here) ≡ beyond later = omega arith in
+      let one_less : opened * (scans_behind scans later life + filter) ≡ opened * (scans_behind scans later life + (filter - 1)) + opened = one_more (scans_behind scans later life) filter some in
+      let products : length (waiting_of settings here) * filter ≡ beyond later * filter = ap (λ n. n * filter) count in
+      record {
+        few_wait = omega arith;
+        few_beyond = few;
+        young = each-from_get (IsYoung (scans_behind scans later life) filter here) (waiting_of settings here)
+            (λ k transition is. young later none p (waiting_from settings here + k) transition (omega arith)
+            (get_in_drop (waiting_from settings here) (log_of here) k transition is));
+      }
+    where
+      one_more : (a b : ℕ) → 1 ≤ b → opened * (a + b) ≡ opened * (a + (b - 1)) + opened
+      one_more a zero le = absurd (omega arith)
+      one_more a (suc b) le = let same : suc b - 1 ≡ b = omega arith in rw same (grind arith)
+
+  -- and at each time
+  pub keeps_up_each : (later : Life) → newest_end settings life ≡ length (log_of life) → NoneIsApplied (filter_events later)
+      → AtEachTime IsNear later → AtEachTime (KeepsUp settings filter scans life) later
+  keeps_up_each [] ends none near = keeps_up [] ends none near
+  keeps_up_each (occurrence ∷ later) ends none near = (
+    keeps_up (occurrence ∷ later) ends none near,
+    keeps_up_each later ends (none_before (occurrence ∷ []) later none) near.1,
+  )

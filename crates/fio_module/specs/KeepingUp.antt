@@ -1,0 +1,70 @@
+-- How late a transition can be in a block: blocks that keep up with the scans.
+use Rattle.std.specs.Prelude.{◌≡◌, ℕ, ◌+◌, ◌-◌, ◌*◌, ◌≤◌, [], ◌∷◌, ◌++◌, length, if◌then◌else◌}
+use Rattle.std.specs.List.{AllByRecursion}
+use Rattle.fio_message.specs.declared.commands.Command.TheVariants.{Poll}
+use Rattle.fio_input.specs.Delivery.{open_inputs, OpenHaveFiltersOf, NoneIsApplied}
+use Rattle.fio_module.specs.Settings.{Settings, AreInRange}
+use Rattle.fio_module.specs.Life.{Life, Scanned, Commanded, scans_of, filter_events}
+use Rattle.fio_module.specs.Log.{Transition}
+use Rattle.fio_module.specs.Blocks.{latest_poll, is_new, waiting_of}
+use Rattle.fio_module.specs.Delivery.{AtEachTime, FewBeyond}
+
+-- By how many scans the blocks are behind, of what happened after a life: each scan adds one, and
+-- each new block makes up for so many, or for all where there are fewer.
+abbrev pub scans_behind : ℕ → Life → Life → ℕ
+scans_behind scans [] life = 0
+scans_behind scans (Scanned raw ∷ later) life = scans_behind scans later life + 1
+scans_behind scans (Commanded (Poll number) ∷ later) life =
+    if is_new (latest_poll (later ++ life)) number
+    then scans_behind scans later life - scans
+    else scans_behind scans later life
+scans_behind scans (other ∷ later) life = scans_behind scans later life
+
+-- Kept up with: from a time on at which nothing waits, while no configuration is applied, the blocks
+-- are never more than `most` scans behind, where each makes up for `scans`, in which the open inputs
+-- change no more often than a block takes.
+pub record IsKeptUp (settings : Settings) (filter scans most : ℕ) (life later : Life)
+    : Type 0 where
+  pub nothing_waits : waiting_of settings life ≡ []
+  -- the filters of the open inputs are at least this
+  pub some : 1 ≤ filter
+  pub filters : OpenHaveFiltersOf (filter_events life) filter
+  pub not_applied : NoneIsApplied (filter_events later)
+  pub enough : open_inputs (filter_events life) * scans ≤ settings.per_block * filter
+  pub behind : AtEachTime (λ l. scans_behind scans l life ≤ most) later
+  -- as many may wait as the open inputs can change in that many scans
+  pub room :
+      open_inputs (filter_events life) * (most + (filter - 1)) ≤ settings.waiting * filter
+
+-- a transition is of one of the latest scans of a life: at most b + f - 2 scans came after its own
+abbrev pub IsYoung : ℕ → ℕ → Life → Transition → Type 0
+IsYoung behind filter life transition =
+    scans_of life + 2 ≤ transition.scans + (behind + filter)
+
+-- What holds then, for b scans behind: k (b + f - 1) / f entries wait at most, none are pushed out,
+-- and none that waits is older than b + f - 2 scans.
+pub record KeepsUp (settings : Settings) (filter scans : ℕ) (life later : Life) : Type 0 where
+  pub few_wait :
+      length (waiting_of settings (later ++ life)) * filter
+      ≤ open_inputs (filter_events life) * (scans_behind scans later life + (filter - 1))
+  pub few_beyond : FewBeyond settings (later ++ life)
+  pub young :
+      AllByRecursion (IsYoung (scans_behind scans later life) filter (later ++ life))
+      (waiting_of settings (later ++ life))
+
+abbrev pub KeptUpKeepsUp : Type 0
+KeptUpKeepsUp =
+    (settings : Settings) (filter scans most : ℕ) (life later : Life) →
+    AreInRange settings → IsKeptUp settings filter scans most life later →
+    AtEachTime (KeepsUp settings filter scans life) later
+
+-- Where a block takes 64 entries or more, one takes what the open inputs can report in the scans of a
+-- filter but one, and two what they can report in the scans that a block makes up for besides.
+abbrev pub BlocksTakeTheRest : Type 0
+BlocksTakeTheRest =
+    (settings : Settings) (filter scans : ℕ) (life : Life) →
+    64 ≤ settings.per_block → 1 ≤ filter →
+    open_inputs (filter_events life) * scans ≤ settings.per_block * filter →
+    (open_inputs (filter_events life) * (0 + (filter - 1)) ≤ 1 * (settings.per_block * filter))
+    × (open_inputs (filter_events life) * (scans + (filter - 1))
+    ≤ 2 * (settings.per_block * filter))

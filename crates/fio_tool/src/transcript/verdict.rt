@@ -1,0 +1,40 @@
+//! The verdict on a transcript.
+ghost use Rattle.fio_tool.specs.TranscriptRules.{IsVerdict};
+
+use super::facts::Facts;
+use super::reading::Line;
+use super::rules::Rule;
+
+/// What a transcript is found to be.
+#[derive(Clone, Copy, Debug, PartialEq, Eq)]
+pub enum Verdict {
+    /// No line breaks a rule.
+    Good {
+        /// How many lines there are.
+        frames: usize,
+    },
+    /// A line breaks a rule, and no line above it does.
+    Broken {
+        /// The number of the line.
+        number: usize,
+        /// The first rule that it breaks.
+        rule: Rule,
+    },
+}
+
+/// The verdict on a transcript: good if no line breaks a rule, else the number of the first line
+/// that does, and the first rule that it breaks. Goes through the lines once and takes no memory.
+pub fn check_trace(lines: &[Line]) -> Verdict
+    ensures { IsVerdict lines.now result }
+{
+    let mut facts = Facts::default();
+    for line in lines {
+        if let Err(rule) = facts.add_line(line) {
+            let number = line.number;
+            return Verdict::Broken { number, rule };
+        }
+    }
+    Verdict::Good {
+        frames: lines.len(),
+    }
+}

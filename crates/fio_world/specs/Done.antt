@@ -1,0 +1,28 @@
+-- What an event did, where a world holds the frames.
+use Rattle.std.specs.Prelude.{ℕ, List, [], Result, Ok, Err}
+use Rattle.std.specs.Option.{unwrap_or}
+use Rattle.fio_world.specs.declared.outcome.Outcome.{Outcome}
+use Rattle.fio_world.specs.declared.outcome.Outcome.TheVariants as outcomes
+use Rattle.fio_world.specs.declared.outcome.WorldError.{WorldError}
+use Rattle.fio_world.specs.declared.world.done.Done.{Done}
+use Rattle.fio_world.specs.declared.world.done.Done.TheVariants.{ToModule, ToCpu, Heard, Quiet}
+use Rattle.fio_world.specs.Link.{item_numbered}
+use Rattle.fio_world.specs.Ends.{Ends}
+
+-- the octets of the frame with this number, or none
+abbrev pub octets_numbered : List (List ℕ) → ℕ → List ℕ
+octets_numbered frames index = unwrap_or (item_numbered frames index) []
+
+-- the outcome that this is, in a world that holds the frame
+abbrev pub outcome_in : Ends → Done → Outcome
+outcome_in world (ToModule index) =
+    outcomes.Sent index (record { items = octets_numbered world.to_module index })
+outcome_in world (ToCpu index) =
+    outcomes.Sent index (record { items = octets_numbered world.to_cpu index })
+outcome_in world (Heard heard) = outcomes.Heard heard
+outcome_in world Quiet = outcomes.Quiet
+
+-- the same of a result
+abbrev pub result_in : Ends → Result Done WorldError → Result Outcome WorldError
+result_in world (Ok done) = Ok (outcome_in world done)
+result_in world (Err fault) = Err fault

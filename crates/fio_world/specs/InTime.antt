@@ -1,0 +1,180 @@
+-- The whole promise of a link that is polled in time: nothing is lost or doubled, the times are right,
+-- and how late a transition can be.
+use Rattle.std.specs.Prelude.{◌≡◌, ℕ, ◌+◌, ◌-◌, ◌*◌, ◌%◌, ◌^◌, ◌<◌, ◌≤◌, Bool, false, List, [], ◌∷◌, ◌++◌, map, length, take, drop, slice_get, Some, if◌then◌else◌}
+use Rattle.std.specs.List.{AllByRecursion}
+use Rattle.fio_input.specs.Delivery.{open_inputs, OpenHaveFiltersOf, NoneIsApplied}
+use Rattle.fio_module.specs.Settings.{Settings}
+use Rattle.fio_module.specs.Life.{Life, life_of, loads_of, filter_events}
+use Rattle.fio_module.specs.Log.{Transition, entry_of, log_of}
+use Rattle.fio_module.specs.Blocks.{waiting_of}
+use Rattle.fio_module.specs.KeepingUp.{IsKeptUp, IsYoung}
+use Rattle.fio_cpu.specs.declared.items.Item.{Item}
+use Rattle.fio_cpu.specs.declared.items.Item.TheVariants as items
+use Rattle.fio_world.specs.declared.event.Event.{Event}
+use Rattle.fio_world.specs.declared.event.Event.TheVariants.{Scan, LineSync, Raise, Poll, ToModule, ToCpu}
+use Rattle.fio_world.specs.Link.{Machine, Leads}
+use Rattle.fio_world.specs.Claims.{blocks_in}
+use Rattle.fio_world.specs.Pieces.{Got, piece_of}
+use Rattle.fio_world.specs.Headline.{HaveNoRestart, end_taken}
+use Rattle.fio_world.specs.Delivery.{clean_round, CleanRoundTakesAll, CleanRoundsCatchUp, IsWholeUnlessFull, GapsNameTimes, IsWholeWherePolledOften, IsWholeAfterOutage}
+
+-- how many scans there are among events
+abbrev pub scans_among : List Event → ℕ
+scans_among [] = 0
+scans_among (Scan raw ∷ events) = scans_among events + 1
+scans_among (other ∷ events) = scans_among events
+
+-- Some events without a restart, with at most so many scans among them, lead from one machine to
+-- another. Polls, commands and deliveries, lost and repeated ones, come as they may.
+pub record LeadsInTime (settings : Settings) (first scans : ℕ) (machine later : Machine)
+    : Type 0 where
+  pub events : List Event
+  pub no_restart : HaveNoRestart events
+  pub few : scans_among events ≤ scans
+  pub leads : Leads settings first machine events later
+
+-- A clean round in time. Where `untaken` is false, the CPU has taken all blocks when it begins.
+pub record IsRoundInTime (settings : Settings) (first : ℕ) (untaken : Bool) (scans : ℕ)
+    (machine begin last : Machine) : Type 0 where
+  pub in_time : LeadsInTime settings first scans machine begin
+  pub all_taken : untaken ≡ false → begin.round ≡ length (blocks_in settings begin)
+  pub leads : Leads settings first begin (clean_round begin) last
+
+-- Clean rounds in time lead from one machine to another, each from where the one before it ended.
+-- These are the machines at which they begin, newest first.
+abbrev pub RoundsInTime : Settings → ℕ → Bool → ℕ → Machine → List Machine → Machine → Type 0
+RoundsInTime settings first untaken scans machine [] last = last ≡ machine
+RoundsInTime settings first untaken scans machine (begin ∷ begins) last =
+    (done : Machine) × RoundsInTime settings first untaken scans machine begins done
+    × IsRoundInTime settings first untaken scans done begin last
+
+-- how many scans the blocks are behind at most at the end of a clean round: none where each clean
+-- round makes one
+abbrev pub behind_after : Bool → ℕ → ℕ
+behind_after untaken scans = if untaken then scans else 0
+
+-- Polled in time: the CPU had taken all blocks and nothing waited. Since then a clean round has begun
+-- at least once in so many scans, in which the open inputs change no more often than a block takes,
+-- and the module has applied no configuration.
+pub record IsPolledInTime (settings : Settings) (first filter : ℕ) (untaken : Bool) (scans : ℕ)
+    (machine : Machine) (begins : List Machine) (last : Machine) (later : Life) : Type 0 where
+  pub all_taken : machine.round ≡ length (blocks_in settings machine)
+  pub nothing_waits : waiting_of settings (life_of machine.history) ≡ []
+  -- the filters of the open inputs are at least this
+  pub some : 1 ≤ filter
+  pub filters : OpenHaveFiltersOf (filter_events (life_of machine.history)) filter
+  pub enough :
+      open_inputs (filter_events (life_of machine.history)) * scans
+      ≤ settings.per_block * filter
+  pub rounds : RoundsInTime settings first untaken scans machine begins last
+  -- what has happened to the module since then
+  pub since : life_of last.history ≡ later ++ life_of machine.history
+  pub not_applied : NoneIsApplied (filter_events later)
+
+-- a transition as an item of the record, with the counter at its scan
+abbrev pub timed_item : Transition → Item
+timed_item transition =
+    items.Entry
+    transition.input
+    transition.level
+    (transition.counter % 2 ^ 16)
+    transition.counter
+
+-- the transitions logged since a machine, through the last block taken
+abbrev pub arrived : Settings → Machine → Machine → List Transition
+arrived settings machine last =
+    drop (length (log_of (life_of machine.history)))
+    (take (end_taken settings last) (log_of (life_of last.history)))
+
+-- What has arrived at the end of a clean round, where the blocks are never more than `most` scans
+-- behind, and at the end of a clean round no more than `behind`.
+pub record HasArrived (settings : Settings) (filter most behind : ℕ)
+    (machine : Machine) (begins : List Machine) (last : Machine) : Type 0 where
+  -- the record has gained the transitions logged since, each once and in order, and no gap mark
+  pub whole :
+      map piece_of last.items
+      ≡ map piece_of machine.items
+      ++ map (λ transition. Got (entry_of transition)) (arrived settings machine last)
+  -- each with its time, where no load of the counter took effect and none can be 65,536 scans late
+  pub times :
+      loads_of (life_of last.history) ≡ loads_of (life_of machine.history)
+      → most + filter ≤ 65537
+      → last.items ≡ machine.items ++ map timed_item (arrived settings machine last)
+  -- through all that had been logged before the clean round so many rounds earlier began, which are
+  -- as many as blocks that take what may be left
+  pub through :
+      (rounds : ℕ) (begin : Machine)
+      → open_inputs (filter_events (life_of machine.history)) * (behind + (filter - 1))
+      ≤ rounds * (settings.per_block * filter)
+      → slice_get begins rounds ≡ Some begin
+      → length (log_of (life_of begin.history)) ≤ end_taken settings last
+  -- and through all but what the latest scans reported
+  pub young :
+      AllByRecursion (IsYoung behind filter (life_of last.history))
+      (drop (end_taken settings last) (log_of (life_of last.history)))
+
+-- Where a link is polled in time, all arrives in time.
+abbrev pub AllArrivesInTime : Settings → ℕ → Machine → Type 0
+AllArrivesInTime settings first machine =
+    (filter : ℕ) (untaken : Bool) (scans : ℕ) (begins : List Machine) (last : Machine)
+    (later : Life) →
+    IsPolledInTime settings first filter untaken scans machine begins last later →
+    let behind = behind_after untaken scans in
+    HasArrived settings filter (scans + behind) behind machine begins last
+
+-- Each clean round, and what comes before it since the one before, makes a new block, which the CPU
+-- takes: where the CPU had taken all blocks, it has taken all again, and one more at least.
+pub record MakesBlock (settings : Settings) (machine last : Machine) : Type 0 where
+  pub one_more : length (blocks_in settings machine) < length (blocks_in settings last)
+  pub all_taken : last.round ≡ length (blocks_in settings last)
+
+abbrev pub RoundsMakeBlocks : Settings → ℕ → Machine → Type 0
+RoundsMakeBlocks settings first machine =
+    (scans : ℕ) (begin last : Machine) →
+    machine.round ≡ length (blocks_in settings machine) →
+    LeadsInTime settings first scans machine begin →
+    Leads settings first begin (clean_round begin) last →
+    MakesBlock settings machine last
+
+-- The blocks keep up: they are never more scans behind than lie between two clean rounds, and twice as
+-- many where a clean round may begin before the CPU has taken all, until the next one begins.
+abbrev pub RoundsKeepUp : Settings → ℕ → Machine → Type 0
+RoundsKeepUp settings first machine =
+    (filter : ℕ) (untaken : Bool) (scans : ℕ) (begins : List Machine) (last now : Machine)
+    (later stretch : Life) →
+    IsPolledInTime settings first filter untaken scans machine begins last later →
+    LeadsInTime settings first scans last now →
+    life_of now.history ≡ stretch ++ (later ++ life_of machine.history) →
+    NoneIsApplied (filter_events (stretch ++ later)) →
+    IsKeptUp settings filter scans (scans + behind_after untaken scans)
+    (life_of machine.history) (stretch ++ later)
+
+-- an event that reaches the module past the bus: a scan, a line sync, flags that are raised
+abbrev pub ReachesModule : Event → Type 0
+ReachesModule (Scan raw) = Unit {0}
+ReachesModule LineSync = Unit {0}
+ReachesModule (Raise mask) = Unit {0}
+ReachesModule other = ⊥
+
+-- A poll and its answer take their time: scans after the poll is sent and before it is received lead
+-- where they lead before it is sent, and scans before the answer is received where they lead after.
+abbrev pub ScansMoveOut : Settings → ℕ → Machine → Type 0
+ScansMoveOut settings first machine =
+    (before later : List Event) (command answer : ℕ) (last : Machine) →
+    AllByRecursion ReachesModule before → AllByRecursion ReachesModule later →
+    Leads settings first machine
+    (Poll ∷ (before ++ ToModule command ∷ (later ++ ToCpu answer ∷ []))) last →
+    Leads settings first machine
+    (before ++ Poll ∷ ToModule command ∷ ToCpu answer ∷ later) last
+
+-- all that is promised of what arrives without restarts
+pub record Delivers (settings : Settings) (first : ℕ) (machine : Machine) : Type 0 where
+  pub takes_all : CleanRoundTakesAll settings first machine
+  pub catches_up : CleanRoundsCatchUp settings first machine
+  pub unless_full : IsWholeUnlessFull settings machine
+  pub gaps : GapsNameTimes settings machine
+  pub polled_often : IsWholeWherePolledOften settings machine
+  pub outage : IsWholeAfterOutage settings machine
+  pub rounds_make_blocks : RoundsMakeBlocks settings first machine
+  pub rounds_keep_up : RoundsKeepUp settings first machine
+  pub in_time : AllArrivesInTime settings first machine
