@@ -105,8 +105,12 @@ $(OUT)/libfio2070.a: $(archive)
 	mkdir -p $(OUT)
 	cp $(archive) $@
 
-$(OUT)/libfio2070.so: $(OUT)/libfio2070.a
-	$(CC) -shared -Wl,-soname,libfio2070.so -Wl,--whole-archive $< -Wl,--no-whole-archive -o $@
+# The shared library has the tester too.
+tester = $(wildcard examples/c/conformance*.c)
+
+$(OUT)/libfio2070.so: $(OUT)/libfio2070.a $(tester)
+	$(CC) -O2 -fPIC -I include -shared -Wl,-soname,libfio2070.so $(tester) \
+	    -Wl,--whole-archive $< -Wl,--no-whole-archive -o $@
 
 install: install-library
 uninstall: uninstall-library

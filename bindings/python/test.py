@@ -4,7 +4,7 @@ import doctest
 import unittest
 
 import fio2070
-from fio2070 import ConfigurationItem, Entry, encode
+from fio2070 import ConfigurationItem, Entry, encode, tester
 
 BLOCK = bytes.fromhex('b605018c03e700000003e8')
 
@@ -102,6 +102,40 @@ class Ends(unittest.TestCase):
         counter.line_sync()
         counter.tick()
         self.assertEqual(counter.now(), 0)
+
+
+class Proved(tester.Maker):
+    """The proved module."""
+
+    def reset(self):
+        self.module = fio2070.Module(self.id, self.per_block)
+
+    def step(self, inputs):
+        self.module.scan(inputs)
+
+    def line_sync(self):
+        self.module.line_sync()
+
+    def exchange(self, octets):
+        return self.module.receive(octets)
+
+
+class Forgetful(Proved):
+    """It does not set E in a block that it sends again."""
+
+    def exchange(self, octets):
+        answer = super().exchange(octets)
+        if answer is None or answer[0] != 182:
+            return answer
+        return answer[:-5] + bytes([answer[-5] & ~2]) + answer[-4:]
+
+
+class Tester(unittest.TestCase):
+    def test_modules(self):
+        self.assertIsNone(tester.run(Proved(), events=20_000))
+        script = tester.run(Forgetful(), events=20_000)
+        self.assertIn('\npoll\nto-module 1\npoll\nto-module 2\n# wanted: ', script)
+        self.assertIn('sent again with E set', script)
 
 
 if __name__ == '__main__':
