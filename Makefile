@@ -102,6 +102,7 @@ $(archive): $(proved)
 	cd crates/fio_c && rt lib
 
 $(OUT)/libfio2070.a: $(archive)
+	mkdir -p $(OUT)
 	cp $(archive) $@
 
 $(OUT)/libfio2070.so: $(OUT)/libfio2070.a

@@ -1,16 +1,23 @@
 //! Both ends of the link, and the filters.
 
-use crate::raw::{self, ConfigurationItem, Fault, Outputs, RawFilters, RawModule, RawPoller, RecordItem};
+use crate::raw::{
+    self, ConfigurationItem, Fault, Outputs, RawCounter, RawFilters, RawModule, RawPoller,
+    RecordItem,
+};
 use crate::LONGEST_FRAME;
 
-// SAFETY of the calls below: slices are handed over with their lengths, all memory is initialised and,
+// SAFETY of the calls below: slices are given with their lengths, all memory is initialised and,
 // where it is written, borrowed by the call alone; the structs are begun by `_start`.
 
 /// What a poller heard.
 #[derive(Clone, Copy, Debug, PartialEq, Eq)]
 pub enum Heard {
     /// A block was taken; so many items were written.
-    Taken { entries: u8, status: u8, items: usize },
+    Taken {
+        entries: u8,
+        status: u8,
+        items: usize,
+    },
     /// No answer.
     Unreadable(Fault),
     /// An answer of another type.
@@ -35,20 +42,73 @@ impl Poller {
         self.0.number
     }
 
+    /// Writes a poll with the present number to the front of `out`; `None` where there is no room.
+    pub fn poll<'a>(&self, out: &'a mut [u8]) -> Option<&'a [u8]> {
+        crate::poll(self.0.number, out)
+    }
+
     /// Takes a block with the present number whole, and writes what it adds to the record to the front
     /// of `items`; 256 are always enough. Anything else changes nothing.
     pub fn hear(&mut self, octets: &[u8], items: &mut [RecordItem]) -> Heard {
         let heard = unsafe {
-            raw::fio2070_poller_hear(&mut self.0, octets.as_ptr(), octets.len(), items.as_mut_ptr(), items.len())
+            raw::fio2070_poller_hear(
+                &mut self.0,
+                octets.as_ptr(),
+                octets.len(),
+                items.as_mut_ptr(),
+                items.len(),
+            )
         };
         let items = usize::from(heard.items);
         match heard.kind {
-            0 => Heard::Taken { entries: heard.entries, status: heard.status, items },
+            0 => Heard::Taken {
+                entries: heard.entries,
+                status: heard.status,
+                items,
+            },
             1 => Heard::Unreadable(heard.fault),
             2 => Heard::Other(heard.code),
             3 => Heard::Stale(heard.number),
             _ => Heard::NoRoom(items),
         }
+    }
+}
+
+/// The millisecond counter.
+#[derive(Clone)]
+pub struct Counter(RawCounter);
+
+impl Default for Counter {
+    fn default() -> Counter {
+        let mut counter = RawCounter {
+            value: 0,
+            load: 0,
+            is_asked: 0,
+        };
+        unsafe { raw::fio2070_counter_start(&mut counter) };
+        Counter(counter)
+    }
+}
+
+impl Counter {
+    /// One step, from 4,294,967,295 to 0.
+    pub fn tick(&mut self) {
+        unsafe { raw::fio2070_counter_tick(&mut self.0) }
+    }
+
+    /// The next line sync loads this number.
+    pub fn ask_load(&mut self, number: u32) {
+        unsafe { raw::fio2070_counter_ask_load(&mut self.0, number) }
+    }
+
+    /// LINESYNC goes from 0 to 1.
+    pub fn line_sync(&mut self) {
+        unsafe { raw::fio2070_counter_line_sync(&mut self.0) }
+    }
+
+    /// The milliseconds counted, modulo 2^32.
+    pub fn now(&self) -> u32 {
+        unsafe { raw::fio2070_counter_now(&self.0) }
     }
 }
 
@@ -68,7 +128,8 @@ impl Filters {
     /// Applies the items in order, or none: the error is the place of the first item that names an
     /// input above 63, or 255 where there are more than 255 items.
     pub fn configure(&mut self, items: &[ConfigurationItem]) -> Result<(), usize> {
-        let done = unsafe { raw::fio2070_filters_configure(&mut self.0, items.as_ptr(), items.len()) };
+        let done =
+            unsafe { raw::fio2070_filters_configure(&mut self.0, items.as_ptr(), items.len()) };
         match done.kind {
             0 => Ok(()),
             1 => Err(done.place),
@@ -127,8 +188,14 @@ impl Module {
     }
 
     /// The answer to a frame, written to the front of `out`; `None` where there is none.
-    pub fn receive<'a>(&mut self, octets: &[u8], out: &'a mut [u8; LONGEST_FRAME]) -> Option<&'a [u8]> {
-        match unsafe { raw::fio2070_module_receive(&mut self.0, octets.as_ptr(), octets.len(), out) } {
+    pub fn receive<'a>(
+        &mut self,
+        octets: &[u8],
+        out: &'a mut [u8; LONGEST_FRAME],
+    ) -> Option<&'a [u8]> {
+        match unsafe {
+            raw::fio2070_module_receive(&mut self.0, octets.as_ptr(), octets.len(), out)
+        } {
             0 => None,
             count => out.get(..count),
         }

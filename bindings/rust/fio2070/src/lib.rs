@@ -8,10 +8,12 @@ mod ends;
 mod raw;
 
 pub use encode::{
-    block_answer, configure_inputs, filtered_inputs, identify, load_counter, poll, raw_inputs, set_outputs, status,
-    watchdog,
+    block_answer, configure_inputs, configure_inputs_answer, filtered_inputs,
+    filtered_inputs_answer, identify, load_counter, load_counter_answer, other_answer,
+    other_command, poll, raw_inputs, raw_inputs_answer, set_outputs, status, status_answer,
+    watchdog, watchdog_answer,
 };
-pub use ends::{Filters, Heard, Module, Poller};
+pub use ends::{Counter, Filters, Heard, Module, Poller};
 pub use raw::{Answer, Command, ConfigurationItem, Entry, Fault, Outputs, RecordItem};
 
 use core::fmt;
@@ -59,13 +61,27 @@ pub fn decode_answer(octets: &[u8]) -> Result<Answer, Fault> {
 /// Copies the entries of a block answer where there is room for all, and returns how many it has.
 pub fn block_entries(octets: &[u8], entries: &mut [Entry]) -> usize {
     // SAFETY: both slices are initialised memory of their lengths and do not overlap.
-    unsafe { raw::fio2070_block_entries(octets.as_ptr(), octets.len(), entries.as_mut_ptr(), entries.len()) }
+    unsafe {
+        raw::fio2070_block_entries(
+            octets.as_ptr(),
+            octets.len(),
+            entries.as_mut_ptr(),
+            entries.len(),
+        )
+    }
 }
 
 /// Copies the items of a configuration where there is room for all, and returns how many it has.
 pub fn command_items(octets: &[u8], items: &mut [ConfigurationItem]) -> usize {
     // SAFETY: both slices are initialised memory of their lengths and do not overlap.
-    unsafe { raw::fio2070_command_items(octets.as_ptr(), octets.len(), items.as_mut_ptr(), items.len()) }
+    unsafe {
+        raw::fio2070_command_items(
+            octets.as_ptr(),
+            octets.len(),
+            items.as_mut_ptr(),
+            items.len(),
+        )
+    }
 }
 
 /// The time in milliseconds, modulo 2^32, of an entry with this stamp in an answer with that one.

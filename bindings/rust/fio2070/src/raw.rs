@@ -103,6 +103,14 @@ pub struct Outputs {
 
 #[derive(Clone)]
 #[repr(C)]
+pub(crate) struct RawCounter {
+    pub value: u32,
+    pub load: u32,
+    pub is_asked: u8,
+}
+
+#[derive(Clone)]
+#[repr(C)]
 pub(crate) struct RawFilters(pub [u64; 27]);
 
 #[derive(Clone)]
@@ -111,15 +119,28 @@ pub(crate) struct RawModule(pub [u64; 514]);
 
 extern "C" {
     pub(crate) fn fio2070_fault_text(fault: &Fault, out: *mut u8, room: usize) -> usize;
-    pub(crate) fn fio2070_decode_command(octets: *const u8, length: usize, command: &mut Command) -> Fault;
+    pub(crate) fn fio2070_decode_command(
+        octets: *const u8,
+        length: usize,
+        command: &mut Command,
+    ) -> Fault;
     pub(crate) fn fio2070_command_items(
         octets: *const u8,
         length: usize,
         items: *mut ConfigurationItem,
         room: usize,
     ) -> usize;
-    pub(crate) fn fio2070_decode_answer(octets: *const u8, length: usize, answer: &mut Answer) -> Fault;
-    pub(crate) fn fio2070_block_entries(octets: *const u8, length: usize, entries: *mut Entry, room: usize) -> usize;
+    pub(crate) fn fio2070_decode_answer(
+        octets: *const u8,
+        length: usize,
+        answer: &mut Answer,
+    ) -> Fault;
+    pub(crate) fn fio2070_block_entries(
+        octets: *const u8,
+        length: usize,
+        entries: *mut Entry,
+        room: usize,
+    ) -> usize;
     pub(crate) fn fio2070_widen(answer_stamp: u32, stamp: u16) -> u32;
     pub(crate) fn fio2070_encode_status(clear: u8, out: *mut u8, room: usize) -> usize;
     pub(crate) fn fio2070_encode_load_counter(load: u32, out: *mut u8, room: usize) -> usize;
@@ -140,6 +161,51 @@ extern "C" {
     ) -> usize;
     pub(crate) fn fio2070_encode_watchdog(timeout: u8, out: *mut u8, room: usize) -> usize;
     pub(crate) fn fio2070_encode_identify(out: *mut u8, room: usize) -> usize;
+    pub(crate) fn fio2070_encode_other_command(
+        code: u8,
+        body: *const u8,
+        length: usize,
+        out: *mut u8,
+        room: usize,
+    ) -> usize;
+    pub(crate) fn fio2070_encode_status_answer(
+        flags: u8,
+        receive_errors: u8,
+        transmit_errors: u8,
+        stamp: u32,
+        out: *mut u8,
+        room: usize,
+    ) -> usize;
+    pub(crate) fn fio2070_encode_load_counter_answer(
+        status: u8,
+        out: *mut u8,
+        room: usize,
+    ) -> usize;
+    pub(crate) fn fio2070_encode_configure_inputs_answer(
+        status: u8,
+        out: *mut u8,
+        room: usize,
+    ) -> usize;
+    pub(crate) fn fio2070_encode_raw_inputs_answer(
+        inputs: u64,
+        stamp: u32,
+        out: *mut u8,
+        room: usize,
+    ) -> usize;
+    pub(crate) fn fio2070_encode_filtered_inputs_answer(
+        inputs: u64,
+        stamp: u32,
+        out: *mut u8,
+        room: usize,
+    ) -> usize;
+    pub(crate) fn fio2070_encode_watchdog_answer(status: u8, out: *mut u8, room: usize) -> usize;
+    pub(crate) fn fio2070_encode_other_answer(
+        code: u8,
+        body: *const u8,
+        length: usize,
+        out: *mut u8,
+        room: usize,
+    ) -> usize;
     pub(crate) fn fio2070_encode_block_answer(
         block: u8,
         entries: *const Entry,
@@ -156,6 +222,11 @@ extern "C" {
         items: *mut RecordItem,
         room: usize,
     ) -> RawHeard;
+    pub(crate) fn fio2070_counter_start(counter: &mut RawCounter);
+    pub(crate) fn fio2070_counter_tick(counter: &mut RawCounter);
+    pub(crate) fn fio2070_counter_ask_load(counter: &mut RawCounter, number: u32);
+    pub(crate) fn fio2070_counter_line_sync(counter: &mut RawCounter);
+    pub(crate) fn fio2070_counter_now(counter: &RawCounter) -> u32;
     pub(crate) fn fio2070_filters_start(filters: &mut RawFilters);
     pub(crate) fn fio2070_filters_configure(
         filters: &mut RawFilters,
