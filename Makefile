@@ -122,7 +122,7 @@ ifneq ($(libraries),)
 	    >'$(pkgconfig)/fio2070.pc'
 endif
 ifneq ($(shared),)
-	install -m 755 $(shared) '$(root)/$(LIB)'
+	install -m 644 $(shared) '$(root)/$(LIB)'
 endif
 
 uninstall-library:
