@@ -20,8 +20,8 @@ version() { crates/fio2070/out/fio2070 --version | cut -d ' ' -f 2; }
 epoch() { echo "${SOURCE_DATE_EPOCH:-$(git log -1 --format=%ct 2>/dev/null || stat -c %Y CHANGELOG.md)}"; }
 
 # stage FOLDER SETTING..: installs into a new folder, by `make install` with these settings, without symbols and without
-# the shared library, which has no version for a package. All can
-# be read by everyone, whatever the settings of who cloned the repository.
+# the shared library, which has no version for a package. All can be read by everyone, whatever the settings of who
+# cloned the repository.
 stage() {
     folder=$1
     shift
