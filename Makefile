@@ -102,10 +102,15 @@ $(archive): $(proved)
 	cd crates/fio_c && rt lib
 
 $(OUT)/libfio2070.a: $(archive)
+	mkdir -p $(OUT)
 	cp $(archive) $@
 
-$(OUT)/libfio2070.so: $(OUT)/libfio2070.a
-	$(CC) -shared -Wl,-soname,libfio2070.so -Wl,--whole-archive $< -Wl,--no-whole-archive -o $@
+# The shared library has the tester too.
+tester = $(wildcard examples/c/conformance*.c)
+
+$(OUT)/libfio2070.so: $(OUT)/libfio2070.a $(tester)
+	$(CC) -O2 -fPIC -I include -shared -Wl,-soname,libfio2070.so $(tester) \
+	    -Wl,--whole-archive $< -Wl,--no-whole-archive -o $@
 
 install: install-library
 uninstall: uninstall-library
@@ -117,7 +122,7 @@ ifneq ($(libraries),)
 	    >'$(pkgconfig)/fio2070.pc'
 endif
 ifneq ($(shared),)
-	install -m 755 $(shared) '$(root)/$(LIB)'
+	install -m 644 $(shared) '$(root)/$(LIB)'
 endif
 
 uninstall-library:

@@ -19,13 +19,14 @@ version() { crates/fio2070/out/fio2070 --version | cut -d ' ' -f 2; }
 # The time that all files of a package have: that of the last commit, or what SOURCE_DATE_EPOCH says.
 epoch() { echo "${SOURCE_DATE_EPOCH:-$(git log -1 --format=%ct 2>/dev/null || stat -c %Y CHANGELOG.md)}"; }
 
-# stage FOLDER SETTING..: installs into a new folder, by `make install` with these settings, without symbols. All can
-# be read by everyone, whatever the settings of who cloned the repository.
+# stage FOLDER SETTING..: installs into a new folder, by `make install` with these settings, without symbols and without
+# the shared library, which has no version for a package. All can be read by everyone, whatever the settings of who
+# cloned the repository.
 stage() {
     folder=$1
     shift
     umask 022
-    env -u MAKEFLAGS -u MAKELEVEL -u MFLAGS make -s install DESTDIR="$folder" "$@" >/dev/null ||
+    env -u MAKEFLAGS -u MAKELEVEL -u MFLAGS make -s install DESTDIR="$folder" shared= "$@" >/dev/null ||
         fail 'make install failed'
     find "$folder" -path '*/bin/fio2070' -exec strip --strip-unneeded '{}' ';' \
         -o -name '*.a' -exec strip --strip-debug --enable-deterministic-archives '{}' ';' || fail 'strip failed'

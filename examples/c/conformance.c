@@ -10,7 +10,7 @@ static int are_same(const struct difference *answers) {
            memcmp(answers->wanted, answers->got, answers->wanted_length) == 0;
 }
 
-/* Hands a frame to both. */
+/* Gives a frame to both. */
 static void exchange(const struct maker *maker, const struct event *event, struct difference *answers) {
     answers->wanted_length = fio2070_module_receive(&proved, event->octets, event->length, answers->wanted);
     answers->got_length = maker->exchange(maker->context, event->octets, event->length, answers->got);

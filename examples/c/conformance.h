@@ -23,7 +23,7 @@ struct maker {
     void (*reset)(void *context);                 /* as after power on */
     void (*step)(void *context, uint64_t inputs); /* sets the 64 inputs, and steps one millisecond */
     void (*line_sync)(void *context);             /* LINESYNC goes from 0 to 1 */
-    /* Hands it a frame. Returns how many octets the answer has, 0 where there is none. */
+    /* Gives it a frame. Returns how many octets the answer has, 0 where there is none. */
     size_t (*exchange)(void *context, const uint8_t *octets, size_t length, uint8_t answer[FIO2070_LONGEST_FRAME]);
 };
 

@@ -45,15 +45,15 @@ static const char *rule_of_block(const struct difference *difference) {
 /* Both answer with the type of the command. */
 static const char *rule_of_type(uint8_t code, const struct difference *difference) {
     switch (code) {
-    case FIO2070_STATUS: return "49: the flags whose bits are one are cleared, then 177 tells those that are left.";
+    case FIO2070_STATUS: return "49: the flags whose bits are one are cleared, then 177 carries those that are left.";
     case FIO2070_LOAD_COUNTER: return "The answer 178 goes out when the command is received, with S = 0.";
     case FIO2070_CONFIGURE_INPUTS: return "Where any item of a 51 names an input above 63, nothing changes";
     case FIO2070_RAW_INPUTS:
     case FIO2070_FILTERED_INPUTS:
-        return "52 and 53: 180 tells the raw levels, 181 the filtered states, each with the counter.";
+        return "52 and 53: 180 carries the raw levels, 181 the filtered states, each with the counter.";
     case FIO2070_POLL: return rule_of_block(difference);
     case FIO2070_SET_OUTPUTS: return "55: the data and control octets are kept, all 0 at the start.";
-    case FIO2070_WATCHDOG: return "Y tells whether an earlier 58 came.";
+    case FIO2070_WATCHDOG: return "Y says whether an earlier 58 came.";
     default: return NULL;
     }
 }

@@ -6,7 +6,7 @@ use Rattle.fio_world.specs.ReportLines.{ending_text}
 use Rattle.fio_world.specs.Reports.{Telling, told_from, unless_refused, EndsWith, TellsOfRun}
 use Rattle.fio_world.specs.Scripts.{Scenario}
 
--- what is told of events that are all done is good
+-- what is reported of events that are all done is good
 good_from : (settings : Settings) (first number : ℕ) (machine : Machine) (events : List Event) (last : Machine)
     → Leads settings first machine events last → (told_from settings first number machine events).good ≡ true
 good_from settings first number machine [] last leads = refl

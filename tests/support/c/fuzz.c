@@ -1,4 +1,4 @@
-/* Hands random octets to every call that reads octets. Each buffer ends at a page that may not be
+/* Gives random octets to every call that reads octets. Each buffer ends at a page that may not be
  * touched, so an access behind one ends the program. What is read must encode to the same octets.
  * The last line is `N passed, M failed`, N being the buffers.
  *

@@ -1,0 +1,222 @@
+"""The field I/O transition link of the Model 2070, by the proved library libfio2070.
+
+Ranges, errors and sources are those of include/fio2070.h. A number out of its range raises ValueError.
+
+    >>> encode.poll(5).hex()
+    '3605'
+    >>> decode_answer(bytes.fromhex('b605018c03e700000003e8')).entries
+    [Entry(input=12, state=1, stamp=999)]
+"""
+
+import ctypes
+from typing import List, NamedTuple, Optional, Sequence, Tuple
+
+from . import _library as c
+from . import encode
+from .records import Answer, Command, ConfigurationItem, Entry, Fault, RecordItem
+
+__all__ = ['Answer', 'Command', 'ConfigurationItem', 'Counter', 'Entry', 'Fault', 'Filters', 'Heard', 'Module',
+           'Poller', 'RecordItem', 'decode_answer', 'decode_command', 'encode', 'widen']
+
+
+def _text_of(fault: c.CFault) -> str:
+    out = (ctypes.c_uint8 * c.LONGEST_FAULT_TEXT)()
+    return bytes(out[:c.library.fio2070_fault_text(fault, out, len(out))]).decode('ascii')
+
+
+def _fault(fault: c.CFault) -> Fault:
+    return Fault(fault.kind, fault.code, fault.needed, fault.got, _text_of(fault))
+
+
+def decode_command(octets: bytes) -> Command:
+    """The command that the octets spell. Raises Fault where they spell none."""
+    read = c.CCommand()
+    fault = c.library.fio2070_decode_command(octets, len(octets), read)
+    if fault.kind != 0:
+        raise _fault(fault)
+    items = (c.CItem * c.MOST_ENTRIES)()
+    count = c.library.fio2070_command_items(octets, len(octets), items, len(items))
+    return Command(read.code, read.clear, read.block, read.timeout, read.load, bytes(read.levels),
+                   bytes(read.controls), octets[1:1 + read.body],
+                   [ConfigurationItem(one.input, bool(one.ignore), one.leading, one.trailing) for one in items[:count]])
+
+
+def decode_answer(octets: bytes) -> Answer:
+    """The answer that the octets spell. Raises Fault where they spell none."""
+    read = c.CAnswer()
+    fault = c.library.fio2070_decode_answer(octets, len(octets), read)
+    if fault.kind != 0:
+        raise _fault(fault)
+    entries = (c.CEntry * c.MOST_ENTRIES)()
+    count = c.library.fio2070_block_entries(octets, len(octets), entries, len(entries))
+    return Answer(read.code, read.flags, read.receive_errors, read.transmit_errors, read.status, read.block,
+                  read.stamp, read.inputs, octets[1:1 + read.body],
+                  [Entry(one.input, one.state, one.stamp) for one in entries[:count]])
+
+
+def widen(answer_stamp: int, stamp: int) -> int:
+    """The time in milliseconds, modulo 2^32, of an entry with this stamp in an answer with that one."""
+    encode.check_range(2**32, answer_stamp)
+    encode.check_range(2**16, stamp)
+    return c.library.fio2070_widen(answer_stamp, stamp)
+
+
+class Heard(NamedTuple):
+    """What a poller heard: 'taken', 'unreadable', 'other' or 'stale', and the numbers that it has."""
+    kind: str
+    entries: int = 0
+    status: int = 0
+    code: int = 0
+    number: int = 0
+    fault: Optional[Fault] = None
+
+
+class Poller:
+    """The CPU's end, with its record."""
+
+    def __init__(self, number: int = 0) -> None:
+        """`number` is that of the first block to ask for, 0 to 255."""
+        encode.check_range(256, number)
+        self._poller = c.CPoller(number)
+        self._items = (c.CRecordItem * c.MOST_RECORD_ITEMS)()
+        self.record: List[RecordItem] = []
+
+    @property
+    def number(self) -> int:
+        """The number of the block that the next poll asks for."""
+        return self._poller.number
+
+    def poll(self) -> bytes:
+        """The octets of a poll with the present number."""
+        return encode.poll(self.number)
+
+    def hear(self, octets: bytes) -> Heard:
+        """Takes a block with the present number whole; anything else is reported and changes nothing."""
+        heard = c.library.fio2070_poller_hear(self._poller, octets, len(octets), self._items, len(self._items))
+        if heard.kind == 0:
+            self.record.extend(RecordItem(bool(one.gap), one.input, one.state, one.stamp, one.wide)
+                               for one in self._items[:heard.items])
+            return Heard('taken', entries=heard.entries, status=heard.status)
+        if heard.kind == 1:
+            return Heard('unreadable', fault=_fault(heard.fault))
+        if heard.kind == 2:
+            return Heard('other', code=heard.code)
+        return Heard('stale', number=heard.number)
+
+
+class Counter:
+    """The millisecond counter."""
+
+    def __init__(self) -> None:
+        self._counter = c.CCounter()
+        c.library.fio2070_counter_start(self._counter)
+
+    def tick(self) -> None:
+        """One step, from 4,294,967,295 to 0."""
+        c.library.fio2070_counter_tick(self._counter)
+
+    def ask_load(self, number: int) -> None:
+        """The next line sync loads this number."""
+        encode.check_range(2**32, number)
+        c.library.fio2070_counter_ask_load(self._counter, number)
+
+    def line_sync(self) -> None:
+        """LINESYNC goes from 0 to 1."""
+        c.library.fio2070_counter_line_sync(self._counter)
+
+    def now(self) -> int:
+        """The milliseconds counted, modulo 2^32."""
+        return c.library.fio2070_counter_now(self._counter)
+
+
+class Filters:
+    """The filters of the 64 inputs. Bit i of a word is input i."""
+
+    def __init__(self) -> None:
+        self._filters = c.CFilters()
+        c.library.fio2070_filters_start(self._filters)
+
+    def configure(self, items: Sequence[ConfigurationItem]) -> None:
+        """Applies the items in order. Raises ValueError, and applies none, where one names an input above
+        63 or there are more than 255."""
+        done = c.library.fio2070_filters_configure(self._filters, encode.items_of(items), len(items))
+        if done.kind == 1:
+            raise ValueError('item %d names an input above 63' % done.place)
+        if done.kind == 2:
+            raise ValueError('more than 255 items')
+
+    def scan(self, raw: int) -> int:
+        """Samples each input. A one for each input that is not ignored and whose filtered state changed."""
+        encode.check_range(2**64, raw)
+        return c.library.fio2070_filters_scan(self._filters, raw)
+
+    @property
+    def filtered(self) -> int:
+        """The filtered states, also of ignored inputs."""
+        return c.library.fio2070_filters_filtered(self._filters)
+
+    @property
+    def raw(self) -> int:
+        """The levels of the last scan, all 1 before any."""
+        return c.library.fio2070_filters_raw(self._filters)
+
+
+class Module:
+    """A field I/O module of which 1,024 entries may wait."""
+
+    def __init__(self, id: int = 2, per_block: int = 255) -> None:
+        """It answers `id` to command 60; its blocks have at most `per_block` entries, 1 to 255."""
+        if not (0 <= id <= 255 and 1 <= per_block <= 255):
+            raise ValueError('id is 0 to 255, per_block 1 to 255')
+        self._module = c.CModule()
+        c.library.fio2070_module_start(self._module, id, per_block)
+
+    def restart(self) -> None:
+        """Starts anew with the same id and per_block."""
+        c.library.fio2070_module_restart(self._module)
+
+    def scan(self, raw: int) -> None:
+        """Steps the counter by one millisecond, and samples each input; bit i of `raw` is input i."""
+        encode.check_range(2**64, raw)
+        c.library.fio2070_module_scan(self._module, raw)
+
+    def line_sync(self) -> None:
+        """LINESYNC goes from 0 to 1: a load of the counter that was asked for happens now."""
+        c.library.fio2070_module_line_sync(self._module)
+
+    def raise_flags(self, mask: int) -> None:
+        """Sets the flags whose bits are one."""
+        encode.check_range(256, mask)
+        c.library.fio2070_module_raise(self._module, mask)
+
+    def receive(self, octets: bytes) -> Optional[bytes]:
+        """The answer to a frame; None where there is none."""
+        out = (ctypes.c_uint8 * c.LONGEST_FRAME)()
+        count = c.library.fio2070_module_receive(self._module, octets, len(octets), out)
+        return bytes(out[:count]) if count else None
+
+    @property
+    def outputs(self) -> Tuple[bytes, bytes]:
+        """The data and the control octets."""
+        outputs = c.library.fio2070_module_outputs(self._module)
+        return bytes(outputs.levels), bytes(outputs.controls)
+
+    @property
+    def watchdog_ms(self) -> Optional[int]:
+        """The timeout of the watchdog in milliseconds, 10 to 100; None before the first command 58."""
+        return c.library.fio2070_module_watchdog_ms(self._module) or None
+
+    @property
+    def counter(self) -> int:
+        """The milliseconds counted, modulo 2^32."""
+        return c.library.fio2070_module_counter(self._module)
+
+    @property
+    def filtered(self) -> int:
+        """The filtered states, also of ignored inputs."""
+        return c.library.fio2070_module_filtered(self._module)
+
+    @property
+    def waiting(self) -> int:
+        """How many entries wait for a poll."""
+        return c.library.fio2070_module_waiting(self._module)

@@ -1,0 +1,126 @@
+"""The shared library, and the structs of include/fio2070.h."""
+
+import ctypes
+import os
+from ctypes import POINTER, c_size_t, c_uint8, c_uint16, c_uint32, c_uint64
+
+LONGEST_FRAME = 773
+MOST_ENTRIES = 255
+MOST_RECORD_ITEMS = 256
+LONGEST_FAULT_TEXT = 65
+
+
+def _load() -> ctypes.CDLL:
+    """The library that FIO2070_LIBRARY names, or the one beside this file, or the installed one."""
+    beside = os.path.join(os.path.dirname(os.path.abspath(__file__)), 'libfio2070.so')
+    named = os.environ.get('FIO2070_LIBRARY')
+    return ctypes.CDLL(named or (beside if os.path.exists(beside) else 'libfio2070.so'))
+
+
+class CFault(ctypes.Structure):
+    _fields_ = [('kind', c_uint8), ('code', c_uint8), ('needed', c_size_t), ('got', c_size_t)]
+
+
+class CEntry(ctypes.Structure):
+    _fields_ = [('input', c_uint8), ('state', c_uint8), ('stamp', c_uint16)]
+
+
+class CItem(ctypes.Structure):
+    _fields_ = [('input', c_uint8), ('ignore', c_uint8), ('leading', c_uint8), ('trailing', c_uint8)]
+
+
+class CCommand(ctypes.Structure):
+    _fields_ = [('code', c_uint8), ('clear', c_uint8), ('block', c_uint8), ('timeout', c_uint8), ('count', c_uint8),
+                ('body', c_uint16), ('load', c_uint32), ('levels', c_uint8 * 8), ('controls', c_uint8 * 8)]
+
+
+class CAnswer(ctypes.Structure):
+    _fields_ = [('code', c_uint8), ('flags', c_uint8), ('receive_errors', c_uint8), ('transmit_errors', c_uint8),
+                ('status', c_uint8), ('block', c_uint8), ('count', c_uint8), ('body', c_uint16), ('stamp', c_uint32),
+                ('inputs', c_uint64)]
+
+
+class CPoller(ctypes.Structure):
+    _fields_ = [('number', c_uint8)]
+
+
+class CRecordItem(ctypes.Structure):
+    _fields_ = [('gap', c_uint8), ('input', c_uint8), ('state', c_uint8), ('stamp', c_uint16), ('wide', c_uint32)]
+
+
+class CHeard(ctypes.Structure):
+    _fields_ = [('kind', c_uint8), ('code', c_uint8), ('number', c_uint8), ('status', c_uint8), ('entries', c_uint8),
+                ('items', c_uint16), ('fault', CFault)]
+
+
+class CConfigured(ctypes.Structure):
+    _fields_ = [('kind', c_uint8), ('place', c_size_t)]
+
+
+class CCounter(ctypes.Structure):
+    _fields_ = [('value', c_uint32), ('load', c_uint32), ('is_asked', c_uint8)]
+
+
+class CFilters(ctypes.Structure):
+    _fields_ = [('lanes', c_uint8 * 192), ('words', c_uint64 * 3)]
+
+
+class COutputs(ctypes.Structure):
+    _fields_ = [('levels', c_uint8 * 8), ('controls', c_uint8 * 8)]
+
+
+class CModule(ctypes.Structure):
+    """The octets of struct fio2070_module, as aligned as that is."""
+    _fields_ = [('words', c_uint64 * (4112 // 8))]
+
+
+library = _load()
+
+
+def _declare(name: str, result, *arguments) -> None:
+    function = getattr(library, 'fio2070_' + name)
+    function.restype = result
+    function.argtypes = arguments
+
+
+_OCTETS = (ctypes.c_char_p, c_size_t)
+_OUT = (POINTER(c_uint8), c_size_t)
+
+_declare('fault_text', c_size_t, POINTER(CFault), *_OUT)
+_declare('decode_command', CFault, *_OCTETS, POINTER(CCommand))
+_declare('command_items', c_size_t, *_OCTETS, POINTER(CItem), c_size_t)
+_declare('decode_answer', CFault, *_OCTETS, POINTER(CAnswer))
+_declare('block_entries', c_size_t, *_OCTETS, POINTER(CEntry), c_size_t)
+_declare('widen', c_uint32, c_uint32, c_uint16)
+for _name, _arguments in {
+        'status': [c_uint8], 'load_counter': [c_uint32], 'configure_inputs': [POINTER(CItem), c_size_t],
+        'raw_inputs': [], 'filtered_inputs': [], 'poll': [c_uint8], 'set_outputs': _OCTETS[:1] * 2,
+        'watchdog': [c_uint8], 'identify': [], 'other_command': [c_uint8, *_OCTETS],
+        'status_answer': [c_uint8, c_uint8, c_uint8, c_uint32], 'load_counter_answer': [c_uint8],
+        'configure_inputs_answer': [c_uint8], 'raw_inputs_answer': [c_uint64, c_uint32],
+        'filtered_inputs_answer': [c_uint64, c_uint32],
+        'block_answer': [c_uint8, POINTER(CEntry), c_size_t, c_uint8, c_uint32],
+        'watchdog_answer': [c_uint8], 'other_answer': [c_uint8, *_OCTETS]}.items():
+    _declare('encode_' + _name, c_size_t, *_arguments, *_OUT)
+_declare('poller_hear', CHeard, POINTER(CPoller), *_OCTETS, POINTER(CRecordItem), c_size_t)
+_declare('counter_start', None, POINTER(CCounter))
+_declare('counter_tick', None, POINTER(CCounter))
+_declare('counter_ask_load', None, POINTER(CCounter), c_uint32)
+_declare('counter_line_sync', None, POINTER(CCounter))
+_declare('counter_now', c_uint32, POINTER(CCounter))
+_declare('filters_start', None, POINTER(CFilters))
+_declare('filters_configure', CConfigured, POINTER(CFilters), POINTER(CItem), c_size_t)
+_declare('filters_scan', c_uint64, POINTER(CFilters), c_uint64)
+_declare('filters_filtered', c_uint64, POINTER(CFilters))
+_declare('filters_raw', c_uint64, POINTER(CFilters))
+_declare('module_start', c_uint8, POINTER(CModule), c_uint8, c_uint8)
+_declare('module_restart', None, POINTER(CModule))
+_declare('module_scan', None, POINTER(CModule), c_uint64)
+_declare('module_line_sync', None, POINTER(CModule))
+_declare('module_raise', None, POINTER(CModule), c_uint8)
+_declare('module_receive', c_size_t, POINTER(CModule), *_OCTETS, POINTER(c_uint8))
+_declare('module_outputs', COutputs, POINTER(CModule))
+_declare('module_watchdog_ms', c_uint8, POINTER(CModule))
+_declare('module_counter', c_uint32, POINTER(CModule))
+_declare('module_filtered', c_uint64, POINTER(CModule))
+_declare('module_waiting', c_size_t, POINTER(CModule))

@@ -1,0 +1,62 @@
+"""Messages and their parts. A field that a type does not have is 0 or empty."""
+
+from typing import List, NamedTuple
+
+
+class Fault(ValueError):
+    """Why octets are no message. kind: 1 empty, 2 too long, 3 unknown type, 4 wrong length."""
+
+    def __init__(self, kind: int, code: int, needed: int, got: int, text: str) -> None:
+        super().__init__(text)
+        self.kind, self.code, self.needed, self.got = kind, code, needed, got
+
+
+class Entry(NamedTuple):
+    """A transition: the input, 0 to 127, its state after it, and the low 16 bits of the counter."""
+    input: int
+    state: int
+    stamp: int
+
+
+class ConfigurationItem(NamedTuple):
+    """How one input is read; its transitions are not reported where `ignore` is true."""
+    input: int
+    ignore: bool
+    leading: int
+    trailing: int
+
+
+class RecordItem(NamedTuple):
+    """An entry with its time `wide` in milliseconds; or a gap, where entries are missing."""
+    gap: bool
+    input: int
+    state: int
+    stamp: int
+    wide: int
+
+
+class Command(NamedTuple):
+    """A command, 49 to 60."""
+    code: int
+    clear: int
+    block: int
+    timeout: int
+    load: int
+    levels: bytes
+    controls: bytes
+    body: bytes
+    items: List[ConfigurationItem]
+
+
+class Answer(NamedTuple):
+    """An answer, 177 to 188."""
+    code: int
+    flags: int
+    receive_errors: int
+    transmit_errors: int
+    status: int
+    block: int
+    stamp: int
+    inputs: int
+    body: bytes
+    entries: List[Entry]

@@ -1,0 +1,142 @@
+"""The worked examples in Python: `python3 -m unittest test`, with FIO2070_LIBRARY naming the library."""
+
+import doctest
+import unittest
+
+import fio2070
+from fio2070 import ConfigurationItem, Entry, encode, tester
+
+BLOCK = bytes.fromhex('b605018c03e700000003e8')
+
+MESSAGES = [
+    (encode.status(0x80), '3180'),
+    (encode.load_counter(65536), '3200010000'),
+    (encode.configure_inputs([ConfigurationItem(12, False, 5, 3), ConfigurationItem(3, True, 0, 0)]),
+     '33020c0503830000'),
+    (encode.raw_inputs(), '34'),
+    (encode.filtered_inputs(), '35'),
+    (encode.poll(5), '3605'),
+    (encode.set_outputs(bytes(7) + b'\1', bytes(8)), '3700000000000000010000000000000000'),
+    (encode.other_command(56, b''), '38'),
+    (encode.watchdog(200), '3ac8'),
+    (encode.identify(), '3c'),
+    (encode.status_answer(0x80, 0, 1, 1000), 'b1800001000003e8'),
+    (encode.load_counter_answer(0xfe), 'b2fe'),
+    (encode.configure_inputs_answer(1), 'b301'),
+    (encode.raw_inputs_answer(2**64 - 2, 1), 'b4feffffffffffffff00000001'),
+    (encode.filtered_inputs_answer(2**64 - 2, 1), 'b5feffffffffffffff00000001'),
+    (encode.block_answer(5, [Entry(12, 1, 999)], 0, 1000), BLOCK.hex()),
+    (encode.watchdog_answer(1), 'ba01'),
+    (encode.other_answer(188, b'\2'), 'bc02'),
+]
+
+
+class Messages(unittest.TestCase):
+    def test_octets(self):
+        for octets, wanted in MESSAGES:
+            self.assertEqual(octets.hex(), wanted)
+
+    def test_commands(self):
+        command = fio2070.decode_command(bytes.fromhex('33020c0503830000'))
+        self.assertEqual(command.items, [(12, False, 5, 3), (3, True, 0, 0)])
+        self.assertEqual(fio2070.decode_command(b'\x36\5').block, 5)
+        self.assertEqual(fio2070.decode_command(b'\x3b\0\2').body, b'\0\2')
+        self.assertEqual(fio2070.decode_command(bytes.fromhex('3200010000')).load, 65536)
+
+    def test_answers(self):
+        answer = fio2070.decode_answer(BLOCK)
+        self.assertEqual((answer.code, answer.block, answer.status, answer.stamp), (182, 5, 0, 1000))
+        self.assertEqual(answer.entries, [(12, 1, 999)])
+        self.assertEqual(fio2070.decode_answer(bytes.fromhex('b4feffffffffffffff00000001')).inputs, 2**64 - 2)
+        self.assertEqual(fio2070.widen(0x10002, 0xfffe), 0xfffe)
+
+    def test_faults(self):
+        for octets, text in [('', 'empty'), ('30' * 774, 'too long got 774'), ('30', 'unknown type 48'),
+                             ('33', 'wrong length needed 2 got 1')]:
+            with self.assertRaises(fio2070.Fault) as caught:
+                fio2070.decode_command(bytes.fromhex(octets))
+            self.assertEqual(str(caught.exception), text)
+        for call in [lambda: encode.poll(256), lambda: encode.other_command(54, b''),
+                     lambda: encode.configure_inputs([ConfigurationItem(128, False, 1, 1)]),
+                     lambda: encode.set_outputs(b'', b''), lambda: fio2070.Module(per_block=0)]:
+            self.assertRaises(ValueError, call)
+
+    def test_documentation(self):
+        self.assertEqual(doctest.testmod(fio2070).failed, 0)
+
+
+class Ends(unittest.TestCase):
+    def test_module_and_poller(self):
+        module, poller = fio2070.Module(id=2), fio2070.Poller(5)
+        self.assertEqual(module.receive(encode.identify()), b'\xbc\2')
+        self.assertIsNone(module.receive(b'\x38'))
+        self.assertEqual(module.receive(encode.configure_inputs([ConfigurationItem(12, False, 1, 1)])), b'\xb3\0')
+        module.receive(encode.load_counter(998))
+        module.line_sync()
+        module.scan(2**64 - 1 - 2**12)
+        self.assertEqual((module.counter, module.waiting, module.watchdog_ms), (999, 1, None))
+        answer = module.receive(poller.poll())
+        self.assertEqual(answer.hex(), 'b605010c03e700000003e7')
+        self.assertEqual(poller.hear(answer), fio2070.Heard('taken', entries=1))
+        self.assertEqual(poller.record, [(False, 12, 0, 999, 999)])
+        self.assertEqual(poller.hear(answer), fio2070.Heard('stale', number=5))
+        self.assertEqual(poller.hear(b'\xb3\0'), fio2070.Heard('other', code=179))
+        self.assertEqual(str(poller.hear(b'').fault), 'empty')
+        self.assertEqual(poller.number, 6)
+        module.receive(encode.set_outputs(b'01234567', b'89abcdef'))
+        module.receive(encode.watchdog(200))
+        self.assertEqual((module.outputs, module.watchdog_ms), ((b'01234567', b'89abcdef'), 100))
+        module.raise_flags(1)
+        self.assertEqual(module.receive(encode.status(0))[1], 0x81)
+        module.restart()
+        self.assertEqual((module.counter, module.filtered), (0, 2**64 - 1))
+
+    def test_filters_and_counter(self):
+        filters, counter = fio2070.Filters(), fio2070.Counter()
+        filters.configure([ConfigurationItem(2, False, 3, 2)])
+        changes = [filters.scan(level << 2) for level in [1, 0, 0, 1, 0, 0, 0, 1, 0, 1, 1]]
+        self.assertEqual([place + 1 for place, change in enumerate(changes) if change == 4], [7, 11])
+        self.assertEqual((filters.raw, filters.filtered), (4, 4))
+        self.assertRaises(ValueError, filters.configure, [ConfigurationItem(64, False, 1, 1)])
+        counter.ask_load(2**32 - 1)
+        counter.line_sync()
+        counter.tick()
+        self.assertEqual(counter.now(), 0)
+
+
+class Proved(tester.Maker):
+    """The proved module."""
+
+    def reset(self):
+        self.module = fio2070.Module(self.id, self.per_block)
+
+    def step(self, inputs):
+        self.module.scan(inputs)
+
+    def line_sync(self):
+        self.module.line_sync()
+
+    def exchange(self, octets):
+        return self.module.receive(octets)
+
+
+class Forgetful(Proved):
+    """It does not set E in a block that it sends again."""
+
+    def exchange(self, octets):
+        answer = super().exchange(octets)
+        if answer is None or answer[0] != 182:
+            return answer
+        return answer[:-5] + bytes([answer[-5] & ~2]) + answer[-4:]
+
+
+class Tester(unittest.TestCase):
+    def test_modules(self):
+        self.assertIsNone(tester.run(Proved(), events=20_000))
+        script = tester.run(Forgetful(), events=20_000)
+        self.assertIn('\npoll\nto-module 1\npoll\nto-module 2\n# wanted: ', script)
+        self.assertIn('sent again with E set', script)
+
+
+if __name__ == '__main__':
+    unittest.main()

@@ -1,0 +1,231 @@
+//! Both ends of the link, and the filters.
+
+use crate::raw::{
+    self, ConfigurationItem, Fault, Outputs, RawCounter, RawFilters, RawModule, RawPoller,
+    RecordItem,
+};
+use crate::LONGEST_FRAME;
+
+// SAFETY of the calls below: slices are given with their lengths, all memory is initialised and,
+// where it is written, borrowed by the call alone; the structs are begun by `_start`.
+
+/// What a poller heard.
+#[derive(Clone, Copy, Debug, PartialEq, Eq)]
+pub enum Heard {
+    /// A block was taken; so many items were written.
+    Taken {
+        entries: u8,
+        status: u8,
+        items: usize,
+    },
+    /// No answer.
+    Unreadable(Fault),
+    /// An answer of another type.
+    Other(u8),
+    /// A block with this number, another than the present one.
+    Stale(u8),
+    /// The block adds so many items, for which there is no room.
+    NoRoom(usize),
+}
+
+/// The CPU's end.
+pub struct Poller(RawPoller);
+
+impl Poller {
+    /// The first poll asks for the block with this number.
+    pub const fn new(number: u8) -> Poller {
+        Poller(RawPoller { number })
+    }
+
+    /// The number of the block that the next poll asks for.
+    pub fn number(&self) -> u8 {
+        self.0.number
+    }
+
+    /// Writes a poll with the present number to the front of `out`; `None` where there is no room.
+    pub fn poll<'a>(&self, out: &'a mut [u8]) -> Option<&'a [u8]> {
+        crate::poll(self.0.number, out)
+    }
+
+    /// Takes a block with the present number whole, and writes what it adds to the record to the front
+    /// of `items`; 256 are always enough. Anything else changes nothing.
+    pub fn hear(&mut self, octets: &[u8], items: &mut [RecordItem]) -> Heard {
+        let heard = unsafe {
+            raw::fio2070_poller_hear(
+                &mut self.0,
+                octets.as_ptr(),
+                octets.len(),
+                items.as_mut_ptr(),
+                items.len(),
+            )
+        };
+        let items = usize::from(heard.items);
+        match heard.kind {
+            0 => Heard::Taken {
+                entries: heard.entries,
+                status: heard.status,
+                items,
+            },
+            1 => Heard::Unreadable(heard.fault),
+            2 => Heard::Other(heard.code),
+            3 => Heard::Stale(heard.number),
+            _ => Heard::NoRoom(items),
+        }
+    }
+}
+
+/// The millisecond counter.
+#[derive(Clone)]
+pub struct Counter(RawCounter);
+
+impl Default for Counter {
+    fn default() -> Counter {
+        let mut counter = RawCounter {
+            value: 0,
+            load: 0,
+            is_asked: 0,
+        };
+        unsafe { raw::fio2070_counter_start(&mut counter) };
+        Counter(counter)
+    }
+}
+
+impl Counter {
+    /// One step, from 4,294,967,295 to 0.
+    pub fn tick(&mut self) {
+        unsafe { raw::fio2070_counter_tick(&mut self.0) }
+    }
+
+    /// The next line sync loads this number.
+    pub fn ask_load(&mut self, number: u32) {
+        unsafe { raw::fio2070_counter_ask_load(&mut self.0, number) }
+    }
+
+    /// LINESYNC goes from 0 to 1.
+    pub fn line_sync(&mut self) {
+        unsafe { raw::fio2070_counter_line_sync(&mut self.0) }
+    }
+
+    /// The milliseconds counted, modulo 2^32.
+    pub fn now(&self) -> u32 {
+        unsafe { raw::fio2070_counter_now(&self.0) }
+    }
+}
+
+/// The filters of the 64 inputs. Bit i of a word is input i.
+#[derive(Clone)]
+pub struct Filters(RawFilters);
+
+impl Default for Filters {
+    fn default() -> Filters {
+        let mut filters = RawFilters([0; 27]);
+        unsafe { raw::fio2070_filters_start(&mut filters) };
+        Filters(filters)
+    }
+}
+
+impl Filters {
+    /// Applies the items in order, or none: the error is the place of the first item that names an
+    /// input above 63, or 255 where there are more than 255 items.
+    pub fn configure(&mut self, items: &[ConfigurationItem]) -> Result<(), usize> {
+        let done =
+            unsafe { raw::fio2070_filters_configure(&mut self.0, items.as_ptr(), items.len()) };
+        match done.kind {
+            0 => Ok(()),
+            1 => Err(done.place),
+            _ => Err(255),
+        }
+    }
+
+    /// Samples each input. A one for each that is not ignored and whose filtered state changed.
+    pub fn scan(&mut self, raw: u64) -> u64 {
+        unsafe { raw::fio2070_filters_scan(&mut self.0, raw) }
+    }
+
+    /// The filtered states, also of ignored inputs.
+    pub fn filtered(&self) -> u64 {
+        unsafe { raw::fio2070_filters_filtered(&self.0) }
+    }
+
+    /// The levels of the last scan, all 1 before any.
+    pub fn raw(&self) -> u64 {
+        unsafe { raw::fio2070_filters_raw(&self.0) }
+    }
+}
+
+/// A field I/O module of which 1,024 entries may wait.
+#[derive(Clone)]
+pub struct Module(RawModule);
+
+impl Module {
+    /// It answers `id` to command 60; its blocks have at most `per_block` entries. `None` where that is 0.
+    pub fn new(id: u8, per_block: u8) -> Option<Module> {
+        let mut module = RawModule([0; 514]);
+        match unsafe { raw::fio2070_module_start(&mut module, id, per_block) } {
+            0 => Some(Module(module)),
+            _ => None,
+        }
+    }
+
+    /// Starts anew with the same id and per_block.
+    pub fn restart(&mut self) {
+        unsafe { raw::fio2070_module_restart(&mut self.0) }
+    }
+
+    /// Steps the counter by one millisecond, and samples each input; bit i of `raw` is input i.
+    pub fn scan(&mut self, raw: u64) {
+        unsafe { raw::fio2070_module_scan(&mut self.0, raw) }
+    }
+
+    /// LINESYNC goes from 0 to 1: a load of the counter that was asked for happens now.
+    pub fn line_sync(&mut self) {
+        unsafe { raw::fio2070_module_line_sync(&mut self.0) }
+    }
+
+    /// Sets the flags whose bits are one.
+    pub fn raise(&mut self, mask: u8) {
+        unsafe { raw::fio2070_module_raise(&mut self.0, mask) }
+    }
+
+    /// The answer to a frame, written to the front of `out`; `None` where there is none.
+    pub fn receive<'a>(
+        &mut self,
+        octets: &[u8],
+        out: &'a mut [u8; LONGEST_FRAME],
+    ) -> Option<&'a [u8]> {
+        match unsafe {
+            raw::fio2070_module_receive(&mut self.0, octets.as_ptr(), octets.len(), out)
+        } {
+            0 => None,
+            count => out.get(..count),
+        }
+    }
+
+    /// What the outputs are set to.
+    pub fn outputs(&self) -> Outputs {
+        unsafe { raw::fio2070_module_outputs(&self.0) }
+    }
+
+    /// The timeout of the watchdog in milliseconds, `None` before the first command 58.
+    pub fn watchdog_ms(&self) -> Option<u8> {
+        match unsafe { raw::fio2070_module_watchdog_ms(&self.0) } {
+            0 => None,
+            timeout => Some(timeout),
+        }
+    }
+
+    /// The milliseconds counted, modulo 2^32.
+    pub fn counter(&self) -> u32 {
+        unsafe { raw::fio2070_module_counter(&self.0) }
+    }
+
+    /// The filtered states, also of ignored inputs.
+    pub fn filtered(&self) -> u64 {
+        unsafe { raw::fio2070_module_filtered(&self.0) }
+    }
+
+    /// How many entries wait for a poll.
+    pub fn waiting(&self) -> usize {
+        unsafe { raw::fio2070_module_waiting(&self.0) }
+    }
+}

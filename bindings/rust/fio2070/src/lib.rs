@@ -1,0 +1,91 @@
+//! The field I/O transition link of the Model 2070, by the proved library libfio2070.a.
+//!
+//! Ranges, errors and sources are those of include/fio2070.h. Nothing here allocates.
+#![no_std]
+
+mod encode;
+mod ends;
+mod raw;
+
+pub use encode::{
+    block_answer, configure_inputs, configure_inputs_answer, filtered_inputs,
+    filtered_inputs_answer, identify, load_counter, load_counter_answer, other_answer,
+    other_command, poll, raw_inputs, raw_inputs_answer, set_outputs, status, status_answer,
+    watchdog, watchdog_answer,
+};
+pub use ends::{Counter, Filters, Heard, Module, Poller};
+pub use raw::{Answer, Command, ConfigurationItem, Entry, Fault, Outputs, RecordItem};
+
+use core::fmt;
+
+/// Octets of the longest frame.
+pub const LONGEST_FRAME: usize = 773;
+/// Entries of a block, and items of a configuration.
+pub const MOST_ENTRIES: usize = 255;
+/// What one block adds to a record, at most.
+pub const MOST_RECORD_ITEMS: usize = 256;
+
+impl fmt::Display for Fault {
+    /// As `fio2070 show` writes it.
+    fn fmt(&self, formatter: &mut fmt::Formatter<'_>) -> fmt::Result {
+        let mut text = [0; 65];
+        // SAFETY: `text` is initialised and has as many octets as its length says.
+        let count = unsafe { raw::fio2070_fault_text(self, text.as_mut_ptr(), text.len()) };
+        formatter.write_str(core::str::from_utf8(&text[..count]).unwrap_or(""))
+    }
+}
+
+fn read<T>(fault: Fault, message: T) -> Result<T, Fault> {
+    match fault.kind {
+        0 => Ok(message),
+        _ => Err(fault),
+    }
+}
+
+/// Reads any command.
+pub fn decode_command(octets: &[u8]) -> Result<Command, Fault> {
+    let mut command = Command::default();
+    // SAFETY: a slice is initialised memory of its length, and `command` is borrowed by this call alone.
+    let fault = unsafe { raw::fio2070_decode_command(octets.as_ptr(), octets.len(), &mut command) };
+    read(fault, command)
+}
+
+/// Reads any answer.
+pub fn decode_answer(octets: &[u8]) -> Result<Answer, Fault> {
+    let mut answer = Answer::default();
+    // SAFETY: as in `decode_command`.
+    let fault = unsafe { raw::fio2070_decode_answer(octets.as_ptr(), octets.len(), &mut answer) };
+    read(fault, answer)
+}
+
+/// Copies the entries of a block answer where there is room for all, and returns how many it has.
+pub fn block_entries(octets: &[u8], entries: &mut [Entry]) -> usize {
+    // SAFETY: both slices are initialised memory of their lengths and do not overlap.
+    unsafe {
+        raw::fio2070_block_entries(
+            octets.as_ptr(),
+            octets.len(),
+            entries.as_mut_ptr(),
+            entries.len(),
+        )
+    }
+}
+
+/// Copies the items of a configuration where there is room for all, and returns how many it has.
+pub fn command_items(octets: &[u8], items: &mut [ConfigurationItem]) -> usize {
+    // SAFETY: both slices are initialised memory of their lengths and do not overlap.
+    unsafe {
+        raw::fio2070_command_items(
+            octets.as_ptr(),
+            octets.len(),
+            items.as_mut_ptr(),
+            items.len(),
+        )
+    }
+}
+
+/// The time in milliseconds, modulo 2^32, of an entry with this stamp in an answer with that one.
+pub fn widen(answer_stamp: u32, stamp: u16) -> u32 {
+    // SAFETY: numbers alone.
+    unsafe { raw::fio2070_widen(answer_stamp, stamp) }
+}

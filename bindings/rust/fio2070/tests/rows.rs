@@ -1,0 +1,219 @@
+//! The worked examples.
+
+use fio2070::*;
+
+const BLOCK: [u8; 11] = [0xb6, 5, 1, 0x8c, 3, 0xe7, 0, 0, 0, 3, 0xe8];
+
+#[test]
+fn commands_are_written_and_read() {
+    let mut out = [0; LONGEST_FRAME];
+    assert_eq!(status(0x80, &mut out), Some(&[0x31, 0x80][..]));
+    assert_eq!(load_counter(65536, &mut out), Some(&[0x32, 0, 1, 0, 0][..]));
+    assert_eq!(raw_inputs(&mut out), Some(&[0x34][..]));
+    assert_eq!(filtered_inputs(&mut out), Some(&[0x35][..]));
+    assert_eq!(poll(5, &mut out), Some(&[0x36, 5][..]));
+    assert_eq!(poll(5, &mut out[..1]), None);
+    assert_eq!(watchdog(200, &mut out), Some(&[0x3a, 200][..]));
+    assert_eq!(identify(&mut out), Some(&[0x3c][..]));
+    assert_eq!(
+        set_outputs(&[1; 8], &[2; 8], &mut out).map(<[u8]>::len),
+        Some(17)
+    );
+    let items = [
+        ConfigurationItem {
+            input: 12,
+            ignore: 0,
+            leading: 5,
+            trailing: 3,
+        },
+        ConfigurationItem {
+            input: 3,
+            ignore: 1,
+            leading: 0,
+            trailing: 0,
+        },
+    ];
+    let octets = [0x33, 2, 12, 5, 3, 0x83, 0, 0];
+    assert_eq!(configure_inputs(&items, &mut out), Some(&octets[..]));
+    let mut read = [ConfigurationItem::default(); MOST_ENTRIES];
+    assert_eq!(command_items(&octets, &mut read), 2);
+    assert_eq!(read[..2], items);
+    assert_eq!(
+        decode_command(&octets),
+        Ok(Command {
+            code: 51,
+            count: 2,
+            ..Command::default()
+        })
+    );
+}
+
+#[test]
+fn answers_are_written_and_read() {
+    let mut out = [0; LONGEST_FRAME];
+    let entry = Entry {
+        input: 12,
+        state: 1,
+        stamp: 999,
+    };
+    assert_eq!(
+        block_answer(5, &[entry], 0, 1000, &mut out),
+        Some(&BLOCK[..])
+    );
+    assert_eq!(
+        block_answer(
+            5,
+            &[Entry {
+                input: 128,
+                ..entry
+            }],
+            0,
+            1000,
+            &mut out
+        ),
+        None
+    );
+    assert_eq!(
+        status_answer(0x80, 0, 1, 1000, &mut out),
+        Some(&[0xb1, 0x80, 0, 1, 0, 0, 3, 0xe8][..])
+    );
+    assert_eq!(load_counter_answer(0xfe, &mut out), Some(&[0xb2, 0xfe][..]));
+    assert_eq!(configure_inputs_answer(1, &mut out), Some(&[0xb3, 1][..]));
+    assert_eq!(
+        raw_inputs_answer(1, 2, &mut out),
+        Some(&[0xb4, 1, 0, 0, 0, 0, 0, 0, 0, 0, 0, 0, 2][..])
+    );
+    assert_eq!(
+        filtered_inputs_answer(1, 2, &mut out),
+        Some(&[0xb5, 1, 0, 0, 0, 0, 0, 0, 0, 0, 0, 0, 2][..])
+    );
+    assert_eq!(watchdog_answer(1, &mut out), Some(&[0xba, 1][..]));
+    assert_eq!(other_answer(188, &[2], &mut out), Some(&[0xbc, 2][..]));
+    assert_eq!(other_command(56, &[], &mut out), Some(&[0x38][..]));
+    assert_eq!(other_command(54, &[], &mut out), None);
+    let answer = Answer {
+        code: 182,
+        block: 5,
+        count: 1,
+        stamp: 1000,
+        ..Answer::default()
+    };
+    assert_eq!(decode_answer(&BLOCK), Ok(answer));
+    let mut entries = [Entry::default(); MOST_ENTRIES];
+    assert_eq!(
+        (block_entries(&BLOCK, &mut entries), entries[0]),
+        (1, entry)
+    );
+    assert_eq!(
+        (widen(0x10002, 0xfffe), widen(5, 0xfffe)),
+        (0xfffe, 0xffff_fffe)
+    );
+}
+
+#[test]
+fn faults_have_words() {
+    let words = |octets: &[u8]| decode_command(octets).unwrap_err().to_string();
+    assert_eq!(words(&[]), "empty");
+    assert_eq!(words(&[0x30; 774]), "too long got 774");
+    assert_eq!(words(&[0x30]), "unknown type 48");
+    assert_eq!(words(&[0x33]), "wrong length needed 2 got 1");
+}
+
+#[test]
+fn a_poller_polls_a_module() {
+    let (mut out, mut items) = (
+        [0; LONGEST_FRAME],
+        [RecordItem::default(); MOST_RECORD_ITEMS],
+    );
+    assert!(Module::new(2, 0).is_none());
+    let mut module = Module::new(2, 255).unwrap();
+    let mut poller = Poller::new(5);
+    assert_eq!(module.receive(&[60], &mut out), Some(&[188, 2][..]));
+    assert_eq!(module.receive(&[56], &mut out), None);
+    assert_eq!(
+        module.receive(&[51, 1, 12, 1, 1], &mut out),
+        Some(&[179, 0][..])
+    );
+    module.receive(&[50, 0, 0, 3, 0xe6], &mut out);
+    module.line_sync();
+    module.scan(!(1 << 12));
+    assert_eq!(
+        (module.counter(), module.waiting(), module.watchdog_ms()),
+        (999, 1, None)
+    );
+    let answer = [0xb6, 5, 1, 12, 3, 0xe7, 0, 0, 0, 3, 0xe7];
+    let mut poll = [0; 2];
+    assert_eq!(
+        module.receive(poller.poll(&mut poll).unwrap(), &mut out),
+        Some(&answer[..])
+    );
+    assert_eq!(poll, [54, poller.number()]);
+    assert_eq!(poller.hear(&answer, &mut []), Heard::NoRoom(1));
+    assert_eq!(
+        poller.hear(&answer, &mut items),
+        Heard::Taken {
+            entries: 1,
+            status: 0,
+            items: 1
+        }
+    );
+    assert_eq!(
+        items[0],
+        RecordItem {
+            gap: 0,
+            input: 12,
+            state: 0,
+            stamp: 999,
+            wide: 999
+        }
+    );
+    assert_eq!(poller.hear(&answer, &mut items), Heard::Stale(5));
+    assert_eq!(poller.hear(&[179, 0], &mut items), Heard::Other(179));
+    assert!(matches!(
+        poller.hear(&[], &mut items),
+        Heard::Unreadable(Fault { kind: 1, .. })
+    ));
+    module.receive(&[58, 200], &mut out);
+    module.raise(1);
+    assert_eq!(
+        (module.watchdog_ms(), module.filtered()),
+        (Some(100), !(1 << 12))
+    );
+    assert_eq!(module.outputs(), Outputs::default());
+    module.restart();
+    assert_eq!((module.counter(), module.waiting()), (0, 0));
+}
+
+#[test]
+fn filters_change_after_their_samples() {
+    let mut filters = Filters::default();
+    let item = ConfigurationItem {
+        input: 2,
+        ignore: 0,
+        leading: 3,
+        trailing: 2,
+    };
+    assert_eq!(filters.configure(&[item]), Ok(()));
+    assert_eq!(
+        filters.configure(&[item, ConfigurationItem { input: 64, ..item }]),
+        Err(1)
+    );
+    let samples = [1, 0, 0, 1, 0, 0, 0, 1, 0, 1, 1];
+    let changes: Vec<u64> = samples
+        .iter()
+        .map(|sample| filters.scan(sample << 2))
+        .collect();
+    assert_eq!(changes, [0, 0, 0, 0, 0, 0, 4, 0, 0, 0, 4]);
+    assert_eq!((filters.raw(), filters.filtered()), (4, 4));
+}
+
+#[test]
+fn a_counter_is_loaded_at_the_line_sync() {
+    let mut counter = Counter::default();
+    counter.tick();
+    counter.ask_load(u32::MAX);
+    assert_eq!(counter.now(), 1);
+    counter.line_sync();
+    counter.tick();
+    assert_eq!(counter.now(), 0);
+}
