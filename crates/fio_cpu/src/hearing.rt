@@ -2,7 +2,7 @@
 use fio_message::DecodeError;
 
 /// What the octets were: the first of these that applies (own profile).
-#[derive(Clone, Copy, Debug, PartialEq, Eq)]
+#[derive(Clone, Copy, Debug, PartialEq, Eq, Hash)]
 pub enum Heard {
     /// They spell no answer, for this reason.
     Unreadable(DecodeError),

@@ -2,7 +2,7 @@
 use fio_message::InputNumber;
 
 /// An item of the record.
-#[derive(Clone, Copy, Debug, PartialEq, Eq)]
+#[derive(Clone, Copy, Debug, PartialEq, Eq, Hash)]
 pub enum Item {
     /// A transition that a block carried.
     Entry {

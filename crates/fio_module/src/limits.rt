@@ -3,7 +3,7 @@ use std::marker::Model;
 
 /// The limits of a module: the most entries of one block, 1 to 255, and the most entries that wait
 /// for a poll, 1,024 to 8,192 (own profile; TEES 2009 has 255 and 1,024).
-#[derive(Clone, Copy, Debug, PartialEq, Eq)]
+#[derive(Clone, Copy, Debug, PartialEq, Eq, Hash)]
 pub struct Limits {
     per_block: u8,
     waiting: u16,
@@ -21,6 +21,18 @@ impl Model for Limits {
         (1 ≤ limits.per_block) × (1024 ≤ limits.waiting) × (limits.waiting ≤ 8192) };
 
     ghost inverse = { λ values. record { per_block = values.per_block; waiting = values.waiting } };
+}
+
+impl Default for Limits {
+    ghost use Rattle.std.specs.Prelude.{◌≡◌};
+    ghost use Rattle.fio_module.specs.Limits.{standard_limits};
+
+    ghost is_default = { λ limits. limits ≡ standard_limits };
+
+    /// Those of TEES 2009.
+    fn default() -> Self {
+        Self::STANDARD
+    }
 }
 
 impl Limits {

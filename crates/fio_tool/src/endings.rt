@@ -4,7 +4,7 @@ use std::alloc::AllocError;
 use thiserror::Error;
 
 /// How a tool ended that wrote its text.
-#[derive(Clone, Copy, Debug, PartialEq, Eq)]
+#[derive(Clone, Copy, Debug, PartialEq, Eq, Hash)]
 pub enum Ending {
     /// The text reports no fault.
     Good,
@@ -13,7 +13,7 @@ pub enum Ending {
 }
 
 /// Why a tool ended without its text.
-#[derive(Clone, Copy, Debug, PartialEq, Eq, Error)]
+#[derive(Clone, Copy, Debug, PartialEq, Eq, Hash, Error)]
 pub enum ToolFault {
     /// A read failed, be it only interrupted. Nothing was written.
     #[error("read fault")]

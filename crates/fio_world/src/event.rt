@@ -5,7 +5,7 @@ use fio_message::Command;
 /// What happens next. Each direction of the bus is the list of all frames ever sent in it, numbered
 /// from 1, and a delivery names one of them. The numbers delivered in one direction never fall: a
 /// number that is passed over is a loss, and an equal one an immediate repeat.
-#[derive(Clone, Debug, Drop, PartialEq, Eq)]
+#[derive(Clone, Debug, Drop, PartialEq, Eq, Hash)]
 pub enum Event {
     /// The module steps its millisecond counter and samples all inputs: bit i is the raw level of
     /// input i.

@@ -4,7 +4,7 @@ use fio_message::Frame;
 use thiserror::Error;
 
 /// The outcome of an event.
-#[derive(Clone, Debug, Drop, PartialEq, Eq)]
+#[derive(Clone, Debug, Drop, PartialEq, Eq, Hash)]
 pub enum Outcome {
     /// A frame was sent: a command of the CPU, or the module's answer.
     Sent {
@@ -20,7 +20,7 @@ pub enum Outcome {
 }
 
 /// Why an event did not happen: the first of these that applies. The world is unchanged.
-#[derive(Clone, Copy, Debug, PartialEq, Eq, Error)]
+#[derive(Clone, Copy, Debug, PartialEq, Eq, Hash, Error)]
 pub enum WorldError {
     /// No frame with this number was sent in that direction: it is 0, or above the number sent.
     #[error("not sent {index}")]
@@ -45,7 +45,7 @@ pub enum WorldError {
 }
 
 /// What stopped a run.
-#[derive(Clone, Copy, Debug, PartialEq, Eq, Error)]
+#[derive(Clone, Copy, Debug, PartialEq, Eq, Hash, Error)]
 #[error("after {place} events: {fault}")]
 pub struct RunError {
     /// How many events were done; 0 also where there was no memory for a start.

@@ -22,7 +22,7 @@ pub struct Script {
 
 /// Why a text is no script. The first faulty line decides, and on one line the first of these that
 /// applies (own profile). Lines count from 1.
-#[derive(Clone, Copy, Debug, PartialEq, Eq, Error)]
+#[derive(Clone, Copy, Debug, PartialEq, Eq, Hash, Error)]
 pub enum ScriptError {
     /// The first line is no header of a version that there is, or there is no line.
     #[error("line 1: bad header")]

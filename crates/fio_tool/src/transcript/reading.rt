@@ -32,7 +32,7 @@ impl Model for Line {
 }
 
 /// Why a text is no transcript.
-#[derive(Clone, Copy, Debug, PartialEq, Eq, Error)]
+#[derive(Clone, Copy, Debug, PartialEq, Eq, Hash, Error)]
 pub enum TraceError {
     /// A line that says something is no frame. It is the first one.
     #[error("line {line}: bad line")]

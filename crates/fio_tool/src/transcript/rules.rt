@@ -13,7 +13,7 @@ use super::status_bits::{AGAIN, LOST, MORE, OUT_OF_SEQUENCE, REFUSED, is_set};
 use fio_message::{Answer, BlockView, Command, InputItem, InputNumber};
 
 /// What a line of a transcript may break, in the order in which the rules are tried (own profile).
-#[derive(Clone, Copy, Debug, PartialEq, Eq)]
+#[derive(Clone, Copy, Debug, PartialEq, Eq, PartialOrd, Ord, Hash)]
 pub enum Rule {
     /// The octets are a message of their direction.
     Readable,

@@ -6,7 +6,7 @@ use super::reading::Line;
 use super::rules::Rule;
 
 /// What a transcript is found to be.
-#[derive(Clone, Copy, Debug, PartialEq, Eq)]
+#[derive(Clone, Copy, Debug, PartialEq, Eq, Hash)]
 pub enum Verdict {
     /// No line breaks a rule.
     Good {
