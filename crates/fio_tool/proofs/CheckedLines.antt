@@ -1,18 +1,20 @@
 -- One pass over a text, frame by frame, as the lines that are read of it.
-use Rattle.std.proofs.Common.{◌≡◌, ◌≢◌, ◌<◌, ◌≤◌, ◌∙◌, ℕ, zero, suc, ◌+◌, ◌==◌, Bool, true, false, List, [], ◌∷◌, map, length, drop, Option, Some, None, Result, Ok, Err, refl, sym, ap, arith, add-one, below_more, length-drop}
+use Rattle.std.proofs.Common.{◌≡◌, ◌≢◌, ◌<◌, ◌≤◌, ◌∙◌, ℕ, zero, suc, ◌+◌, ◌==◌, Bool, true, false, List, [], ◌∷◌, map, length, drop, Option, Some, None, Result, Ok, Err, refl, sym, ap, arith, subst, add-one, length-drop}
 use Rattle.std.specs.Prelude.{option_map, slice_get, unwrap_or, if◌then◌else◌}
+use Rattle.std.specs.Option.{option_or}
 use Rattle.std.specs.Result.{result_err}
 use Rattle.fio_world.specs.Collected.{collected, with_first}
 use Rattle.fio_world.specs.Lines.{lines_of, numbered, with_front, is_skipped}
-use Rattle.fio_tool.specs.Transcript.{TraceLine, frame_in, line_in, trace_in, command_on, answer_on}
+use Rattle.fio_tool.specs.Transcript.{TranscriptLine, earliest_above, frame_in, line_in, transcript_in, command_on, answer_on}
 use Rattle.fio_tool.specs.TranscriptFacts.{facts_at, rule_broken_by, with_line}
-use Rattle.fio_tool.specs.TranscriptRules.{IsVerdict, KeepsRulesAbove}
+use Rattle.fio_tool.specs.TranscriptRules.{breach_at, verdict_in, verdict_of, verdict_on}
 use Rattle.fio_tool.specs.declared.transcript.facts.Facts.{Facts}
-use Rattle.fio_tool.specs.declared.transcript.reading.TraceError.{TraceError}
+use Rattle.fio_tool.specs.declared.transcript.lines.TraceError.{TraceError}
 use Rattle.fio_tool.specs.declared.transcript.rules.Rule.{Rule}
 use Rattle.fio_tool.specs.declared.transcript.verdict.Verdict.{Verdict}
 use Rattle.fio_tool.specs.declared.transcript.verdict.Verdict.TheVariants.{Good, Broken}
 use Rattle.fio_tool.proofs.KeptFacts.{rule_broken-kept, facts_at-next}
+use Rattle.fio_tool.proofs.Verdicts.{breach-is}
 
 -- ---- a text has no more lines than octets
 
@@ -44,16 +46,16 @@ lines_within text = let a = length-lines_of text in let b = length-numbered 1 (l
 -- ---- the lines that are left
 
 -- the first of the lines that are left, and the lines below it
-first-left : (line : TraceLine) (left : Result (List TraceLine) TraceError) (below : List TraceLine) → with_first (line ∷ []) left ≡ Ok below
-    → (rest : List TraceLine) × (left ≡ Ok rest) × (below ≡ line ∷ rest)
+first-left : (line : TranscriptLine) (left : Result (List TranscriptLine) TraceError) (below : List TranscriptLine) → with_first (line ∷ []) left ≡ Ok below
+    → (rest : List TranscriptLine) × (left ≡ Ok rest) × (below ≡ line ∷ rest)
 first-left line (Ok rest) below is = (rest, refl, cc)
 first-left line (Err e) below is = absurd (cc)
 
-pub with_first-err : (line : TraceLine) (left : Result (List TraceLine) TraceError) → result_err (with_first (line ∷ []) left) ≡ result_err left
+pub with_first-err : (line : TranscriptLine) (left : Result (List TranscriptLine) TraceError) → result_err (with_first (line ∷ []) left) ≡ result_err left
 with_first-err line (Ok rest) = refl
 with_first-err line (Err e) = refl
 
-dropped-first : (lines : List TraceLine) (place : ℕ) (line : TraceLine) (rest : List TraceLine) → drop place lines ≡ line ∷ rest
+dropped-first : (lines : List TranscriptLine) (place : ℕ) (line : TranscriptLine) (rest : List TranscriptLine) → drop place lines ≡ line ∷ rest
     → (slice_get lines place ≡ Some line) × (drop (suc place) lines ≡ rest) × (place < length lines)
 dropped-first [] zero line rest is = absurd (cc)
 dropped-first [] (suc place) line rest is = absurd (cc)
@@ -63,43 +65,44 @@ dropped-first (first ∷ lines) (suc place) line rest is =
 
 -- ---- the course of the pass
 
--- what stands so far: no line breaks a rule and the facts are those of the lines, or the verdict is found
-abbrev pub StandsSoFar : List TraceLine → ℕ → Facts → Option Verdict → Type 0
-StandsSoFar lines frames facts None = (facts ≡ facts_at lines frames) × KeepsRulesAbove lines frames
-StandsSoFar lines frames facts (Some verdict) = IsVerdict lines verdict
+-- the breach so far is that of the earliest line that breaks a rule, and before it the facts are those of the lines
+pub record StandsSoFar (lines : List TranscriptLine) (frames : ℕ) (facts : Facts) (breach : Option Verdict) : Type 0 where
+  pub found : breach ≡ earliest_above (breach_at lines) frames
+  pub kept : breach ≡ None → facts ≡ facts_at lines frames
 
-pub record IsCourse (lines : List TraceLine) (frames : ℕ) (left : List (ℕ × List ℕ)) (facts : Facts) (breach : Option Verdict) : Type 0 where
+pub record IsCourse (lines : List TranscriptLine) (frames : ℕ) (left : List (ℕ × List ℕ)) (facts : Facts) (breach : Option Verdict) : Type 0 where
   pub left_is : collected (map line_in left) ≡ Ok (drop frames lines)
   pub within : frames ≤ length lines
   pub stands : StandsSoFar lines frames facts breach
 
-module _ (lines : List TraceLine) (place : ℕ) (line : TraceLine) (here : slice_get lines place ≡ Some line) (facts facts' : Facts) where
+unbroken : (number : ℕ) (found : Option Rule) → option_map (Broken number) found ≡ None → found ≡ None
+unbroken number None is = refl
+unbroken number (Some rule) is = absurd (cc)
+
+module _ (lines : List TranscriptLine) (place : ℕ) (line : TranscriptLine) (here : slice_get lines place ≡ Some line) (facts facts' : Facts) where
   abbrev first_broken : Option Rule
   first_broken = rule_broken_by facts (command_on line) (answer_on line)
-
-  fresh-stands : (found : Option Rule) → first_broken ≡ found → StandsSoFar lines place facts None
-      → (option_map (Broken line.number) found ≡ None → facts' ≡ with_line facts (command_on line) (answer_on line))
-      → StandsSoFar lines (place + 1) facts' (option_map (Broken line.number) found)
-  fresh-stands (Some rule) is so_far added = record {
-    place = place;
-    line = line;
-    here = here;
-    numbered = refl;
-    broken = rule_broken-kept lines place line facts here so_far.0 ∙ is;
-    above = so_far.1;
-  }
-  fresh-stands None is so_far added =
-      let holds = rule_broken-kept lines place line facts here so_far.0 ∙ is in
-      (added refl ∙ sym (facts_at-next lines place line facts here so_far.0 holds) ∙ ap (facts_at lines) (sym (add-one place)), below_more _ _ so_far.1 holds)
 
   next-stands : (breach breach' : Option Verdict) → StandsSoFar lines place facts breach
       → (breach ≢ None → breach' ≡ breach)
       → (breach ≡ None → breach' ≡ option_map (Broken line.number) first_broken)
       → (breach ≡ None → breach' ≡ None → facts' ≡ with_line facts (command_on line) (answer_on line))
-      → StandsSoFar lines (place + 1) facts' breach'
-  next-stands (Some verdict) breach' so_far same broken added = rw (same (λ e. absurd (cc))) so_far
+      → StandsSoFar lines (suc place) facts' breach'
+  next-stands (Some verdict) breach' so_far same broken added =
+      let is : breach' ≡ Some verdict = same (λ e. absurd (cc)) in
+      record {
+        found = is ∙ ap (λ earlier. option_or earlier (breach_at lines place)) so_far.found;
+        kept = λ none. absurd (cc);
+      }
   next-stands None breach' so_far same broken added =
-      rw (broken refl) (fresh-stands first_broken refl so_far (λ none. added refl (broken refl ∙ none)))
+      let rule_is = rule_broken-kept lines place line facts here (so_far.kept refl) in
+      let breach = breach-is lines place line first_broken here rule_is in
+      record {
+        found = broken refl ∙ sym breach ∙ ap (λ earlier. option_or earlier (breach_at lines place)) so_far.found;
+        kept = λ none.
+            let holds = rule_is ∙ unbroken line.number first_broken (sym (broken refl) ∙ none) in
+            added refl none ∙ sym (facts_at-next lines place line facts here (so_far.kept refl) holds);
+      }
 
 -- a frame by its direction and its count of octets
 pub counted_frame : (found : Option (Bool × List ℕ)) (from_cpu : Bool) (count : ℕ)
@@ -120,13 +123,13 @@ pub line_read : (number : ℕ) (line : List ℕ) (from_cpu : Bool) (octets : Lis
 line_read number line from_cpu octets is = rw is refl
 
 -- before the first frame
-pub first_course : (text : List ℕ) (lines : List TraceLine) (facts : Facts) → trace_in text ≡ Ok lines → facts ≡ facts_at lines 0
+pub first_course : (text : List ℕ) (lines : List TranscriptLine) (facts : Facts) → transcript_in text ≡ Ok lines → facts ≡ facts_at lines 0
     → IsCourse lines 0 (numbered 1 (lines_of text)) facts None
 first_course text lines facts reads kept =
-    record { left_is = reads; within = omega arith; stands = (kept, λ above below. absurd (omega (arith, below))) }
+    record { left_is = reads; within = omega arith; stands = record { found = refl; kept = λ none. kept } }
 
 -- one frame more
-pub next_course : (lines : List TraceLine) (frames number : ℕ) (text : List ℕ) (left : List (ℕ × List ℕ)) (line : TraceLine) (facts facts' : Facts) (breach breach' : Option Verdict)
+pub next_course : (lines : List TranscriptLine) (frames number : ℕ) (text : List ℕ) (left : List (ℕ × List ℕ)) (line : TranscriptLine) (facts facts' : Facts) (breach breach' : Option Verdict)
     → line_in (number, text) ≡ Ok line → line.number ≡ number
     → IsCourse lines frames ((number, text) ∷ left) facts breach
     → (breach ≢ None → breach' ≡ breach)
@@ -139,23 +142,28 @@ next_course lines frames number text left line facts facts' breach breach' reads
     record {
       left_is = first.1 ∙ ap Ok (sym cut.1) ∙ ap (λ n. Ok (drop n lines)) (sym (add-one frames));
       within = omega (arith, cut.2);
-      stands = next-stands lines frames line cut.0 facts facts' breach breach' course.stands same (rw numbered broken) added;
+      stands = subst (λ n. StandsSoFar lines n facts' breach') (sym (add-one frames)) (next-stands lines frames line cut.0 facts facts' breach breach' course.stands same (rw numbered broken) added);
     }
 
-none-left : (lines : List TraceLine) (frames : ℕ) → collected (map line_in []) ≡ Ok (drop frames lines) → frames ≤ length lines → frames ≡ length lines
+none-left : (lines : List TranscriptLine) (frames : ℕ) → collected (map line_in []) ≡ Ok (drop frames lines) → frames ≤ length lines → frames ≡ length lines
 none-left lines frames left within =
     let none : drop frames lines ≡ [] = cc in
     let count = sym (length-drop frames lines) ∙ ap length none in
     omega (arith, count)
 
 -- no line is left
-pub course_end : (lines : List TraceLine) (frames : ℕ) (facts : Facts) (breach : Option Verdict) → IsCourse lines frames [] facts breach
-    → IsVerdict lines (unwrap_or breach (Good frames))
-course_end lines frames facts None course =
-    let all = none-left lines frames course.left_is course.within in (all, rw all at course.stands.1)
-course_end lines frames facts (Some verdict) course = course.stands
+pub course_end : (lines : List TranscriptLine) (frames : ℕ) (facts : Facts) (breach : Option Verdict) → IsCourse lines frames [] facts breach
+    → verdict_on lines ≡ unwrap_or breach (Good frames)
+course_end lines frames facts breach course =
+    let all = none-left lines frames course.left_is course.within in
+    ap (λ n. unwrap_or (earliest_above (breach_at lines) n) (Good n)) (sym all) ∙ ap (λ found. unwrap_or found (Good frames)) (sym course.stands.found)
+
+-- the verdict on what is read
+pub verdict_read : (text : List ℕ) (lines : List TranscriptLine) (verdict : Verdict) → transcript_in text ≡ Ok lines → verdict_on lines ≡ verdict
+    → verdict_in text ≡ Ok verdict
+verdict_read text lines verdict reads is = ap verdict_of reads ∙ ap Ok is
 
 -- what is read has no fault
-pub read_whole : (read : Result (List TraceLine) TraceError) → None ≡ result_err read → (lines : List TraceLine) × (read ≡ Ok lines)
+pub read_whole : (read : Result (List TranscriptLine) TraceError) → None ≡ result_err read → (lines : List TranscriptLine) × (read ≡ Ok lines)
 read_whole (Ok lines) is = (lines, refl)
 read_whole (Err e) is = absurd (cc)

@@ -12,7 +12,7 @@ use Rattle.fio_message.specs.declared.commands.Command.TheVariants as commands
 use Rattle.fio_message.specs.declared.commands.OtherCommand.TheVariants as others
 use Rattle.fio_message.specs.declared.answers.Answer.{Answer}
 use Rattle.fio_message.specs.declared.answers.Answer.TheVariants as answers
-use Rattle.fio_tool.specs.Transcript.{TraceLine, Placed, command_on, answer_on, command_sent, answer_heard, poll_sent, block_heard, command_above, poll_above, earlier_poll, earlier_block, is_some_and}
+use Rattle.fio_tool.specs.Transcript.{TranscriptLine, Placed, command_on, answer_on, command_sent, answer_heard, poll_sent, block_heard, command_above, poll_above, earlier_poll, earlier_block, is_some_and}
 use Rattle.fio_tool.specs.TranscriptRules.{is_broken, rule_broken, rules, number_due}
 use Rattle.fio_tool.specs.TranscriptFacts.{facts_at, is_answered_above, number_due_by, with_command, with_answer, with_line, rule_broken_by, is_broken_by_answer, is_broken_by_command, is_broken_by_block}
 use Rattle.fio_tool.specs.declared.transcript.facts.Facts.{Facts}
@@ -44,11 +44,11 @@ poll-answered (Some (commands.Other others.ComplexOutputs body)) e = absurd (cc)
 poll-answered (Some (commands.Other others.ControllerId body)) e = absurd (cc)
 
 -- what the rule on pairs says of a block answer at a place
-abbrev HoldsPair : List TraceLine → ℕ → Type 0
+abbrev HoldsPair : List TranscriptLine → ℕ → Type 0
 HoldsPair lines place = not (is_answered_as (command_above lines place) 182) ≡ false
 
 -- then the poll directly above is the latest one above
-pair-latest : (lines : List TraceLine) (place : ℕ) → HoldsPair lines place
+pair-latest : (lines : List TranscriptLine) (place : ℕ) → HoldsPair lines place
     → poll_above lines place ≡ earlier_poll lines place
 pair-latest lines zero pair = absurd (cc)
 pair-latest lines (suc place) pair =
@@ -56,7 +56,7 @@ pair-latest lines (suc place) pair =
     rw poll.1 refl
 
 -- and below the place it is answered
-pair-answers : (lines : List TraceLine) (place : ℕ) → HoldsPair lines place → is_some (block_heard lines place) ≡ true
+pair-answers : (lines : List TranscriptLine) (place : ℕ) → HoldsPair lines place → is_some (block_heard lines place) ≡ true
     → is_some_and (earlier_poll lines place) (is_answered_above lines (suc place)) ≡ true
 pair-answers lines zero pair block = absurd (cc)
 pair-answers lines (suc place) pair block =
@@ -101,7 +101,7 @@ searches-agree f g false f-reads g-reads f-pair g-pair others =
 
 -- ---- the line at a place, by what is kept of the lines above it
 
-module _ (lines : List TraceLine) (place : ℕ) where
+module _ (lines : List TranscriptLine) (place : ℕ) where
   abbrev kept : Facts
   kept = facts_at lines place
 
@@ -266,7 +266,7 @@ one-way : (from_cpu : Bool) (command : Option Command) (answer : Option Answer)
 one-way true command answer = inr refl
 one-way false command answer = inl refl
 
-module _ (lines : List TraceLine) (place : ℕ) (line : TraceLine) (facts : Facts)
+module _ (lines : List TranscriptLine) (place : ℕ) (line : TranscriptLine) (facts : Facts)
     (here : slice_get lines place ≡ Some line) (kept_above : facts ≡ facts_at lines place) where
   one : (command_on line ≡ None) ⊎ (answer_on line ≡ None)
   one = one-way line.from_cpu (command_in line.octets) (answer_in line.octets)

@@ -1,7 +1,8 @@
 pub mod PlacesAbove
 pub mod KeptFacts
+pub mod Verdicts
 pub mod TranscriptLemmas
-pub mod ChoosingLemmas
+pub mod CommandLineLemmas
 pub mod BlocksHeard
 pub mod LongFrames
 pub mod CheckedLines

@@ -5,7 +5,7 @@ use Rattle.std.specs.Option.{option_or}
 use Rattle.std.proofs.lemmas.Bool.{lt-ltb}
 use Rattle.std.proofs.lemmas.Bool.Decides.{eqb_tells}
 use Rattle.std.proofs.Math.Bool.{and-false}
-use Rattle.fio_tool.specs.Transcript.{TraceLine, Placed, latest_above, block_heard, is_some_and}
+use Rattle.fio_tool.specs.Transcript.{TranscriptLine, Placed, latest_above, block_heard, is_some_and}
 use Rattle.fio_tool.specs.TranscriptFacts.{is_answered_above}
 
 -- ---- options
@@ -35,14 +35,14 @@ latest_above-below said (suc n) found e =
     said_here-below n (said n) (latest_above said n) (suc n) (omega arith) (λ f h. let less : f.place < n = latest_above-below said n f h in omega arith) found e
 
 -- where no block answer stands at a place, one stands directly below a poll above it exactly if it is above the place too
-answered-step : (lines : List TraceLine) (place : ℕ) (poll : Placed ℕ) → (suc poll.place < place) ⊎ (place ≡ suc poll.place) → is_some (block_heard lines place) ≡ false
+answered-step : (lines : List TranscriptLine) (place : ℕ) (poll : Placed ℕ) → (suc poll.place < place) ⊎ (place ≡ suc poll.place) → is_some (block_heard lines place) ≡ false
     → is_answered_above lines place poll ≡ is_some (block_heard lines (suc poll.place))
 answered-step lines place poll (inl less) none = rw (lt-ltb (suc poll.place) place less) refl
 answered-step lines place poll (inr same) none =
     let off : is_some (block_heard lines (suc poll.place)) ≡ false = rw same at none in
     rw (off, and-false) refl
 
-pub answered-above : (lines : List TraceLine) (place : ℕ) (poll : Placed ℕ) → poll.place < place → is_some (block_heard lines place) ≡ false
+pub answered-above : (lines : List TranscriptLine) (place : ℕ) (poll : Placed ℕ) → poll.place < place → is_some (block_heard lines place) ≡ false
     → is_answered_above lines place poll ≡ is_some (block_heard lines (suc poll.place))
 answered-above lines place poll below none =
     elim (eqb_tells place (suc poll.place)) as (λ _. is_answered_above lines place poll ≡ is_some (block_heard lines (suc poll.place))) [
@@ -51,7 +51,7 @@ answered-above lines place poll below none =
     ]
 
 -- and then this is the same at the next place
-pub answered-below : (lines : List TraceLine) (place : ℕ) (poll : Placed ℕ) → poll.place < place → is_some (block_heard lines place) ≡ false
+pub answered-below : (lines : List TranscriptLine) (place : ℕ) (poll : Placed ℕ) → poll.place < place → is_some (block_heard lines place) ≡ false
     → is_answered_above lines (suc place) poll ≡ is_answered_above lines place poll
 answered-below lines place poll below none =
     rw (lt-ltb (suc poll.place) (suc place) (omega arith)) (sym (answered-above lines place poll below none))

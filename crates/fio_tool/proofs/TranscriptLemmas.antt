@@ -1,27 +1,12 @@
 -- What the laws of transcripts rest on.
-use Rattle.std.proofs.Common.{◌≡◌, ◌<◌, ◌⊎◌, inl, inr, ℕ, zero, suc, Bool, true, false, Option, Some, None, Result, Ok, Err, List, refl, ap, ap₂, sym, ◌∙◌, arith, length, MatchBool}
-use Rattle.std.specs.Prelude.{option_map, slice_get}
+use Rattle.std.proofs.Common.{◌≡◌, ◌<◌, ◌⊎◌, inl, inr, ℕ, zero, suc, Option, Some, None, List, refl, ap, sym, arith}
+use Rattle.std.specs.Prelude.{option_map}
 use Rattle.std.specs.Option.{option_or}
-use Rattle.std.proofs.lemmas.Bool.{cases_order}
-use Rattle.std.proofs.lemmas.Bool.Decides.{eqb_tells}
-use Rattle.std.proofs.lemmas.Option.{slice_get_within}
-use Rattle.fio_tool.specs.Inputs.{is_too_long}
-use Rattle.fio_tool.specs.Transcript.{TraceLine, Placed, latest_above, trace_in}
-use Rattle.fio_tool.specs.TranscriptLaws.{IsLatestAbove, TellsTheLatest, HasOneVerdict, HasOneCheckText, IsTextOfItsLines}
-use Rattle.fio_tool.specs.TranscriptRules.{IsFirstBreach, KeepsRulesAbove, rule_broken}
-use Rattle.fio_tool.specs.TranscriptTexts.{TellsOf, verdict_text, is_good}
-use Rattle.fio_tool.specs.declared.transcript.reading.TraceError.{TraceError}
-use Rattle.fio_tool.specs.declared.transcript.reading.TraceError.TheVariants.{BadLine, Memory}
-use Rattle.fio_tool.specs.declared.transcript.rules.Rule.{Rule}
-use Rattle.fio_tool.specs.declared.transcript.verdict.Verdict.TheVariants.{Good, Broken}
-
--- ---- numbers and options
-
-below-or-at : (n bound : ℕ) → n < suc bound → (n ≡ bound) ⊎ (n < bound)
-below-or-at n bound below = elim (eqb_tells n bound) as (λ _. (n ≡ bound) ⊎ (n < bound)) [ inl same ↦ inl same.1 | inr other ↦ inr (omega (arith, other.1)) ]
-
-some-same : {A : Type 0} (a b : A) → Some a ≡ Some b → a ≡ b
-some-same a b e = cc
+use Rattle.fio_tool.specs.Transcript.{TranscriptLine, Placed, latest_above}
+use Rattle.fio_tool.specs.TranscriptFacts.{facts_at}
+use Rattle.fio_tool.specs.TranscriptLaws.{FactsDecideRules, IsLatestAbove, IsTextOfItsLines, IsTheLatest}
+use Rattle.fio_tool.proofs.KeptFacts.{facts_at-next, rule_broken-kept}
+use Rattle.fio_tool.proofs.Verdicts.{below-or-at, one_verdict}
 
 -- ---- the latest above a place
 
@@ -55,59 +40,20 @@ is_latest-found said (suc place) found latest =
           rw none (is_latest-found said place found above))
     ]
 
-pub tells_the_latest : {A : Type 0} (said : ℕ → Option A) → TellsTheLatest said
-tells_the_latest said place found = (latest_above-is_latest said place found, is_latest-found said place found)
-
--- ---- one verdict
-
--- a line that breaks a rule is not above one below which all lines keep the rules
-kept-broken : (lines : List TraceLine) (place n : ℕ) (rule : Rule) → KeepsRulesAbove lines n → rule_broken lines place ≡ Some rule → place < n → ⊥
-kept-broken lines place n rule kept broken above = let none = kept place above in cc
-
-one-breach : (lines : List TraceLine) (number other_number : ℕ) (rule other_rule : Rule)
-    → (one : IsFirstBreach lines number rule) (other : IsFirstBreach lines other_number other_rule)
-    → one.place ≡ other.place → Broken number rule ≡ Broken other_number other_rule
-one-breach lines number other_number rule other_rule one other same =
-    let line : Some one.line ≡ Some other.line = sym one.here ∙ ap (slice_get lines) same ∙ other.here in
-    let broken : Some rule ≡ Some other_rule = sym one.broken ∙ ap (rule_broken lines) same ∙ other.broken in
-    let numbers : number ≡ other_number = sym one.numbered ∙ ap (λ l. l.number) (some-same _ _ line) ∙ other.numbered in
-    ap₂ Broken numbers (some-same _ _ broken)
-
-pub one_verdict : (lines : List TraceLine) → HasOneVerdict lines
-one_verdict lines (Good frames) (Good others) one other = ap Good (one.0 ∙ sym other.0)
-one_verdict lines (Good frames) (Broken number rule) one other =
-    absurd (kept-broken lines other.place (length lines) rule one.1 other.broken (slice_get_within lines other.place other.line other.here))
-one_verdict lines (Broken number rule) (Good frames) one other =
-    absurd (kept-broken lines one.place (length lines) rule other.1 one.broken (slice_get_within lines one.place one.line one.here))
-one_verdict lines (Broken number rule) (Broken others other_rule) one other =
-    elim (cases_order one.place other.place) as (λ _. Broken number rule ≡ Broken others other_rule) [
-      | inl same ↦ one-breach lines number others rule other_rule one other same
-      | inr (inl above) ↦ absurd (kept-broken lines one.place other.place rule other.above one.broken above)
-      | inr (inr below) ↦ absurd (kept-broken lines other.place one.place other_rule one.above other.broken below)
-    ]
-
--- ---- one text
-
-one-telling : (read : Result (List TraceLine) TraceError) (text other_text : List ℕ) (good other_good : Bool)
-    → TellsOf read text good → TellsOf read other_text other_good → (text ≡ other_text) × (good ≡ other_good)
-one-telling (Ok lines) text other_text good other_good one other =
-    let same = one_verdict lines one.0 other.0 one.1 other.1 in
-    (one.2 ∙ ap verdict_text same ∙ sym other.2, one.3 ∙ ap is_good same ∙ sym other.3)
-one-telling (Err (BadLine line)) text other_text good other_good one other = (one.0 ∙ sym other.0, one.1 ∙ sym other.1)
-one-telling (Err Memory) text other_text good other_good one other = absurd one
-
-one-choice : (long : Bool) (words : List ℕ) (read : Result (List TraceLine) TraceError) (text other_text : List ℕ) (good other_good : Bool)
-    → MatchBool long ((text ≡ words) × (good ≡ false)) (TellsOf read text good)
-    → MatchBool long ((other_text ≡ words) × (other_good ≡ false)) (TellsOf read other_text other_good)
-    → (text ≡ other_text) × (good ≡ other_good)
-one-choice true words read text other_text good other_good one other = (one.0 ∙ sym other.0, one.1 ∙ sym other.1)
-one-choice false words read text other_text good other_good one other = one-telling read text other_text good other_good one other
-
-pub one_check_text : (input : List ℕ) → HasOneCheckText input
-one_check_text input text other_text good other_good one other =
-    one-choice (is_too_long input) _ (trace_in input) text other_text good other_good one other
+pub is_the_latest : {A : Type 0} (said : ℕ → Option A) → IsTheLatest said
+is_the_latest said place found = (latest_above-is_latest said place found, is_latest-found said place found)
 
 -- ---- the text of the lines that are read
 
 pub text_of_its_lines : (input : List ℕ) → IsTextOfItsLines input
-text_of_its_lines input lines verdict short reads is = rw (short, reads) (verdict, is, refl, refl)
+text_of_its_lines input lines verdict short reads is =
+    let same = (one_verdict lines verdict).0 is in
+    (rw (short, reads, same) refl, rw (short, reads, same) refl)
+
+-- ---- the two statements of the rules
+
+pub facts_decide : (lines : List TranscriptLine) → FactsDecideRules lines
+facts_decide lines place line here = record {
+  broken = rule_broken-kept lines place line (facts_at lines place) here refl;
+  kept = facts_at-next lines place line (facts_at lines place) here refl;
+}

@@ -1,15 +1,17 @@
-pub mod Inputs
+-- Begin with `Program`: the text and the exit status for each tool and input. Below it stand, in this
+-- order: the command line; the three texts, each above what it is made of; the laws of transcripts;
+-- and what is read and written.
+pub mod Program
+pub mod CommandLine
+pub mod Show
 pub mod ShowCommands
 pub mod ShowAnswers
 pub mod ShowShort
-pub mod Show
-pub mod Simulation
-pub mod Transcript
+pub mod Simulate
+pub mod Check
 pub mod TranscriptRules
+pub mod Transcript
 pub mod TranscriptFacts
-pub mod TranscriptTexts
 pub mod TranscriptLaws
+pub mod InputFaults
 pub mod Streams
-pub mod Tools
-pub mod CommandLine
-pub mod Running

@@ -6,7 +6,7 @@ use Rattle.fio_message.specs.Texts.{fault_text}
 use Rattle.fio_message.specs.declared.faults.DecodeError.{DecodeError}
 use Rattle.fio_world.specs.Hexadecimal.{octets_in}
 use Rattle.fio_world.specs.Lines.{lines_of, numbered}
-use Rattle.fio_tool.specs.Inputs.{is_too_long, too_long_text, line_fault_text}
+use Rattle.fio_tool.specs.InputFaults.{is_too_long, too_long_text, line_fault_text}
 use Rattle.fio_tool.specs.ShowAnswers.{answer_text}
 use Rattle.fio_tool.specs.ShowCommands.{command_text}
 
@@ -31,13 +31,13 @@ abbrev pub shown_line : List ℕ → Result (List ℕ) (List ℕ)
 shown_line line = shown_octets (octets_in line)
 
 -- these lines, or the one line that reports the fault at this number
-abbrev pub told_at : ℕ → Result (List ℕ) (List ℕ) → List ℕ
-told_at number (Ok lines) = lines
-told_at number (Err fault) = line_fault_text number fault
+abbrev pub text_at : ℕ → Result (List ℕ) (List ℕ) → List ℕ
+text_at number (Ok lines) = lines
+text_at number (Err fault) = line_fault_text number fault
 
 -- the text for a numbered line
 abbrev pub line_text : ℕ × List ℕ → List ℕ
-line_text line = told_at line.0 (shown_line line.1)
+line_text line = text_at line.0 (shown_line line.1)
 
 abbrev pub is_line_good : ℕ × List ℕ → Bool
 is_line_good line = is_ok (shown_line line.1)

@@ -1,4 +1,4 @@
--- The lines that tell of each answer.
+-- The lines for each answer.
 use Rattle.std.specs.Prelude.{ℕ, List, ◌++◌, length, codes, decimal}
 use Rattle.std.specs.List.{flat_map}
 use Rattle.fio_message.specs.Octets.{inputs_octets}

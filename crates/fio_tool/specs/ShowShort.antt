@@ -1,9 +1,9 @@
--- The lines that tell of messages whose fields are a few numbers.
+-- The lines for messages whose fields are a few numbers.
 use Rattle.std.specs.Prelude.{ℕ, List, codes}
 use Rattle.fio_tool.specs.ShowAnswers.{flags_text, levels_text, status_text}
 use Rattle.fio_tool.specs.ShowCommands.{clearing_text, number_text}
-use Rattle.fio_tool.specs.declared.short_messages.ShortMessage.{ShortMessage}
-use Rattle.fio_tool.specs.declared.short_messages.ShortMessage.TheVariants.{Clear, LoadCounter, RawInputs, FilteredInputs, Poll, Watchdog, Identify, Flags, CounterLoaded, InputsConfigured, RawLevels, FilteredLevels, WatchdogSet}
+use Rattle.fio_tool.specs.declared.text.show.short.ShortMessage.{ShortMessage}
+use Rattle.fio_tool.specs.declared.text.show.short.ShortMessage.TheVariants.{Clear, LoadCounter, RawInputs, FilteredInputs, Poll, Watchdog, Identify, Flags, CounterLoaded, InputsConfigured, RawLevels, FilteredLevels, WatchdogSet}
 
 abbrev pub short_text : ShortMessage → List ℕ
 short_text (Clear flags) = clearing_text flags

@@ -9,12 +9,12 @@ use Rattle.fio_world.specs.Collected.{collected}
 use Rattle.fio_world.specs.Hexadecimal.{octets_in}
 use Rattle.fio_world.specs.Lines.{lines_of, numbered}
 use Rattle.fio_world.specs.Words.{after_prefix}
-use Rattle.fio_tool.specs.declared.transcript.reading.TraceError.{TraceError}
-use Rattle.fio_tool.specs.declared.transcript.reading.TraceError.TheVariants as faults
+use Rattle.fio_tool.specs.declared.transcript.lines.TraceError.{TraceError}
+use Rattle.fio_tool.specs.declared.transcript.lines.TraceError.TheVariants as faults
 
 -- a line: its number in the text, whether the CPU sent the frame or heard it, and the frame's
 -- octets
-pub record TraceLine : Type 0 where
+pub record TranscriptLine : Type 0 where
   pub number : ℕ
   pub from_cpu : Bool
   pub octets : List ℕ
@@ -32,21 +32,21 @@ frame_in line = option_or
     (option_and_then (frame_with false) (after_prefix (codes "< ") line))
 
 -- the line of a transcript that a numbered line writes, or that it is no frame
-abbrev pub line_in : ℕ × List ℕ → Result TraceLine TraceError
+abbrev pub line_in : ℕ × List ℕ → Result TranscriptLine TraceError
 line_in (number, line) = ok_or
     (option_map (λ frame. record { number = number; from_cpu = frame.0; octets = frame.1 })
     (frame_in line))
     (faults.BadLine number)
 
 -- the lines of a transcript, or the first line that is no frame
-abbrev pub trace_in : List ℕ → Result (List TraceLine) TraceError
-trace_in text = collected (map line_in (numbered 1 (lines_of text)))
+abbrev pub transcript_in : List ℕ → Result (List TranscriptLine) TraceError
+transcript_in text = collected (map line_in (numbered 1 (lines_of text)))
 
 -- some line is a frame, and all lines above it are: it is these that a list of lines asks room for
 pub record HasFrameToKeep (text : List ℕ) : Type 0 where
-  pub above : List TraceLine
-  pub line : TraceLine
-  pub below : List (Result TraceLine TraceError)
+  pub above : List TranscriptLine
+  pub line : TranscriptLine
+  pub below : List (Result TranscriptLine TraceError)
   pub frames : map line_in (numbered 1 (lines_of text)) ≡ map Ok above ++ (Ok line ∷ below)
 
 -- ---- what a line says
@@ -60,26 +60,26 @@ abbrev pub answer_from : Bool → List ℕ → Option Answer
 answer_from from_cpu octets = if from_cpu then None else answer_in octets
 
 -- the command that a line sends, and the answer that it hears
-abbrev pub command_on : TraceLine → Option Command
+abbrev pub command_on : TranscriptLine → Option Command
 command_on line = command_from line.from_cpu line.octets
 
-abbrev pub answer_on : TraceLine → Option Answer
+abbrev pub answer_on : TranscriptLine → Option Answer
 answer_on line = answer_from line.from_cpu line.octets
 
 -- ---- what the line at a place says; the first line has place 0
 
-abbrev pub command_sent : List TraceLine → ℕ → Option Command
+abbrev pub command_sent : List TranscriptLine → ℕ → Option Command
 command_sent lines place = option_and_then command_on (slice_get lines place)
 
-abbrev pub answer_heard : List TraceLine → ℕ → Option Answer
+abbrev pub answer_heard : List TranscriptLine → ℕ → Option Answer
 answer_heard lines place = option_and_then answer_on (slice_get lines place)
 
 -- the block number that a poll asks for
-abbrev pub poll_sent : List TraceLine → ℕ → Option ℕ
+abbrev pub poll_sent : List TranscriptLine → ℕ → Option ℕ
 poll_sent lines place = polled_number (command_sent lines place)
 
 -- the block of a block answer
-abbrev pub block_heard : List TraceLine → ℕ → Option Block
+abbrev pub block_heard : List TranscriptLine → ℕ → Option Block
 block_heard lines place = answered_block (answer_heard lines place)
 
 -- ---- what the lines above a place say
@@ -102,20 +102,25 @@ abbrev pub latest_above : {A : Type 0} → (ℕ → Option A) → ℕ → Option
 latest_above said zero = None
 latest_above said (suc place) = option_or (said_at said place) (latest_above said place)
 
+-- the earliest that lines above a place say
+abbrev pub earliest_above : {A : Type 0} → (ℕ → Option A) → ℕ → Option A
+earliest_above said zero = None
+earliest_above said (suc place) = option_or (earliest_above said place) (said place)
+
 -- the command directly above
-abbrev pub command_above : List TraceLine → ℕ → Option Command
+abbrev pub command_above : List TranscriptLine → ℕ → Option Command
 command_above lines place = option_and_then (command_sent lines) (place_above place)
 
 -- the poll directly above, by its number
-abbrev pub poll_above : List TraceLine → ℕ → Option (Placed ℕ)
+abbrev pub poll_above : List TranscriptLine → ℕ → Option (Placed ℕ)
 poll_above lines place = option_and_then (said_at (poll_sent lines)) (place_above place)
 
 -- the latest poll above, by its number
-abbrev pub earlier_poll : List TraceLine → ℕ → Option (Placed ℕ)
+abbrev pub earlier_poll : List TranscriptLine → ℕ → Option (Placed ℕ)
 earlier_poll lines place = latest_above (poll_sent lines) place
 
 -- the latest block answer above
-abbrev pub earlier_block : List TraceLine → ℕ → Option (Placed Block)
+abbrev pub earlier_block : List TranscriptLine → ℕ → Option (Placed Block)
 earlier_block lines place = latest_above (block_heard lines) place
 
 -- `option.is_some_and(test)`

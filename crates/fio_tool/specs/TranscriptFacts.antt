@@ -1,5 +1,6 @@
 -- What is kept of the lines above a place while a transcript is checked, and the rules by it. Only
--- the contracts of private functions speak of it.
+-- the contracts of private functions name it. The rules by places in `TranscriptRules` decide; by the
+-- law `transcript_laws::facts_decide_the_rules` both agree.
 use Rattle.std.specs.Prelude.{ℕ, suc, ◌+◌, ◌%◌, Bool, true, false, List, Option, Some, None, length, find, ◌==◌, ◌&&◌, ◌||◌, nat_lt, not, is_some, option_map, if◌then◌else◌}
 use Rattle.fio_message.specs.Answers.{answer_code}
 use Rattle.fio_message.specs.Blocks.{Block}
@@ -8,24 +9,24 @@ use Rattle.fio_message.specs.Decoding.{polled_number, answered_block}
 use Rattle.fio_message.specs.Status.{says_more, says_again, says_out_of_sequence}
 use Rattle.fio_message.specs.declared.answers.Answer.{Answer}
 use Rattle.fio_message.specs.declared.commands.Command.{Command}
-use Rattle.fio_tool.specs.Transcript.{TraceLine, Placed, block_heard, command_above, earlier_poll, earlier_block, is_some_and}
+use Rattle.fio_tool.specs.Transcript.{TranscriptLine, Placed, block_heard, command_above, earlier_poll, earlier_block, is_some_and}
 use Rattle.fio_tool.specs.TranscriptRules.{is_beyond_limits, accepts, names_absent, rules}
 use Rattle.fio_tool.specs.declared.transcript.facts.Facts.{Facts}
 use Rattle.fio_tool.specs.declared.transcript.rules.Rule.{Rule}
 use Rattle.fio_tool.specs.declared.transcript.rules.Rule.TheVariants.{Readable, Pair, Number, Advance, Same, Sequence, Limits, Rest, Refusal}
 
 -- a block answer stands directly below a poll, and above a place
-abbrev pub is_answered_above : List TraceLine → ℕ → Placed ℕ → Bool
+abbrev pub is_answered_above : List TranscriptLine → ℕ → Placed ℕ → Bool
 is_answered_above lines place poll =
     nat_lt (suc poll.place) place && is_some (block_heard lines (suc poll.place))
 
 -- a poll has another number than the poll before it
-abbrev pub has_advanced : List TraceLine → Placed ℕ → Bool
+abbrev pub has_advanced : List TranscriptLine → Placed ℕ → Bool
 has_advanced lines poll =
     is_some_and (earlier_poll lines poll.place) (λ earlier. not (poll.value == earlier.value))
 
 -- what is kept of the lines above a place
-abbrev pub facts_at : List TraceLine → ℕ → Facts
+abbrev pub facts_at : List TranscriptLine → ℕ → Facts
 facts_at lines place = record {
   awaited = option_map (λ command. command_code command + 128) (command_above lines place);
   absent_named = is_some_and (command_above lines place) names_absent;
@@ -65,7 +66,7 @@ with_answer facts answer =
       absent_named = false;
     }
 
--- the facts with one line more: the command that it sends or the answer that it tells
+-- the facts with one line more: the command that it sends or the answer that it hears
 abbrev pub with_line : Facts → Option Command → Option Answer → Facts
 with_line facts (Some command) heard = with_command facts command
 with_line facts None (Some answer) = with_answer facts answer

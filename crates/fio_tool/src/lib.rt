@@ -7,35 +7,27 @@
 //! `clap`'s own function of them names; and an exit status of 0 or 1 after such words says that the
 //! tool has done so, and it is never 2.
 //!
-//! The definitions stand in `specs/`, in this order: what is reported of an input with a fault
-//! (`Inputs`); the lines of each message (`ShowCommands`, `ShowAnswers`, `ShowShort`), what `show`
-//! writes of a text (`Show`); what `simulate` writes of one (`Simulation`); the lines of a transcript and what
-//! they say (`Transcript`), its rules and the verdict on it (`TranscriptRules`), what is kept while it
-//! is checked (`TranscriptFacts`), what `check` writes of a text (`TranscriptTexts`); what is read and
-//! written (`Streams`), what each tool does (`Tools`), the command line (`CommandLine`), the exit
-//! status (`Running`). Their laws are the contracts of the modules `laws` and `transcript_laws`.
+//! The definitions stand in `specs/`. `Program` comes first: the text that each tool writes for an
+//! input, and the exit status; below it the command line (`CommandLine`). The three texts are `Show`
+//! above the lines of each message (`ShowCommands`, `ShowAnswers`, `ShowShort`); `Simulate`; and `Check`
+//! above the rules of transcripts and the verdict (`TranscriptRules`), the lines of a transcript and
+//! what they say (`Transcript`), and what is kept while one is checked (`TranscriptFacts`). What is
+//! reported of an input with a fault is in `InputFaults`, what is read and written in `Streams`. The
+//! laws are the contracts of the modules `laws` and `transcript_laws`.
 #![tactic(auto)]
 
-mod answers;
-mod choosing;
-mod commands;
-mod endings;
+mod command_line;
 mod help;
-mod inputs;
 pub mod laws;
-mod running;
-mod short_messages;
-mod showing;
-mod simulation;
+mod program;
 mod streams;
+mod text;
 mod tools;
 mod transcript;
 pub mod transcript_laws;
 
-pub use choosing::choose;
-pub use endings::{Ending, ToolFault};
-pub use running::run_program;
-pub use showing::show_text;
-pub use simulation::simulate_text;
+pub use command_line::choose;
+pub use program::{Ending, ToolFault, run_program};
+pub use text::{check_text, show_text, simulate_text};
 pub use tools::{Tool, check, show, simulate};
-pub use transcript::{Line, Rule, TraceError, Verdict, check_text, check_trace, read_trace};
+pub use transcript::{Line, Rule, TraceError, Verdict, check_trace, read_trace};

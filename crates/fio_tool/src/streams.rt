@@ -3,15 +3,16 @@
 ghost use Rattle.std.specs.Prelude.{◌≡◌, IfOk, IfErr, OnOk};
 ghost use Rattle.std.specs.Io.KnownBytes.{Appends};
 ghost use Rattle.fio_tool.specs.Streams.{TakesAtMost, TakesInput};
-ghost use Rattle.fio_tool.specs.Tools.{ending_of};
+ghost use Rattle.fio_tool.specs.Program.{ending_of};
 
-use crate::endings::{Ending, ToolFault};
+use crate::program::{Ending, ToolFault};
+use crate::text::MAX_INPUT;
 use fio_world::Report;
 use std::alloc::Global;
 use std::io::{Read, Write};
 
-/// One octet more than an input may have: what is enough to know that it is too long.
-const ENOUGH: usize = 1_048_577;
+/// The most octets that are read: one more than an input may have is enough to know that it is too long.
+pub(crate) const MOST_READ: usize = MAX_INPUT + 1;
 
 /// The most octets that are read at a time.
 const READ: usize = 65_536;
@@ -20,12 +21,12 @@ const READ: usize = 65_536;
 pub(crate) fn read_input<R: Read>(alloc: Global, reader: &mut R) -> Result<Vec<u8>, ToolFault>
     ensures ok { IfOk result (λ input.
         TakesInput (R.remaining reader.old) (R.remaining reader.new) input.items) }
-    ensures taken { TakesAtMost 1048577 (R.remaining reader.old) (R.remaining reader.new) }
+    ensures taken { TakesAtMost MOST_READ (R.remaining reader.old) (R.remaining reader.new) }
 {
     let mut input = Vec::new(alloc);
     let mut buffer = [0u8; READ];
-    'reads: while input.len() < ENOUGH {
-        let room = buffer.len().min(ENOUGH - input.len());
+    'reads: while input.len() < MOST_READ {
+        let room = buffer.len().min(MOST_READ - input.len());
         let Ok(count) = reader.read(&mut buffer[..room]) else {
             return Err(ToolFault::Read);
         };

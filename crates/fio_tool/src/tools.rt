@@ -1,78 +1,111 @@
 //! The tools of the program, over any reader and writer.
-ghost use Rattle.std.specs.Prelude.{◌≡◌, ◌≢◌, IfOk, IfErr};
+ghost use Rattle.std.specs.Prelude.{◌≡◌, ◌≢◌, IfOk, IfErr, List, ℕ};
 ghost use Rattle.std.specs.Io.KnownBytes.{Keeps};
+ghost use Rattle.fio_tool.specs.Program.{HasReported, is_program_good, program_ending, program_text};
 ghost use Rattle.fio_tool.specs.Streams.{TakesAtMost};
-ghost use Rattle.fio_tool.specs.Tools.{HasTold};
+ghost use Rattle.fio_tool.specs.declared.streams.TheConstants.{MOST_READ};
 
-use crate::endings::{Ending, ToolFault};
 use crate::help;
-use crate::showing::show_text;
-use crate::simulation::simulate_text;
+use crate::program::{Ending, ToolFault};
 use crate::streams::{read_input, write_report};
-use crate::transcript::check_text;
+use crate::text::{check_text, show_text, simulate_text};
+use fio_message::Memory;
+use fio_world::Report;
 use std::alloc::Global;
 use std::io::{Read, Write};
 
 /// What the program is asked to do.
 #[derive(Clone, Copy, Debug, PartialEq, Eq, Hash)]
 pub enum Tool {
-    /// To tell what each frame of the input says.
+    /// To report what each frame of the input says.
     Show,
     /// To run a script, and to report the outcome of each of its events.
     Simulate,
-    /// To tell whether a transcript keeps the rules.
+    /// To report whether a transcript keeps the rules.
     Check,
 }
 
+/// What the command line says of a tool.
+#[derive(Clone, Copy, Debug)]
+pub(crate) struct Words {
+    /// The name of the subcommand.
+    pub(crate) name: &'static str,
+    /// What the tool does.
+    pub(crate) about: &'static str,
+    /// How it is called.
+    pub(crate) usage: &'static str,
+    /// What it reads and writes, its statuses, and an example.
+    pub(crate) after_help: &'static str,
+}
+
 impl Tool {
-    ghost use Rattle.fio_tool.specs.Tools.{name_of};
+    ghost use Rattle.fio_tool.specs.CommandLine.{name_of};
 
     /// The tools, in the order in which help lists them.
     pub(crate) const ALL: [Tool; 3] = [Tool::Show, Tool::Simulate, Tool::Check];
 
-    /// The tool's subcommand.
-    pub(crate) fn name(self) -> &'static str
-        ensures { result.now ≡ name_of self }
+    /// What the command line says of the tool.
+    pub(crate) fn words(self) -> Words
+        ensures { result.name.now ≡ name_of self }
     {
         match self {
-            Tool::Show => "show",
-            Tool::Simulate => "simulate",
-            Tool::Check => "check",
+            Tool::Show => Words {
+                name: "show",
+                about: "Reports what the frames on standard input say, a line of hexadecimal digits each",
+                usage: "fio2070 show < FILE",
+                after_help: help::SHOW,
+            },
+            Tool::Simulate => Words {
+                name: "simulate",
+                about: "Runs a script of events on both ends of the link, and reports their outcomes",
+                usage: "fio2070 simulate < FILE",
+                after_help: help::SIMULATE,
+            },
+            Tool::Check => Words {
+                name: "check",
+                about: "Reports whether a transcript on standard input keeps the rules of the link",
+                usage: "fio2070 check < FILE",
+                after_help: help::CHECK,
+            },
         }
     }
 
-    /// What help says of the tool.
-    pub(crate) fn about(self) -> &'static str {
+    /// The text that the tool writes for an input.
+    fn text(self, alloc: Global, input: &[u8]) -> Result<Report, Memory>
+        ensures text { IfOk result (λ report. report.text.items ≡ program_text self input.now) }
+        ensures good { IfOk result (λ report. report.good ≡ is_program_good self input.now) }
+    {
         match self {
-            Tool::Show => {
-                "Reports what the frames on standard input say, a line of hexadecimal digits each"
-            }
-            Tool::Simulate => {
-                "Runs a script of events on both ends of the link, and reports their outcomes"
-            }
-            Tool::Check => {
-                "Reports whether a transcript on standard input keeps the rules of the link"
-            }
+            Tool::Show => show_text(alloc, input),
+            Tool::Simulate => simulate_text(alloc, input),
+            Tool::Check => check_text(alloc, input),
         }
     }
+}
 
-    /// How the tool is called.
-    pub(crate) fn usage(self) -> &'static str {
-        match self {
-            Tool::Show => "fio2070 show < FILE",
-            Tool::Simulate => "fio2070 simulate < FILE",
-            Tool::Check => "fio2070 check < FILE",
-        }
-    }
-
-    /// What help says of what the tool reads and writes, of its statuses, and an example.
-    pub(crate) fn after_help(self) -> &'static str {
-        match self {
-            Tool::Show => help::SHOW,
-            Tool::Simulate => help::SIMULATE,
-            Tool::Check => help::CHECK,
-        }
-    }
+/// Reads the input whole, up to one octet more than it may have; makes the tool's text of it whole;
+/// then writes and flushes the text.
+///
+/// # Errors
+/// `Read`, `Write` and `Memory` as `ToolFault` says. On `Read` and `Memory` nothing has been
+/// written.
+pub(crate) fn run_tool<R: Read, W: Write>(
+    alloc: Global,
+    tool: Tool,
+    reader: &mut R,
+    writer: &mut W,
+) -> Result<Ending, ToolFault>
+    ensures ok { IfOk result (λ ending. (input : List ℕ)
+        × HasReported tool input (R.remaining reader.old) (R.remaining reader.new)
+        (W.contents writer.old) (W.contents writer.new)
+        × (ending ≡ program_ending tool input)) }
+    ensures taken { TakesAtMost MOST_READ (R.remaining reader.old) (R.remaining reader.new) }
+    ensures unwritten { IfErr result (λ fault. fault ≢ ToolFault.Write
+        → Keeps (W.contents writer.old) (W.contents writer.new)) }
+{
+    let input = read_input(alloc, reader)?;
+    let report = tool.text(alloc, input.as_slice())?;
+    write_report(writer, &report)
 }
 
 /// Writes what each frame of the input says: the text of `show_text`. The input is read whole, up
@@ -86,16 +119,15 @@ pub fn show<R: Read, W: Write>(
     reader: &mut R,
     writer: &mut W,
 ) -> Result<Ending, ToolFault>
-    ensures ok { IfOk result (HasTold Tool.Show
-        (R.remaining reader.old) (R.remaining reader.new)
-        (W.contents writer.old) (W.contents writer.new)) }
-    ensures taken { TakesAtMost 1048577 (R.remaining reader.old) (R.remaining reader.new) }
+    ensures ok { IfOk result (λ ending. (input : List ℕ)
+        × HasReported Tool.Show input (R.remaining reader.old) (R.remaining reader.new)
+        (W.contents writer.old) (W.contents writer.new)
+        × (ending ≡ program_ending Tool.Show input)) }
+    ensures taken { TakesAtMost MOST_READ (R.remaining reader.old) (R.remaining reader.new) }
     ensures unwritten { IfErr result (λ fault. fault ≢ ToolFault.Write
         → Keeps (W.contents writer.old) (W.contents writer.new)) }
 {
-    let frames = read_input(alloc, reader)?;
-    let report = show_text(alloc, frames.as_slice())?;
-    write_report(writer, &report)
+    run_tool(alloc, Tool::Show, reader, writer)
 }
 
 /// Writes the run of the script that the input is: the text of `simulate_text`. The input is read
@@ -109,16 +141,15 @@ pub fn simulate<R: Read, W: Write>(
     reader: &mut R,
     writer: &mut W,
 ) -> Result<Ending, ToolFault>
-    ensures ok { IfOk result (HasTold Tool.Simulate
-        (R.remaining reader.old) (R.remaining reader.new)
-        (W.contents writer.old) (W.contents writer.new)) }
-    ensures taken { TakesAtMost 1048577 (R.remaining reader.old) (R.remaining reader.new) }
+    ensures ok { IfOk result (λ ending. (input : List ℕ)
+        × HasReported Tool.Simulate input (R.remaining reader.old) (R.remaining reader.new)
+        (W.contents writer.old) (W.contents writer.new)
+        × (ending ≡ program_ending Tool.Simulate input)) }
+    ensures taken { TakesAtMost MOST_READ (R.remaining reader.old) (R.remaining reader.new) }
     ensures unwritten { IfErr result (λ fault. fault ≢ ToolFault.Write
         → Keeps (W.contents writer.old) (W.contents writer.new)) }
 {
-    let script = read_input(alloc, reader)?;
-    let report = simulate_text(alloc, script.as_slice())?;
-    write_report(writer, &report)
+    run_tool(alloc, Tool::Simulate, reader, writer)
 }
 
 /// Writes whether the transcript that the input is keeps the rules: the text of `check_text`. The input
@@ -133,14 +164,13 @@ pub fn check<R: Read, W: Write>(
     reader: &mut R,
     writer: &mut W,
 ) -> Result<Ending, ToolFault>
-    ensures ok { IfOk result (HasTold Tool.Check
-        (R.remaining reader.old) (R.remaining reader.new)
-        (W.contents writer.old) (W.contents writer.new)) }
-    ensures taken { TakesAtMost 1048577 (R.remaining reader.old) (R.remaining reader.new) }
+    ensures ok { IfOk result (λ ending. (input : List ℕ)
+        × HasReported Tool.Check input (R.remaining reader.old) (R.remaining reader.new)
+        (W.contents writer.old) (W.contents writer.new)
+        × (ending ≡ program_ending Tool.Check input)) }
+    ensures taken { TakesAtMost MOST_READ (R.remaining reader.old) (R.remaining reader.new) }
     ensures unwritten { IfErr result (λ fault. fault ≢ ToolFault.Write
         → Keeps (W.contents writer.old) (W.contents writer.new)) }
 {
-    let transcript = read_input(alloc, reader)?;
-    let report = check_text(alloc, transcript.as_slice())?;
-    write_report(writer, &report)
+    run_tool(alloc, Tool::Check, reader, writer)
 }

@@ -10,7 +10,7 @@ ghost use Rattle.fio_tool.specs.Transcript.{answer_from, answer_on, command_from
 ghost use Rattle.fio_tool.specs.TranscriptRules.{accepts, rules};
 ghost use Rattle.fio_tool.specs.TranscriptFacts.{with_command, with_answer, with_line, is_broken_by_command, is_broken_by_answer, rule_broken_by};
 
-use super::reading::Line;
+use super::lines::Line;
 use super::rules::{Rule, is_acceptance, names_absent};
 use super::status_bits::{MORE, REFUSED, is_set};
 use fio_message::{BlockView, Command, decode_answer, decode_command, read_block};

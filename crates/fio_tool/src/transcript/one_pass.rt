@@ -1,11 +1,11 @@
 //! A transcript checked in one pass over its text, without memory.
-ghost use Rattle.std.specs.Prelude.{◌≡◌, ◌≢◌, ◌≤◌, ◌<◌, ℕ, List, length, take, Option, Some, None, Err, IfOk, IfErr, IfSome, option_map};
-ghost use Rattle.fio_tool.specs.Transcript.{answer_from, command_from, frame_in, trace_in};
+ghost use Rattle.std.specs.Prelude.{◌≡◌, ◌≢◌, ◌≤◌, ◌<◌, ℕ, List, length, take, Option, Some, None, Ok, Err, IfOk, IfErr, IfSome, option_map};
+ghost use Rattle.fio_tool.specs.Transcript.{answer_from, command_from, frame_in};
 ghost use Rattle.fio_tool.specs.TranscriptFacts.{rule_broken_by, with_line};
-ghost use Rattle.fio_tool.specs.TranscriptRules.{IsVerdictOn};
+ghost use Rattle.fio_tool.specs.TranscriptRules.{verdict_in};
 
 use super::facts::Facts;
-use super::reading::{TraceError, frame_word};
+use super::lines::{TraceError, frame_word};
 use super::rules::Rule;
 use super::verdict::Verdict;
 use fio_world::text::{numbered_lines, read_octets_to};
@@ -22,9 +22,9 @@ pub(crate) struct BadLine {
 /// # Errors
 /// The first line that is no frame, also where a line above it breaks a rule.
 pub(crate) fn check_lines(text: &[u8]) -> Result<Verdict, BadLine>
-    ensures ok { IfOk result (IsVerdictOn text.now) }
+    ensures ok { IfOk result (λ verdict. verdict_in text.now ≡ Ok verdict) }
     ensures err { IfErr result (λ fault.
-        trace_in text.now ≡ Err (TraceError.BadLine fault.line)) }
+        verdict_in text.now ≡ Err (TraceError.BadLine fault.line)) }
 {
     let mut room = [0; 773];
     let mut facts = Facts::default();

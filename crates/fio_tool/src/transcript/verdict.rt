@@ -1,8 +1,9 @@
 //! The verdict on a transcript.
-ghost use Rattle.fio_tool.specs.TranscriptRules.{IsVerdict};
+ghost use Rattle.std.specs.Prelude.{◌≡◌};
+ghost use Rattle.fio_tool.specs.TranscriptRules.{verdict_on};
 
 use super::facts::Facts;
-use super::reading::Line;
+use super::lines::Line;
 use super::rules::Rule;
 
 /// What a transcript is found to be.
@@ -25,7 +26,7 @@ pub enum Verdict {
 /// The verdict on a transcript: good if no line breaks a rule, else the number of the first line
 /// that does, and the first rule that it breaks. Goes through the lines once and takes no memory.
 pub fn check_trace(lines: &[Line]) -> Verdict
-    ensures { IsVerdict lines.now result }
+    ensures { result ≡ verdict_on lines.now }
 {
     let mut facts = Facts::default();
     for line in lines {

@@ -1,13 +1,13 @@
 use Rattle.std.proofs.Common.{◌≡◌, ◌+◌, ◌≤◌, List, length, map, Ok}
 use Rattle.std.specs.Result.{result_err}
 use Rattle.fio_world.specs.Collected.{collected}
-use Rattle.fio_tool.specs.Transcript.{TraceLine, line_in, trace_in}
+use Rattle.fio_tool.specs.Transcript.{TranscriptLine, line_in, transcript_in}
 use Rattle.fio_tool.proofs.CheckedLines.{IsCourse}
 use Rattle.fio_tool.proofs.transcript.one_pass.check_lines.Given as goal
 
 abbrev pub invariant-lines : goal.invariant-lines
 invariant-lines l = record {
   within : l.frames + length l.number-iterator ≤ length l.text;
-  faults : result_err (collected (map line_in l.number-iterator)) ≡ result_err (trace_in l.text);
-  course : (lines : List TraceLine) → trace_in l.text ≡ Ok lines → IsCourse lines l.frames l.number-iterator l.facts l.breach;
+  faults : result_err (collected (map line_in l.number-iterator)) ≡ result_err (transcript_in l.text);
+  course : (lines : List TranscriptLine) → transcript_in l.text ≡ Ok lines → IsCourse lines l.frames l.number-iterator l.facts l.breach;
 }

@@ -1,0 +1,53 @@
+-- What `check` writes of a text.
+use Rattle.std.specs.Prelude.{ℕ, Bool, true, false, List, [], ◌++◌, ◌&&◌, codes, decimal, not, if◌then◌else◌, Result, Ok, Err}
+use Rattle.fio_tool.specs.InputFaults.{is_too_long, too_long_text, line_fault_text}
+use Rattle.fio_tool.specs.TranscriptRules.{verdict_in}
+use Rattle.fio_tool.specs.declared.transcript.lines.TraceError.{TraceError}
+use Rattle.fio_tool.specs.declared.transcript.lines.TraceError.TheVariants.{BadLine, Memory}
+use Rattle.fio_tool.specs.declared.transcript.rules.Rule.{Rule}
+use Rattle.fio_tool.specs.declared.transcript.rules.Rule.TheVariants.{Readable, Pair, Number, Advance, Same, Sequence, Limits, Rest, Refusal}
+use Rattle.fio_tool.specs.declared.transcript.verdict.Verdict.{Verdict}
+use Rattle.fio_tool.specs.declared.transcript.verdict.Verdict.TheVariants.{Good, Broken}
+
+abbrev pub rule_name : Rule → List ℕ
+rule_name Readable = codes "readable"
+rule_name Pair = codes "pair"
+rule_name Number = codes "number"
+rule_name Advance = codes "advance"
+rule_name Same = codes "same"
+rule_name Sequence = codes "sequence"
+rule_name Limits = codes "limits"
+rule_name Rest = codes "rest"
+rule_name Refusal = codes "refusal"
+
+abbrev pub verdict_text : Verdict → List ℕ
+verdict_text (Good frames) = codes "good " ++ (decimal frames ++ codes " frames\n")
+verdict_text (Broken number rule) =
+    codes "line " ++ (decimal number ++ (codes " breaks " ++ (rule_name rule ++ codes "\n")))
+
+abbrev pub is_good : Verdict → Bool
+is_good (Good frames) = true
+is_good (Broken number rule) = false
+
+-- the line for the first line that is no frame; no transcript has the fault `Memory`
+abbrev pub transcript_fault_text : TraceError → List ℕ
+transcript_fault_text (BadLine line) = line_fault_text line (codes "bad line")
+transcript_fault_text Memory = []
+
+-- the line for the verdict on a transcript, or for its first faulty line
+abbrev pub transcript_text : Result Verdict TraceError → List ℕ
+transcript_text (Ok verdict) = verdict_text verdict
+transcript_text (Err fault) = transcript_fault_text fault
+
+abbrev pub is_transcript_good : Result Verdict TraceError → Bool
+is_transcript_good (Ok verdict) = is_good verdict
+is_transcript_good (Err fault) = false
+
+-- the text that `check` writes for an input
+abbrev pub check_text : List ℕ → List ℕ
+check_text input =
+    if is_too_long input then too_long_text else transcript_text (verdict_in input)
+
+-- whether it reports no fault
+abbrev pub is_check_good : List ℕ → Bool
+is_check_good input = not (is_too_long input) && is_transcript_good (verdict_in input)

@@ -1,0 +1,16 @@
+-- What each tool writes of an input with a fault.
+use Rattle.std.specs.Prelude.{ℕ, Bool, List, ◌++◌, length, codes, decimal, nat_lt}
+use Rattle.fio_tool.specs.declared.text.TheConstants.{MAX_INPUT}
+
+-- more octets than an input may have
+abbrev pub is_too_long : List ℕ → Bool
+is_too_long input = nat_lt MAX_INPUT (length input)
+
+-- the line for such an input
+abbrev pub too_long_text : List ℕ
+too_long_text = codes "input too long\n"
+
+-- the line that reports the fault of the line with this number, by its words
+abbrev pub line_fault_text : ℕ → List ℕ → List ℕ
+line_fault_text number fault =
+    codes "line " ++ (decimal number ++ (codes ": " ++ (fault ++ codes "\n")))

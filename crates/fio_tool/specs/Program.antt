@@ -1,0 +1,79 @@
+-- What the program writes of an input, and its exit status: for each tool the text, and whether it
+-- reports a fault.
+use Rattle.std.specs.Prelude.{◌≡◌, ◌⊎◌, ℕ, Bool, true, false, List, Option, codes, Result, Ok, Err}
+use Rattle.std.specs.Io.KnownBytes.{Appends}
+use Rattle.clap.specs.Kinds.{Kinds, IsAmong}
+use Rattle.clap.specs.declared.error.kind.ErrorKind.{ErrorKind}
+use Rattle.clap.specs.declared.error.kind.ErrorKind.TheVariants.{DisplayHelp, DisplayVersion, OutOfMemory}
+use Rattle.fio_tool.specs.Show.{show_text, is_show_good}
+use Rattle.fio_tool.specs.Simulate.{simulate_text, is_simulate_good}
+use Rattle.fio_tool.specs.Check.{check_text, is_check_good}
+use Rattle.fio_tool.specs.Streams.{TakesInput}
+use Rattle.fio_tool.specs.declared.program.Ending.{Ending}
+use Rattle.fio_tool.specs.declared.program.Ending.TheVariants.{Good, Bad}
+use Rattle.fio_tool.specs.declared.program.ToolFault.{ToolFault}
+use Rattle.fio_tool.specs.declared.program.ToolFault.TheVariants.{Read, Write, Memory}
+use Rattle.fio_tool.specs.declared.tools.Tool.{Tool}
+use Rattle.fio_tool.specs.declared.tools.Tool.TheVariants.{Show, Simulate, Check}
+
+-- the text that a tool writes for an input
+abbrev pub program_text : Tool → List ℕ → List ℕ
+program_text Show input = show_text input
+program_text Simulate input = simulate_text input
+program_text Check input = check_text input
+
+-- whether it reports no fault
+abbrev pub is_program_good : Tool → List ℕ → Bool
+is_program_good Show input = is_show_good input
+is_program_good Simulate input = is_simulate_good input
+is_program_good Check input = is_check_good input
+
+abbrev pub ending_of : Bool → Ending
+ending_of true = Good
+ending_of false = Bad
+
+-- how a tool ends that has written this text
+abbrev pub program_ending : Tool → List ℕ → Ending
+program_ending tool input = ending_of (is_program_good tool input)
+
+-- the exit status after a tool
+abbrev pub status_of : Result Ending ToolFault → ℕ
+status_of (Ok Good) = 0
+status_of (Ok Bad) = 1
+status_of (Err fault) = 3
+
+-- the exit status where a tool has written its text
+abbrev pub program_status : Tool → List ℕ → ℕ
+program_status tool input = status_of (Ok (program_ending tool input))
+
+-- The tool read this input and wrote the text for it. A reader has octets left before and after, and
+-- a writer holds octets before and after, as far as they report them.
+pub record HasReported
+    (tool : Tool) (input : List ℕ) (left left' held held' : Option (List ℕ)) : Type 0 where
+  pub taken : TakesInput left left' input
+  pub written : Appends held held' (program_text tool input)
+
+-- the line that reports a tool's fault
+abbrev pub fault_line : ToolFault → List ℕ
+fault_line Read = codes "fio2070: read fault\n"
+fault_line Write = codes "fio2070: write fault\n"
+fault_line Memory = codes "fio2070: out of memory\n"
+
+-- ---- command lines that name no tool
+
+-- the line for a command line that names no subcommand
+abbrev pub no_subcommand_line : List ℕ
+no_subcommand_line = codes "fio2070: no subcommand\n"
+
+-- the status where clap gives an error of this kind: help and the version are no mistakes
+abbrev pub refusal_status : ErrorKind → ℕ
+refusal_status DisplayHelp = 0
+refusal_status DisplayVersion = 0
+refusal_status OutOfMemory = 3
+refusal_status _ = 2
+
+-- the status where the words have a fault of one of these kinds: that of the kind, or 3 where memory
+-- runs out
+abbrev pub IsRefusalStatus : Kinds → ℕ → Type 0
+IsRefusalStatus kinds status =
+    (status ≡ 3) ⊎ ((kind : ErrorKind) × IsAmong kind kinds × (status ≡ refusal_status kind))

@@ -1,0 +1,89 @@
+//! The command line.
+ghost use Rattle.std.specs.Prelude.{◌≡◌, false, IfOk, IfSome, IfNone, option_map, map};
+ghost use Rattle.clap.specs.Faults.{fault_of};
+ghost use Rattle.clap.specs.Kinds.{FailsBy};
+ghost use Rattle.clap.specs.Simple.{app_of, new_shape, shape_of};
+ghost use Rattle.clap.specs.declared.builder.command.Command.TheViews.{out-Command as fields_of};
+ghost use Rattle.fio_tool.specs.CommandLine.{chosen_name, command_line, name_of};
+ghost use Rattle.fio_tool.specs.declared.tools.Tool.{Tool};
+
+use crate::help;
+use crate::tools::Tool;
+use clap::{Command, Error};
+use std::alloc::{AllocError, Global};
+
+/// What `--version` prints after the program's name.
+const VERSION: &str = "1.0.0";
+
+const ABOUT: &str =
+    "Reads the messages between the CPU and the field I/O module of a Model 2070 controller";
+
+/// How the program is called.
+const USAGE: &str = "fio2070 COMMAND < FILE";
+
+/// The tool that the words of a command line name, the program's name first: `None` where they name
+/// no subcommand.
+///
+/// # Errors
+/// `clap`'s, exactly where the words have a fault or ask for help or the version, or where there is
+/// no memory.
+pub fn choose<'a>(alloc: Global, words: &'a [&'a str]) -> Result<Option<Tool>, Error>
+    ensures tool { IfOk result (λ tool.
+        option_map name_of tool ≡ chosen_name (map (λ word. word.now) words.entry.now)) }
+    // An `Ok` comes only where the command line is valid, and an `Err` where it is not, or where
+    // memory runs out.
+    ensures fault { FailsBy
+        (fault_of command_line (map (λ word. word.now) words.entry.now)) result }
+{
+    let command = command_line(alloc)?;
+    let matches = command.try_get_matches_from(words)?;
+    let Some(name) = matches.subcommand_name() else {
+        return Ok(None);
+    };
+    Ok(tool_named(name))
+}
+
+/// The command line, with a subcommand for each tool.
+fn command_line<'a>(alloc: Global) -> Result<Command<'a>, AllocError>
+    ensures { IfOk result (λ command. app_of command ≡ command_line) }
+{
+    let mut command = Command::new(alloc, "fio2070")
+        .about(ABOUT)
+        .override_usage(USAGE)
+        .after_help(help::PROGRAM)
+        .version(VERSION)
+        .disable_help_subcommand(true);
+    'tools: for tool in Tool::ALL {
+        command = command.subcommand(subcommand(alloc, tool))?;
+    }
+    Ok(command)
+}
+
+/// The subcommand of a tool, which has no words of its own.
+fn subcommand<'a>(alloc: Global, tool: Tool) -> Command<'a>
+    ensures shape { shape_of result ≡ new_shape (name_of tool) }
+    ensures local { (fields_of result).has_globals ≡ false }
+{
+    let words = tool.words();
+    let name: &'a str = words.name;
+    let about: &'a str = words.about;
+    let usage: &'a str = words.usage;
+    let after_help: &'a str = words.after_help;
+    Command::new(alloc, name)
+        .about(about)
+        .override_usage(usage)
+        .after_help(after_help)
+}
+
+/// The tool of a subcommand.
+fn tool_named(name: &str) -> Option<Tool>
+    ensures known { IfSome result (λ tool. name_of tool ≡ name.now) }
+    ensures unknown { IfNone result ((tool : Tool) → name_of tool ≡ name.now → ⊥) }
+{
+    'tools: for tool in Tool::ALL {
+        if tool.words().name == name {
+            return Some(tool);
+        }
+    }
+    None
+}

@@ -1,0 +1,201 @@
+//! The program, but for what it is given by `main`: how a tool ends, the exit statuses, and the lines
+//! of the program itself.
+ghost use Rattle.std.specs.Prelude.{◌≡◌, ◌≢◌, ◌⊎◌, ◌≤◌, ℕ, List, [], None, map};
+ghost use Rattle.clap.specs.Faults.{fault_of};
+ghost use Rattle.clap.specs.Values.{kind_of};
+ghost use Rattle.fio_tool.specs.CommandLine.{NamesTool, chosen_name, command_line};
+ghost use Rattle.fio_tool.specs.Program.{HasReported, IsRefusalStatus, fault_line, no_subcommand_line, program_status, refusal_status, status_of};
+ghost use Rattle.fio_tool.specs.Streams.{TakesAtMost};
+ghost use Rattle.fio_tool.specs.declared.streams.TheConstants.{MOST_READ};
+ghost use Rattle.fio_tool.specs.declared.tools.Tool.{Tool};
+
+use crate::command_line::choose;
+use crate::streams::write_text;
+use crate::tools::{Tool, run_tool};
+use clap::error::ErrorKind;
+use fio_message::Memory;
+use std::alloc::{AllocError, Global};
+use std::io::{Read, Write};
+use thiserror::Error;
+
+/// How a tool ended that wrote its text.
+#[derive(Clone, Copy, Debug, PartialEq, Eq, Hash)]
+pub enum Ending {
+    /// The text reports no fault.
+    Good,
+    /// The text reports a fault, or an input that is too long.
+    Bad,
+}
+
+/// Why a tool ended without its text.
+#[derive(Clone, Copy, Debug, PartialEq, Eq, Hash, Error)]
+pub enum ToolFault {
+    /// A read failed, be it only interrupted. Nothing was written.
+    #[error("read fault")]
+    Read,
+    /// A write or the flush failed, be it only interrupted, or a write took no octet. Some of the
+    /// text may have been written.
+    #[error("write fault")]
+    Write,
+    /// There was no memory for the input or its text. Nothing was written.
+    #[error("out of memory")]
+    Memory,
+}
+
+impl From<Memory> for ToolFault {
+    ghost use Rattle.std.specs.Prelude.{◌≡◌};
+    ghost use Rattle.fio_tool.specs.declared.program.ToolFault.TheVariants as fault;
+
+    ghost from_gives = { λ _ e. e ≡ fault.Memory };
+
+    fn from(_fault: Memory) -> ToolFault {
+        ToolFault::Memory
+    }
+}
+
+impl From<AllocError> for ToolFault {
+    ghost use Rattle.std.specs.Prelude.{◌≡◌};
+    ghost use Rattle.fio_tool.specs.declared.program.ToolFault.TheVariants as fault;
+
+    ghost from_gives = { λ _ e. e ≡ fault.Memory };
+
+    fn from(_fault: AllocError) -> ToolFault {
+        ToolFault::Memory
+    }
+}
+
+/// Runs the tool that the words of a command line name, the program's name first, and gives the
+/// exit status of the program.
+///
+/// | Status | When |
+/// |---|---|
+/// | 0 | the text reports no fault; also where help or the version was asked for |
+/// | 1 | the text reports a fault, or an input that is too long |
+/// | 2 | the words name no subcommand, or have another fault |
+/// | 3 | a read or a write failed, or there was no memory |
+///
+/// For 3 and for no subcommand the program prints one line, `fio2070: read fault` or the like; for
+/// every other fault of the words it prints `clap`'s text. A failure to print these is passed over.
+pub fn run_program<'a, R: Read, W: Write>(
+    alloc: Global,
+    words: &'a [&'a str],
+    reader: &mut R,
+    writer: &mut W,
+) -> u8
+    ensures known { result ≤ 3 }
+    ensures taken { TakesAtMost MOST_READ (R.remaining reader.old) (R.remaining reader.new) }
+    // Where the words name no tool, nothing is read.
+    ensures unread { ((tool : Tool) → NamesTool (map (λ word. word.now) words.entry.now) tool → ⊥)
+        → reader.new ≡ reader.old }
+    // Where the words name a tool, a status of 0 or 1 says that the tool has reported what it read.
+    ensures reported { (tool : Tool) → NamesTool (map (λ word. word.now) words.entry.now) tool
+        → result ≤ 1
+        → (input : List ℕ)
+        × HasReported tool input (R.remaining reader.old) (R.remaining reader.new)
+        (W.contents writer.old) (W.contents writer.new)
+        × (result ≡ program_status tool input) }
+    // 2 says that the words are wrong: not where they name a tool.
+    ensures named { (tool : Tool) → NamesTool (map (λ word. word.now) words.entry.now) tool
+        → result ≢ 2 }
+    // Words without a fault that name no tool give 2, or 3 where memory runs out.
+    ensures no_subcommand { fault_of command_line (map (λ word. word.now) words.entry.now) ≡ []
+        → chosen_name (map (λ word. word.now) words.entry.now) ≡ None
+        → (result ≡ 2) ⊎ (result ≡ 3) }
+    // Words with a fault give the status of that fault, or 3 where memory runs out.
+    ensures refused { fault_of command_line (map (λ word. word.now) words.entry.now) ≢ []
+        → IsRefusalStatus
+        (fault_of command_line (map (λ word. word.now) words.entry.now)) result }
+    // 1 is for the text of a tool: words with a fault never give it.
+    ensures never_one { fault_of command_line (map (λ word. word.now) words.entry.now) ≢ []
+        → result ≢ 1 }
+{
+    match choose(alloc, words) {
+        Ok(Some(tool)) => report_tool(alloc, tool, reader, writer),
+        Ok(None) => {
+            say(writer, no_subcommand_line());
+            2
+        }
+        Err(error) => refuse(alloc, &error, writer),
+    }
+}
+
+/// Runs a tool, reports its fault, and returns the exit status.
+fn report_tool<R: Read, W: Write>(alloc: Global, tool: Tool, reader: &mut R, writer: &mut W) -> u8
+    ensures known { result ≤ 3 }
+    ensures never_two { result ≢ 2 }
+    ensures taken { TakesAtMost MOST_READ (R.remaining reader.old) (R.remaining reader.new) }
+    ensures reported { result ≤ 1
+        → (input : List ℕ)
+        × HasReported tool input (R.remaining reader.old) (R.remaining reader.new)
+        (W.contents writer.old) (W.contents writer.new)
+        × (result ≡ program_status tool input) }
+{
+    let ending = run_tool(alloc, tool, reader, writer);
+    if let Err(fault) = ending {
+        say(writer, fault_line(fault));
+    }
+    status_of(ending)
+}
+
+/// The exit status after a tool.
+fn status_of(ending: Result<Ending, ToolFault>) -> u8
+    ensures { result ≡ status_of ending }
+{
+    match ending {
+        Ok(Ending::Good) => 0,
+        Ok(Ending::Bad) => 1,
+        Err(_) => 3,
+    }
+}
+
+/// The line that reports a tool's fault.
+fn fault_line(fault: ToolFault) -> &'static str
+    ensures { result.now ≡ fault_line fault }
+{
+    match fault {
+        ToolFault::Read => "fio2070: read fault\n",
+        ToolFault::Write => "fio2070: write fault\n",
+        ToolFault::Memory => "fio2070: out of memory\n",
+    }
+}
+
+/// The line for a command line that names no subcommand.
+fn no_subcommand_line() -> &'static str
+    ensures { result.now ≡ no_subcommand_line }
+{
+    "fio2070: no subcommand\n"
+}
+
+/// Reports why a command line gave no tool, and returns the exit status: that of the error's kind, or
+/// 3 where memory runs out.
+fn refuse<W: Write>(alloc: Global, error: &clap::Error, writer: &mut W) -> u8
+    ensures { (result ≡ refusal_status (kind_of error.now)) ⊎ (result ≡ 3) }
+{
+    let kind = error.kind();
+    if kind != ErrorKind::OutOfMemory {
+        if let Ok(text) = format!(in alloc; "{error}") {
+            say(writer, text.as_str());
+            return refusal_status(kind);
+        }
+    }
+    say(writer, fault_line(ToolFault::Memory));
+    3
+}
+
+/// The exit status where `clap` gives an error of this kind.
+fn refusal_status(kind: ErrorKind) -> u8
+    ensures status { result ≡ refusal_status kind }
+    ensures known { result ≤ 3 }
+    ensures never_one { result ≢ 1 }
+{
+    match kind {
+        ErrorKind::DisplayHelp | ErrorKind::DisplayVersion => 0,
+        ErrorKind::OutOfMemory => 3,
+        _ => 2,
+    }
+}
+
+/// Writes a text of the program's own, as far as the writer takes it.
+fn say<W: Write>(writer: &mut W, text: &str) {
+    let _ = write_text(writer, text.as_bytes());
+}

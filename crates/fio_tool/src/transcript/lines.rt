@@ -1,0 +1,124 @@
+//! The lines of a transcript, read from its text.
+ghost use Rattle.std.specs.Prelude.{◌≡◌, ◌≢◌, Ok, Err, None, IfOk, IfErr, IfSome, IfNone, is_ok, true};
+ghost use Rattle.fio_tool.specs.Transcript.{HasFrameToKeep, frame_in, frame_with, line_in, transcript_in};
+
+use fio_message::Memory;
+use fio_world::text::{after_prefix, is_octets, numbered_lines, read_octets};
+use std::alloc::{AllocFailed, Global};
+use std::marker::Model;
+use thiserror::Error;
+
+/// A line of a transcript: a frame that the CPU's end of the link sent or heard.
+#[derive(Debug, Drop)]
+pub struct Line {
+    /// The number of the line in its text, from 1.
+    pub number: usize,
+    /// Whether the CPU sent the frame. If not, it heard it.
+    pub from_cpu: bool,
+    /// The octets of the frame.
+    pub octets: Vec<u8>,
+}
+
+impl Model for Line {
+    ghost use Rattle.fio_tool.specs.Transcript.{TranscriptLine};
+
+    ghost Value = { TranscriptLine };
+
+    ghost view = { λ line. record {
+      number = line.number;
+      from_cpu = line.from_cpu;
+      octets = line.octets.items;
+    } };
+}
+
+/// Why a text is no transcript.
+#[derive(Clone, Copy, Debug, PartialEq, Eq, Hash, Error)]
+pub enum TraceError {
+    /// A line that says something is no frame. It is the first one.
+    #[error("line {line}: bad line")]
+    BadLine {
+        /// The number of the line in the text, from 1.
+        line: usize,
+    },
+    /// There was no memory for a line. Each line above it is a frame.
+    #[error("out of memory")]
+    Memory,
+}
+
+impl From<Memory> for TraceError {
+    ghost use Rattle.fio_tool.specs.declared.transcript.lines.TraceError.TheVariants as faults;
+
+    ghost from_gives = { λ _ fault. fault ≡ faults.Memory };
+
+    fn from(_fault: Memory) -> TraceError {
+        TraceError::Memory
+    }
+}
+
+impl<T: Drop> From<AllocFailed<T>> for TraceError {
+    ghost use Rattle.fio_tool.specs.declared.transcript.lines.TraceError.TheVariants as faults;
+
+    ghost from_gives = { λ _ fault. fault ≡ faults.Memory };
+
+    fn from(_fault: AllocFailed<T>) -> TraceError {
+        TraceError::Memory
+    }
+}
+
+/// The lines of a transcript: each line of the text that is neither empty nor begins with `#` is
+/// `> HEX`, a frame that the CPU sent, or `< HEX`, one that it heard. A text of any length is read.
+///
+/// # Errors
+/// The first that applies: `BadLine` for the first line that is neither; `Memory` where the room for
+/// a line was refused. Room is asked for a line only once it is known to be a frame, so `Memory` never
+/// stands for a bad line, nor for a line below one.
+pub fn read_trace(alloc: Global, text: &[u8]) -> Result<Vec<Line>, TraceError>
+    ensures ok { IfOk result (λ lines. transcript_in text.now ≡ Ok lines.items) }
+    ensures err { IfErr result (λ fault. fault ≢ TraceError.Memory
+        → transcript_in text.now ≡ Err fault) }
+    ensures memory { result ≡ Err TraceError.Memory → HasFrameToKeep text.now }
+{
+    let mut lines = Vec::new(alloc);
+    'lines: for (number, line) in numbered_lines(text, 1) {
+        let line = read_line(alloc, number, line)?;
+        lines.push(line)?;
+    }
+    Ok(lines)
+}
+
+/// The line of a transcript that a line with this number writes.
+fn read_line(alloc: Global, number: usize, line: &[u8]) -> Result<Line, TraceError>
+    ensures ok { IfOk result (λ found. line_in (number, line.now) ≡ Ok found) }
+    ensures err { IfErr result (λ fault. fault ≢ TraceError.Memory
+        → line_in (number, line.now) ≡ Err fault) }
+    ensures memory { result ≡ Err TraceError.Memory
+        → is_ok (line_in (number, line.now)) ≡ true }
+{
+    let Some((from_cpu, word)) = frame_word(line) else {
+        return Err(TraceError::BadLine { line: number });
+    };
+    if !is_octets(word) {
+        return Err(TraceError::BadLine { line: number });
+    }
+    let Some(octets) = read_octets(alloc, word)? else {
+        return Err(TraceError::BadLine { line: number });
+    };
+    Ok(Line {
+        number,
+        from_cpu,
+        octets,
+    })
+}
+
+/// Whether the CPU sent the frame of a line, and the digits of its octets; `None` for a line that
+/// begins neither with `> ` nor with `< `.
+pub(crate) fn frame_word(line: &[u8]) -> Option<(bool, &[u8])>
+    ensures none { IfNone result (frame_in line.now ≡ None) }
+    ensures some { IfSome result (λ found. frame_in line.now ≡ frame_with found.0 found.1.now) }
+{
+    match (after_prefix(line, b"> "), after_prefix(line, b"< ")) {
+        (Some(word), _) => Some((true, word)),
+        (None, Some(word)) => Some((false, word)),
+        (None, None) => None,
+    }
+}
