@@ -1,16 +1,13 @@
 -- Blocks that keep up with the scans leave few entries, and young ones.
-use Rattle.std.proofs.Common.{◌≡◌, ℕ, zero, suc, ◌+◌, ◌-◌, ◌*◌, ◌<◌, ◌≤◌, Bool, true, false, List, [], ◌∷◌, ◌++◌, length, drop, Some, slice_get, refl, ap, sym, subst, ◌∙◌, arith, inl, inr, append_assoc, length-drop, if◌then◌else◌}
-use Rattle.std.specs.List.{AllByRecursion}
+use Rattle.std.proofs.Common.{◌≡◌, ℕ, zero, suc, ◌+◌, ◌-◌, ◌*◌, ◌≤◌, Bool, true, false, [], ◌∷◌, ◌++◌, length, Some, slice_get, refl, ap, sym, subst, ◌∙◌, arith, inl, inr, append_assoc, length-drop}
 use Rattle.std.proofs.Math.Nat.{mul-le-mul_left, mul-le-mul_right, le_of_mul-le-mul_right}
 use Rattle.std.proofs.lemmas.Bool.{cases_lt}
-use Rattle.std.proofs.lemmas.Option.{slice_get_within}
 use Rattle.fio_message.specs.declared.commands.Command.TheVariants.{Poll, ConfigureInputs}
-use Rattle.fio_input.specs.FilterHistory.{is_reported}
 use Rattle.fio_input.specs.Delivery.{scans_in, all_reports_in, open_inputs, OpenHaveFiltersOf, NoneIsApplied}
 use Rattle.fio_input.proofs.FewReports.{reports_times_filter, open_inputs-carried, open_filters-carried}
 use Rattle.fio_module.specs.Settings.{Settings, AreInRange}
 use Rattle.fio_module.specs.Life.{Life, Occurrence, Scanned, Commanded, scans_of, filter_events}
-use Rattle.fio_module.specs.Log.{Transition, transition_at, transitions_below, log_of}
+use Rattle.fio_module.specs.Log.{Transition, log_of}
 use Rattle.fio_module.specs.Blocks.{latest_poll, is_new, blocks_of, next_block, newest_end, start_after, count_from, waiting_from, waiting_of}
 use Rattle.fio_module.specs.Delivery.{AtEachTime, FewBeyond}
 use Rattle.fio_module.specs.KeepingUp.{scans_behind, IsYoung, KeepsUp}
@@ -18,15 +15,8 @@ use Rattle.fio_module.proofs.Ends.{last_end-append}
 use Rattle.fio_module.proofs.BlockLaws.{blocks_end_within}
 use Rattle.fio_module.proofs.Losses.{holds_now}
 use Rattle.fio_module.proofs.Growth.{filter_events-append, log-grows}
-
--- what holds of each element of two lists holds of each
-pub each-front : {A : Type 0} (P : A → Type 0) (xs ys : List A) → AllByRecursion P (xs ++ ys) → AllByRecursion P xs
-each-front P [] ys all = tt
-each-front P (x ∷ xs) ys all = (all.0, each-front P xs ys all.1)
-
-pub each-back : {A : Type 0} (P : A → Type 0) (xs ys : List A) → AllByRecursion P (xs ++ ys) → AllByRecursion P ys
-each-back P [] ys all = all
-each-back P (x ∷ xs) ys all = each-back P xs ys all.1
+use Rattle.fio_module.proofs.ListParts.{each-front, each-back, each-from_get, get_in_drop}
+use Rattle.fio_module.proofs.Ages.{was_logged, scans_in-append}
 
 -- where no configuration is applied, none was before
 pub none_before : (later life : Life) → NoneIsApplied (filter_events (later ++ life)) → NoneIsApplied (filter_events life)
@@ -82,114 +72,6 @@ young_at_pace left filter opened age behind one some few =
           let product : 1 * filter ≤ left * filter = mul-le-mul_right filter one in
           absurd (omega arith)
     ]
-
--- The time at which the transition at a place of the log was logged.
-record WasLogged (since rest : Life) (place : ℕ) (transition : Transition) : Type 0 where
-  pub after : Life
-  pub upto : Life
-  pub split : since ≡ after ++ upto
-  pub logged : place < length (log_of (upto ++ rest))
-  pub age : scans_of (since ++ rest) ≡ transition.scans + scans_in (filter_events after)
-
--- it was logged at this scan
-logged_at : (count raw : ℕ) (life : Life) (k : ℕ) (transition : Transition)
-    → slice_get (transitions_below count raw life) k ≡ Some transition
-    → transition.scans ≡ scans_of (Scanned raw ∷ life)
-unfolding transitions_below
-logged_at zero raw life k transition is = absurd (cc is)
-logged_at (suc input) raw life k transition is =
-    found (transitions_below input raw life) (is_reported input raw (filter_events life)) k (logged_at input raw life) is
-  where
-    found : (earlier : List Transition) (reported : Bool) (k : ℕ)
-        → ((k : ℕ) (t : Transition) → slice_get earlier k ≡ Some t → t.scans ≡ scans_of (Scanned raw ∷ life))
-        → slice_get (earlier ++ (if reported then transition_at (Scanned raw ∷ life) input ∷ [] else [])) k ≡ Some transition
-        → transition.scans ≡ scans_of (Scanned raw ∷ life)
-    found [] true zero each is =
-        let same : transition_at (Scanned raw ∷ life) input ≡ transition = cc in
-        ap (λ (t : Transition). t.scans) (sym same)
-    found [] true (suc k) each is = absurd (cc is)
-    found [] false k each is = absurd (cc is)
-    found (t ∷ earlier) reported zero each is = each 0 transition is
-    found (t ∷ earlier) reported (suc k) each is = found earlier reported k (λ k. each (suc k)) is
-
--- what stands in one of two lists
-get_in_front : {A : Type 0} (xs ys : List A) (k : ℕ) (x : A) → k < length xs → slice_get (xs ++ ys) k ≡ Some x
-    → slice_get xs k ≡ Some x
-get_in_front [] ys k x low is = absurd (omega arith)
-get_in_front (z ∷ xs) ys zero x low is = is
-get_in_front (z ∷ xs) ys (suc k) x low is = get_in_front xs ys k x (omega arith) is
-
-get_in_back : {A : Type 0} (xs ys : List A) (k : ℕ) (x : A) → length xs ≤ k → slice_get (xs ++ ys) k ≡ Some x
-    → slice_get ys (k - length xs) ≡ Some x
-get_in_back [] ys k x high is = let same : k - 0 ≡ k = omega arith in ap (slice_get ys) same ∙ is
-get_in_back (z ∷ xs) ys zero x high is = absurd (omega arith)
-get_in_back (z ∷ xs) ys (suc k) x high is =
-    let same : suc k - length (z ∷ xs) ≡ k - length xs = omega arith in
-    ap (slice_get ys) same ∙ get_in_back xs ys k x (omega arith) is
-
--- each transition that was logged since a life was logged at some time
-was_logged : (since rest : Life) (place : ℕ) (transition : Transition) → length (log_of rest) ≤ place
-    → slice_get (log_of (since ++ rest)) place ≡ Some transition → WasLogged since rest place transition
-was_logged [] rest place transition high is = absurd (omega (arith, slice_get_within (log_of rest) place transition is))
-was_logged (Scanned raw ∷ since) rest place transition high is =
-    let here = since ++ rest in
-    let within = slice_get_within (log_of (Scanned raw ∷ here)) place transition is in
-    elim (cases_lt place (length (log_of here))) as (λ _. WasLogged (Scanned raw ∷ since) rest place transition) [
-      | inl before ↦
-          let w = was_logged since rest place transition high
-          (get_in_front (log_of here) (transitions_below 64 raw here) place transition before is) in
-          record {
-            after = Scanned raw ∷ w.after;
-            upto = w.upto;
-            split = ap (λ l. Scanned raw ∷ l) w.split;
-            logged = w.logged;
-            age = omega (arith, w.age);
-          }
-      | inr now ↦
-          let at = logged_at 64 raw here (place - length (log_of here)) transition
-          (get_in_back (log_of here) (transitions_below 64 raw here) place transition now is) in
-          record { after = []; upto = Scanned raw ∷ since; split = refl; logged = within; age = omega (arith, at) }
-    ]
-was_logged (Commanded (ConfigureInputs items) ∷ since) rest place transition high is =
-    let w = was_logged since rest place transition high is in
-    record {
-      after = Commanded (ConfigureInputs items) ∷ w.after;
-      upto = w.upto;
-      split = ap (λ l. Commanded (ConfigureInputs items) ∷ l) w.split;
-      logged = w.logged;
-      age = w.age;
-    }
-was_logged (other ∷ since) rest place transition high is =
-    let w = was_logged since rest place transition high is in
-    record {
-      after = other ∷ w.after;
-      upto = w.upto;
-      split = ap (λ l. other ∷ l) w.split;
-      logged = w.logged;
-      age = w.age;
-    }
-
--- what holds of what stands at each place holds of each
-each-from_get : {A : Type 0} (P : A → Type 0) (xs : List A) → ((k : ℕ) (x : A) → slice_get xs k ≡ Some x → P x)
-    → AllByRecursion P xs
-each-from_get P [] at = tt
-each-from_get P (x ∷ xs) at = (at 0 x refl, each-from_get P xs (λ k. at (suc k)))
-
--- what is left of a list stood there before
-get_in_drop : {A : Type 0} (n : ℕ) (xs : List A) (k : ℕ) (x : A) → slice_get (drop n xs) k ≡ Some x
-    → slice_get xs (n + k) ≡ Some x
-get_in_drop zero xs k x is = let same : 0 + k ≡ k = omega arith in ap (slice_get xs) same ∙ is
-get_in_drop (suc n) [] k x is = absurd (cc is)
-get_in_drop (suc n) (y ∷ xs) k x is =
-    let same : suc n + k ≡ suc (n + k) = omega arith in ap (slice_get (y ∷ xs)) same ∙ get_in_drop n xs k x is
-
--- how many scans there are among two lists of events
-pub scans_in-append : (later life : Life)
-    → scans_in (filter_events (later ++ life)) ≡ scans_in (filter_events later) + scans_in (filter_events life)
-scans_in-append [] life = omega arith
-scans_in-append (Scanned raw ∷ later) life = let rest = scans_in-append later life in omega arith
-scans_in-append (Commanded (ConfigureInputs items) ∷ later) life = scans_in-append later life
-scans_in-append (other ∷ later) life = scans_in-append later life
 
 module _ (settings : Settings) (filter scans most : ℕ) (life : Life)
     (some : 1 ≤ filter) (filters : OpenHaveFiltersOf (filter_events life) filter)

@@ -18,7 +18,8 @@ use Rattle.fio_module.specs.Delivery.{AtEachTime, FewBeyond}
 use Rattle.fio_module.specs.KeepingUp.{scans_behind, IsKeptUp, IsYoung, KeepsUp}
 use Rattle.fio_module.proofs.Losses.{holds_now}
 use Rattle.fio_module.proofs.Outages.{ends-grow}
-use Rattle.fio_module.proofs.Pace.{each-front, each-back, nothing_left}
+use Rattle.fio_module.proofs.ListParts.{each-front, each-back}
+use Rattle.fio_module.proofs.Pace.{nothing_left}
 use Rattle.fio_module.proofs.Polling.{kept_up_keeps_up}
 use Rattle.fio_module.proofs.Stretches.{log-grown, transitions_in, IsPunctual, HasMade, has_made, each-push}
 use Rattle.fio_cpu.specs.declared.items.Item.TheVariants as items

@@ -12,7 +12,7 @@ use Rattle.fio_module.specs.Blocks.{latest_poll, is_new, blocks_of}
 use Rattle.fio_module.specs.Delivery.{AtEachTime}
 use Rattle.fio_module.specs.KeepingUp.{scans_behind}
 use Rattle.fio_module.proofs.Stretches.{blocks_old, behind_new, behind_more, behind_each, after_block}
-use Rattle.fio_module.proofs.Pace.{scans_in-append}
+use Rattle.fio_module.proofs.Ages.{scans_in-append}
 use Rattle.fio_cpu.specs.Record.{recorded}
 use Rattle.fio_world.specs.declared.event.Event.{Event}
 use Rattle.fio_world.specs.declared.event.Event.TheVariants as events
