@@ -125,6 +125,12 @@ good_front restarts lines left events read few some =
     rw (front.1, readings-few restarts read.above (rw as_many few), read.give) (collected-values events) in
     (front.0, events, good, some)
 
+-- lines that give some event are a good front
+pub whole_front : (restarts : Bool) (lines : List (List ℕ)) (events : List Event)
+    → events_of restarts lines ≡ Ok events → events ≢ [] → HaveGoodFront restarts lines
+whole_front restarts lines events good some =
+    (length lines, events, rw (take_all (length lines) lines (omega arith)) good, some)
+
 -- a header above such lines makes them the front of a script
 pub front_with_header : (header : Header) (line : List ℕ) (lines : List (List ℕ))
     → header_of line ≡ Some header → HaveGoodFront header.restarts lines → HasGoodFront (line ∷ lines)

@@ -1,5 +1,6 @@
-use Rattle.std.proofs.Common.{◌≡◌, ℕ, ◌+◌, ◌<◌, ◌≤◌, suc, List, ◌∷◌, ◌++◌, Option, Some, None, true, false, drop, length, get_or, refl, sym, ◌∙◌, ap, add-one, drop-cons, append_assoc}
+use Rattle.std.proofs.Common.{◌≡◌, ℕ, ◌+◌, ◌<◌, ◌≤◌, suc, List, ◌∷◌, ◌++◌, Option, Some, None, true, false, drop, length, map, get_or, refl, sym, ◌∙◌, ap, add-one, drop-cons, append_assoc}
 use Rattle.std.specs.Prelude.{IsSomeAnd}
+use Rattle.std.proofs.Math.ListN.{get_or-map}
 use Rattle.std.proofs.lemmas.List.{drop_all}
 use Rattle.fio_world.specs.declared.event.Event.{Event}
 use Rattle.fio_world.specs.declared.outcome.Outcome.{Outcome}
@@ -33,6 +34,11 @@ told_on-event : (scenario : Scenario) (text : List ℕ) (place : ℕ) (world : E
 told_on-event scenario text place world event on within here =
     let next : drop place scenario.events ≡ event ∷ drop (place + 1) scenario.events = rw add-one (drop-cons scenario.events place event within ∙ ap (λ e. e ∷ drop (suc place) scenario.events) (sym here)) in
     rw next at on.told
+
+-- what is kept of an event at a place is the event at this place
+pub event_at_place : {A : Type 0} (event : A → Event) (items : List A) (place : ℕ) (item : A)
+    → item ≡ get_or items place item → event item ≡ get_or (map event items) place (event item)
+event_at_place event items place item here = ap event here ∙ sym (get_or-map event items place item)
 
 -- an event that is done has its line, and the rest is told from the machine after it on
 pub TellsOn-done : (scenario : Scenario) (text : List ℕ) (place : ℕ) (world new : Ends) (event : Event) (outcome : Outcome) (on : TellsOn scenario text place world)

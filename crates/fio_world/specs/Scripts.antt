@@ -1,5 +1,6 @@
 -- Scripts: the first line is a header, and each further line that says something is an event.
 use Rattle.std.specs.Prelude.{◌≡◌, ◌≢◌, ℕ, Bool, List, [], ◌∷◌, ◌++◌, map, take, drop, Option, Some, None, Result, Ok, Err}
+use Rattle.fio_module.specs.Limits.{Limits}
 use Rattle.fio_module.specs.Settings.{Settings, settings_with}
 use Rattle.fio_world.specs.declared.event.Event.{Event}
 use Rattle.fio_world.specs.declared.script.Script.{Script}
@@ -26,13 +27,18 @@ readings most restarts lines =
 abbrev pub events_of : Bool → List (List ℕ) → Result (List Event) ScriptError
 events_of restarts lines = collected (readings 10000 restarts (numbered 2 lines))
 
--- what a header says, and what happens below it
-abbrev pub scenario_below : Header → List Event → Scenario
-scenario_below header events = record {
-  settings = settings_with header.id header.limits;
-  first = header.first;
+-- a module with this identification and these limits, a CPU with this first number, and what then
+-- happens
+abbrev pub scenario_with : ℕ → ℕ → Limits → List Event → Scenario
+scenario_with id first limits events = record {
+  settings = settings_with id limits;
+  first = first;
   events = events;
 }
+
+-- what a header says, and what happens below it
+abbrev pub scenario_below : Header → List Event → Scenario
+scenario_below header events = scenario_with header.id header.first header.limits events
 
 abbrev pub with_events : Header → Result (List Event) ScriptError → Result Scenario ScriptError
 with_events header (Ok events) = Ok (scenario_below header events)
@@ -65,9 +71,8 @@ HaveGoodFront restarts lines =
 
 -- a script, wherever its events lie in memory
 abbrev pub scenario_of : Script → Scenario
-scenario_of script =
-    record {
-      settings = settings_with script.id script.limits;
-      first = script.first;
-      events = script.events.items;
-    }
+scenario_of script = scenario_with script.id script.first script.limits script.events.items
+
+-- a text spells a script
+abbrev pub IsScript : List ℕ → Type 0
+IsScript text = (scenario : Scenario) × (script_in text ≡ Ok scenario)

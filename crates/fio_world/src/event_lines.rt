@@ -4,26 +4,13 @@ ghost use Rattle.fio_world.specs.EventLines.{event_at, frame_at, plain_event};
 ghost use Rattle.fio_world.specs.Hexadecimal.{octets_in};
 ghost use Rattle.fio_world.specs.Steps.{event_of};
 
-use crate::event::Event;
 use crate::script::ScriptError;
 use crate::steps::{Form, Step};
 use crate::text::{after_prefix, read_inputs, read_number, read_octet, read_octets_to};
 use fio_message::{DecodeError, decode_command};
 
-/// The event of the line with this number, where the module may restart or not. It asks for no memory.
-pub(crate) fn read_event(number: usize, line: &[u8], restarts: bool) -> Result<Event, ScriptError>
-    ensures { result ≡ event_at restarts (number, line.now) }
-{
-    if let Some(word) = after_prefix(line, b"send ") {
-        return read_sending(number, word);
-    }
-    match read_plain(line, restarts) {
-        Some(form) => Ok(form.event()),
-        None => Err(ScriptError::BadLine { line: number }),
-    }
-}
-
-/// The same event, kept in the form of its line.
+/// The event of the line with this number, where the module may restart or not, kept in the form of
+/// the line. It asks for no memory.
 pub(crate) fn read_step<'a>(
     number: usize,
     line: &'a [u8],
@@ -32,12 +19,7 @@ pub(crate) fn read_step<'a>(
     ensures { result ≡ event_at restarts (number, line.now) }
 {
     if let Some(word) = after_prefix(line, b"send ") {
-        return match read_sending(number, word) {
-            Ok(_) => Ok(Step {
-                form: Form::Send(word),
-            }),
-            Err(fault) => Err(fault),
-        };
+        return read_sending(number, word);
     }
     match read_plain(line, restarts) {
         Some(form) => Ok(Step { form }),
@@ -45,8 +27,10 @@ pub(crate) fn read_step<'a>(
     }
 }
 
-/// The sending of the command that the word's octets spell.
-fn read_sending(number: usize, word: &[u8]) -> Result<Event, ScriptError>
+/// The sending of the command that the word's octets spell. It stands apart, since a frame and a
+/// command take two kilobytes, which would be cleared for each line.
+#[inline(never)]
+fn read_sending<'a>(number: usize, word: &'a [u8]) -> Result<Step<'a>, ScriptError>
     ensures { result ≡ frame_at number (octets_in word.now) }
 {
     let mut room = [0; 773];
@@ -60,7 +44,9 @@ fn read_sending(number: usize, word: &[u8]) -> Result<Event, ScriptError>
         });
     }
     match decode_command(&room[..count]) {
-        Ok(command) => Ok(Event::Send(command)),
+        Ok(_) => Ok(Step {
+            form: Form::Send(word),
+        }),
         Err(fault) => Err(ScriptError::BadFrame {
             line: number,
             fault,

@@ -1,14 +1,15 @@
 //! Texts as scripts.
-ghost use Rattle.std.specs.Prelude.{◌≡◌, ◌≢◌, IfOk, IfErr};
+ghost use Rattle.std.specs.Prelude.{◌≡◌, ◌≢◌, [], Ok, IfOk, IfErr, OnErr};
 ghost use Rattle.fio_world.specs.Lines.{lines_of};
-ghost use Rattle.fio_world.specs.Scripts.{events_of, scenario_of, script_in, HasGoodFront, HaveGoodFront};
+ghost use Rattle.fio_world.specs.Scripts.{events_of, scenario_below, scenario_of, script_in, HasGoodFront, HaveGoodFront};
 
 use crate::event::Event;
-use crate::event_lines::{read_event, read_step};
+use crate::event_lines::read_step;
 use crate::headers::{Header, read_header};
 use crate::script::{Script, ScriptError};
 use crate::steps::Step;
 use crate::text::{numbered_lines, split_line};
+use fio_message::Memory;
 use std::alloc::Global;
 
 /// The most events of a script (own profile).
@@ -25,48 +26,44 @@ pub fn read_script(alloc: Global, text: &[u8]) -> Result<Script, ScriptError>
         → script_in text.now ≡ Err fault) }
     ensures memory { result ≡ Err ScriptError.Memory → HasGoodFront (lines_of text.now) }
 {
+    let (header, steps) = read_header_and_steps(alloc, text)?;
+    let events = events_of(alloc, &steps)?;
+    Ok(Script {
+        id: header.id,
+        first: header.first,
+        limits: header.limits,
+        events,
+    })
+}
+
+/// The header of the script that a text spells, and its events, each kept as a step.
+///
+/// # Errors
+/// Those of `read_script`.
+pub(crate) fn read_header_and_steps(
+    alloc: Global,
+    text: &[u8],
+) -> Result<(Header, Vec<Step<'_>>), ScriptError>
+    ensures ok { IfOk result (λ read.
+        script_in text.now ≡ Ok (scenario_below read.0 read.1.items)) }
+    ensures front { IfOk result (λ read.
+        read.1.items ≢ [] → HasGoodFront (lines_of text.now)) }
+    ensures err { IfErr result (λ fault. fault ≢ ScriptError.Memory
+        → script_in text.now ≡ Err fault) }
+    ensures memory { result ≡ Err ScriptError.Memory → HasGoodFront (lines_of text.now) }
+{
     let Some((line, rest)) = split_line(text) else {
         return Err(ScriptError::BadHeader);
     };
     let Some(header) = read_header(line) else {
         return Err(ScriptError::BadHeader);
     };
-    let events = read_events(alloc, rest, header.restarts)?;
-    let Header {
-        id,
-        first,
-        limits,
-        ..
-    } = header;
-    Ok(Script {
-        id,
-        first,
-        limits,
-        events,
-    })
+    let steps = read_steps(alloc, rest, header.restarts)?;
+    Ok((header, steps))
 }
 
-/// The events of the lines below a header, where the module may restart or not.
-fn read_events(alloc: Global, text: &[u8], restarts: bool) -> Result<Vec<Event>, ScriptError>
-    ensures ok { IfOk result (λ events. events_of restarts (lines_of text.now) ≡ Ok events.items) }
-    ensures err { IfErr result (λ fault. fault ≢ ScriptError.Memory
-        → events_of restarts (lines_of text.now) ≡ Err fault) }
-    ensures memory { result ≡ Err ScriptError.Memory
-        → HaveGoodFront restarts (lines_of text.now) }
-{
-    let mut events = Vec::new(alloc);
-    'lines: for (number, line) in numbered_lines(text, 2) {
-        if events.len() == MAX_EVENTS {
-            return Err(ScriptError::TooManyEvents { line: number });
-        }
-        let event = read_event(number, line, restarts)?;
-        events.push(event)?;
-    }
-    Ok(events)
-}
-
-/// The same events, each kept as a step.
-pub(crate) fn read_steps<'a>(
+/// The events of the lines below a header, where the module may restart or not, each kept as a step.
+fn read_steps<'a>(
     alloc: Global,
     text: &'a [u8],
     restarts: bool,
@@ -74,6 +71,8 @@ pub(crate) fn read_steps<'a>(
     ensures ok { IfOk result (λ steps. events_of restarts (lines_of text.now) ≡ Ok steps.items) }
     ensures err { IfErr result (λ fault. fault ≢ ScriptError.Memory
         → events_of restarts (lines_of text.now) ≡ Err fault) }
+    ensures memory { result ≡ Err ScriptError.Memory
+        → HaveGoodFront restarts (lines_of text.now) }
 {
     let mut steps = Vec::new(alloc);
     'lines: for (number, line) in numbered_lines(text, 2) {
@@ -84,4 +83,16 @@ pub(crate) fn read_steps<'a>(
         steps.push(step)?;
     }
     Ok(steps)
+}
+
+/// The events that steps are.
+fn events_of(alloc: Global, steps: &[Step<'_>]) -> Result<Vec<Event>, Memory>
+    ensures ok { IfOk result (λ events. events.items ≡ steps.now) }
+    ensures err { OnErr result (steps.now ≢ []) }
+{
+    let mut events = Vec::new(alloc);
+    'steps: for step in steps {
+        events.push(step.event())?;
+    }
+    Ok(events)
 }

@@ -44,19 +44,19 @@ impl<'a> Model for Step<'a> {
     ghost view = { λ s. event_of s.form };
 }
 
-impl<'a> Form<'a> {
-    /// The event that this is.
+impl Step<'_> {
+    /// The event.
     pub(crate) fn event(&self) -> Event
-        ensures { result ≡ event_of self.now }
+        ensures { result ≡ self.now }
     {
-        match self {
-            Form::Scan(raw) => Event::Scan(*raw),
+        match self.form {
+            Form::Scan(raw) => Event::Scan(raw),
             Form::LineSync => Event::LineSync,
-            Form::Raise(mask) => Event::Raise(*mask),
+            Form::Raise(mask) => Event::Raise(mask),
             Form::Poll => Event::Poll,
             Form::Send(word) => Event::Send(command_named(word)),
-            Form::ToModule(index) => Event::ToModule(*index),
-            Form::ToCpu(index) => Event::ToCpu(*index),
+            Form::ToModule(index) => Event::ToModule(index),
+            Form::ToCpu(index) => Event::ToCpu(index),
             Form::Restart => Event::Restart,
         }
     }

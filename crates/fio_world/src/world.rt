@@ -14,6 +14,7 @@ mod happening;
 mod stored;
 
 pub(crate) use self::done::Done;
+pub(crate) use self::happening::Happens;
 use self::stored::StoredFrames;
 use crate::event::Event;
 use crate::outcome::{Outcome, RunError, WorldError};
@@ -149,7 +150,7 @@ impl World {
             → Headline settings first (events_done events event.now result)
             self.new.poller_end.items }
     {
-        match self.happen(event) {
+        match event.happen(self) {
             Ok(done) => Ok(self.outcome(done)),
             Err(fault) => Err(fault),
         }

@@ -1,10 +1,11 @@
 //! One event on a world.
 ghost use Rattle.std.specs.Prelude.{◌≡◌, ◌≢◌, ◌+◌, ◌≤◌, ◌∷◌, ◌++◌, [], ℕ, IfOk, IfErr, OnOk, OnErr, length};
 ghost use Rattle.fio_module.specs.Settings.{Settings};
+ghost use Rattle.fio_world.specs.declared.event.Event.{Event as Happening};
 ghost use Rattle.fio_world.specs.declared.event.Event.TheVariants as events;
 ghost use Rattle.fio_world.specs.Done.{octets_numbered, outcome_in, result_in};
 ghost use Rattle.fio_world.specs.Link.{Machine};
-ghost use Rattle.fio_world.specs.Steps.{event_of};
+ghost use Rattle.fio_world.specs.Steps.{command_named, event_of};
 ghost use Rattle.fio_world.specs.Worlds.{Shows, Steps};
 
 use super::World;
@@ -15,38 +16,47 @@ use crate::outcome::{Outcome, WorldError};
 use crate::steps::{Form, Step, command_named};
 use fio_message::{Command, Memory, encode_command};
 
-impl World {
-    /// Lets one event happen, or refuses it and changes nothing: `step` without what follows for
-    /// runs.
-    pub(crate) fn happen(&mut self, event: &Event) -> Result<Done, WorldError>
+/// What may happen to a world: an event, or a step of a script.
+pub(crate) trait Happens {
+    ghost event: { Self → Happening };
+
+    /// Lets the event happen, or refuses it and changes nothing: `World::step` without what follows
+    /// for runs.
+    fn happen(&self, world: &mut World) -> Result<Done, WorldError>
         ensures row { (settings : Settings) (first : ℕ) (machine : Machine)
-            → Shows settings first machine self.old
-            → Steps settings first machine event.now (result_in self.new result) self.new }
-        ensures err { OnErr result (self.new ≡ self.old) }
-    {
-        match event {
-            Event::Scan(raw) => self.take(&Form::Scan(*raw)),
-            Event::LineSync => self.take(&Form::LineSync),
-            Event::Raise(mask) => self.take(&Form::Raise(*mask)),
-            Event::Poll => self.take(&Form::Poll),
-            Event::Send(command) => self.send_command(command),
-            Event::ToModule(index) => self.take(&Form::ToModule(*index)),
-            Event::ToCpu(index) => self.take(&Form::ToCpu(*index)),
-            Event::Restart => self.take(&Form::Restart),
+            → Shows settings first machine world.old
+            → Steps settings first machine (event self.now) (result_in world.new result) world.new }
+        ensures err { OnErr result (world.new ≡ world.old) };
+}
+
+impl Happens for Event {
+    ghost event = { λ event. event };
+
+    fn happen(&self, world: &mut World) -> Result<Done, WorldError> {
+        match self {
+            Event::Scan(raw) => world.take(&Form::Scan(*raw)),
+            Event::LineSync => world.take(&Form::LineSync),
+            Event::Raise(mask) => world.take(&Form::Raise(*mask)),
+            Event::Poll => world.take(&Form::Poll),
+            Event::Send(command) => world.send_command(command),
+            Event::ToModule(index) => world.take(&Form::ToModule(*index)),
+            Event::ToCpu(index) => world.take(&Form::ToCpu(*index)),
+            Event::Restart => world.take(&Form::Restart),
         }
     }
+}
 
-    /// The same of the event that a step is.
-    pub(crate) fn take_step(&mut self, step: &Step<'_>) -> Result<Done, WorldError>
-        ensures row { (settings : Settings) (first : ℕ) (machine : Machine)
-            → Shows settings first machine self.old
-            → Steps settings first machine step.now (result_in self.new result) self.new }
-        ensures err { OnErr result (self.new ≡ self.old) }
-    {
-        self.take(&step.form)
+impl Happens for Step<'_> {
+    ghost event = { λ step. step };
+
+    fn happen(&self, world: &mut World) -> Result<Done, WorldError> {
+        world.take(&self.form)
     }
+}
 
-    /// The same of an event in the form of its line.
+impl World {
+    /// Lets an event in the form of its line happen, or refuses it and changes nothing. What needs
+    /// room for a frame or a command stands apart: the room would be cleared for each event.
     fn take(&mut self, form: &Form<'_>) -> Result<Done, WorldError>
         ensures row { (settings : Settings) (first : ℕ) (machine : Machine)
             → Shows settings first machine self.old
@@ -71,17 +81,39 @@ impl World {
                 self.module.restart();
                 Ok(Done::Quiet)
             }
-            Form::Poll => {
-                let frame = self.poller.poll();
-                self.send(&frame)
-            }
-            Form::Send(word) => self.send_command(&command_named(word)),
+            Form::Poll => self.send_poll(),
+            Form::Send(word) => self.send_word(word),
             Form::ToModule(index) => self.deliver_to_module(*index),
             Form::ToCpu(index) => self.deliver_to_cpu(*index),
         }
     }
 
+    /// The CPU polls.
+    #[inline(never)]
+    fn send_poll(&mut self) -> Result<Done, WorldError>
+        ensures row { (settings : Settings) (first : ℕ) (machine : Machine)
+            → Shows settings first machine self.old
+            → Steps settings first machine events.Poll (result_in self.new result) self.new }
+        ensures err { OnErr result (self.new ≡ self.old) }
+    {
+        let frame = self.poller.poll();
+        self.send(&frame)
+    }
+
+    /// The CPU sends the command that the word's octets spell.
+    #[inline(never)]
+    fn send_word(&mut self, word: &[u8]) -> Result<Done, WorldError>
+        ensures row { (settings : Settings) (first : ℕ) (machine : Machine)
+            → Shows settings first machine self.old
+            → Steps settings first machine (events.Send (command_named word.now))
+            (result_in self.new result) self.new }
+        ensures err { OnErr result (self.new ≡ self.old) }
+    {
+        self.send_command(&command_named(word))
+    }
+
     /// The CPU sends a command, unless it is a poll.
+    #[inline(never)]
     fn send_command(&mut self, command: &Command) -> Result<Done, WorldError>
         ensures row { (settings : Settings) (first : ℕ) (machine : Machine)
             → Shows settings first machine self.old
@@ -148,6 +180,7 @@ impl World {
 
     /// The module receives the frame with this number, and its answer, if any, joins those to the
     /// CPU. Room for it is asked for first: what the module has received can't be taken back.
+    #[inline(never)]
     fn deliver_to_module(&mut self, index: usize) -> Result<Done, WorldError>
         ensures row { (settings : Settings) (first : ℕ) (machine : Machine)
             → Shows settings first machine self.old

@@ -1,7 +1,9 @@
 use Rattle.std.proofs.Common.{◌<◌, sym, ◌∙◌, vec_len, rules, arith}
 use Rattle.std.proofs.lemmas.Grind.{common_steps}
+use Rattle.std.proofs.lemmas.List.{length_push}
 use Rattle.std.proofs.lemmas.Result.{err_from_is_err_and}
-use Rattle.fio_world.proofs.ReadingLemmas.{read_on-start, read_on-end, read_on-event, read_on-fault}
+use Rattle.fio_world.proofs.ReadingLemmas.{read_on-start, read_on-end, read_on-event, read_on-fault, HaveRead-start, HaveRead-event, good_front, no_memory, more_than_none}
+use Rattle.fio_world.specs.Lines.{lines_of}
 use Rattle.fio_world.proofs.scripts.read_steps.Goals as goal
 
 pub lines-init : goal.lines-init
@@ -9,6 +11,7 @@ lines-init c =
     let all = c.into_iter-number-iterator.ensures.into_iter_gives ∙ c.numbered_lines-number-items.ensures in
     record {
       events = read_on-start _ _ c.args.restarts _ _ c.new-steps.ensures.items c.new-steps.ensures.len all;
+      front = HaveRead-start c.args.restarts _ _ _ all c.new-steps.ensures.items;
       few = omega arith;
     }
 
@@ -19,6 +22,8 @@ lines-preserved c =
     record {
       events = rw (c.in_ok-push.ensures.items, c.in_ok-push.ensures.len)
           (sym (read_on-event _ _ _ _ _ _ few gives) ∙ rw c.in-Some.ensures.steps at c.lines.invariant.events);
+      front = rw c.in_ok-push.ensures.items
+          (HaveRead-event _ _ _ _ _ _ _ c.lines.invariant.front c.in-Some.ensures.steps gives);
       few = omega (arith, few, c.in_ok-push.ensures.len);
     }
 
@@ -29,6 +34,17 @@ returns-in_err-step-clause-err c =
     rw (fault.1, fault.2) (λ told.
     sym c.lines.invariant.events
     ∙ read_on-fault _ _ _ _ _ _ _ c.in-Some.ensures.steps few (sym c.in_err-step.ensures))
+
+pub returns-in_err-step-clause-memory : goal.returns-in_err-step-clause-memory
+returns-in_err-step-clause-memory c told =
+    let fault = err_from_is_err_and c.from_residual.result c.from_residual.ensures.1 in
+    absurd (no_memory c.args.restarts (c.in-Some.number, c.in-Some.line.now) (cc (told, fault.1, fault.2, c.in_err-step.ensures)))
+
+pub returns-in_err-push-clause-memory : goal.returns-in_err-push-clause-memory
+returns-in_err-push-clause-memory c told =
+    let few : vec_len c.lines.steps < 10000 = search rules in
+    let read = HaveRead-event _ _ _ _ _ _ _ c.lines.invariant.front c.in-Some.ensures.steps (sym c.in_ok-step.ensures) in
+    good_front c.args.restarts (lines_of c.args.text.now) _ _ read (rw (length_push c.lines.steps.items c.in_ok-step.step) (omega (arith, few))) (more_than_none c.lines.steps.items c.in_ok-step.step)
 
 pub returns-clause-ok : goal.returns-clause-ok
 returns-clause-ok c = grind (arith, common_steps, read_on-end)

@@ -8,20 +8,20 @@ returns-in-Ok-clause-row c settings first machine shown = rw c.outcome.ensures (
 
 pub returns-in-Ok-clause-stands : goal.returns-in-Ok-clause-stands
 returns-in-Ok-clause-stands c settings first events s =
-    sound_world settings first (events ++ c.args.event.now ∷ []) c.happen.new.self
-    (stands_on settings first events c.args.event.now (Ok c.outcome.result) c.args.self.now c.happen.new.self s (returns-in-Ok-clause-row c settings first) tt)
+    sound_world settings first (events ++ c.args.event.now ∷ []) c.happen.new.world
+    (stands_on settings first events c.args.event.now (Ok c.outcome.result) c.args.self.now c.happen.new.world s (returns-in-Ok-clause-row c settings first) tt)
 
 pub returns-in-Ok-clause-headline : goal.returns-in-Ok-clause-headline
 returns-in-Ok-clause-headline c settings first events s =
-    headline_of settings first (events ++ c.args.event.now ∷ []) c.happen.new.self
-    (stands_on settings first events c.args.event.now (Ok c.outcome.result) c.args.self.now c.happen.new.self s (returns-in-Ok-clause-row c settings first) tt)
+    headline_of settings first (events ++ c.args.event.now ∷ []) c.happen.new.world
+    (stands_on settings first events c.args.event.now (Ok c.outcome.result) c.args.self.now c.happen.new.world s (returns-in-Ok-clause-row c settings first) tt)
 
 pub returns-in-Err-clause-stands : goal.returns-in-Err-clause-stands
 returns-in-Err-clause-stands c settings first events s =
-    sound_world settings first events c.happen.new.self
-    (stands_on settings first events c.args.event.now (Err c.in-Err.fault) c.args.self.now c.happen.new.self s (c.in-Err.ensures.row settings first) c.in-Err.ensures.err)
+    sound_world settings first events c.happen.new.world
+    (stands_on settings first events c.args.event.now (Err c.in-Err.fault) c.args.self.now c.happen.new.world s (c.in-Err.ensures.row settings first) c.in-Err.ensures.err)
 
 pub returns-in-Err-clause-headline : goal.returns-in-Err-clause-headline
 returns-in-Err-clause-headline c settings first events s =
-    headline_of settings first events c.happen.new.self
-    (stands_on settings first events c.args.event.now (Err c.in-Err.fault) c.args.self.now c.happen.new.self s (c.in-Err.ensures.row settings first) c.in-Err.ensures.err)
+    headline_of settings first events c.happen.new.world
+    (stands_on settings first events c.args.event.now (Err c.in-Err.fault) c.args.self.now c.happen.new.world s (c.in-Err.ensures.row settings first) c.in-Err.ensures.err)

@@ -1,0 +1,106 @@
+//! Runs of scripts, and what is reported of them.
+ghost use Rattle.std.specs.Prelude.{◌≡◌, ◌≢◌, ◌⊎◌, ◌++◌, Err, map, IfOk, IfErr, OnOk};
+ghost use Rattle.fio_world.specs.Done.{outcome_in};
+ghost use Rattle.fio_world.specs.Lines.{lines_of};
+ghost use Rattle.fio_world.specs.ReportLines.{outcome_line};
+ghost use Rattle.fio_world.specs.Reports.{report_of, Reports};
+ghost use Rattle.fio_world.specs.Scripts.{scenario_of, scenario_with, script_in, HasGoodFront, IsScript};
+
+use crate::outcome::WorldError;
+use crate::report_lines::{push_ending, push_heard, push_quiet, push_refusal, push_sent};
+use crate::reports::Report;
+use crate::script::{Script, ScriptError};
+use crate::scripts::read_header_and_steps;
+use crate::world::{Done, Happens, World};
+use fio_message::Memory;
+use fio_module::Limits;
+use std::alloc::{AllocError, Global};
+
+/// Runs a script, and reports the outcome of each event: a line for each, and below the last one the
+/// module's counter, the CPU's number, how many entries wait, and the record. An event that is refused
+/// has the last line, and is a fault.
+///
+/// # Errors
+/// `Memory` where there was none for the run or for the text.
+pub fn report(alloc: Global, script: &Script) -> Result<Report, Memory>
+    ensures text { IfOk result (λ report.
+        report.text.items ≡ (report_of (scenario_of script.now)).text) }
+    ensures good { IfOk result (λ report.
+        report.good ≡ (report_of (scenario_of script.now)).good) }
+{
+    report_run(
+        alloc,
+        script.id,
+        script.first,
+        script.limits,
+        script.events.as_slice(),
+    )
+}
+
+/// The report of the script that a text spells: `read_script` and `report` in one, without a list of
+/// events. It reads the whole text before it runs anything.
+///
+/// # Errors
+/// The fault of the text's first faulty line; `Memory` where there was none for the steps of the
+/// script, for the run or for the report.
+pub fn report_text(alloc: Global, text: &[u8]) -> Result<Report, ScriptError>
+    ensures ok { IfOk result (λ report.
+        Reports (script_in text.now) report.text.items report.good) }
+    ensures err { IfErr result (λ fault. fault ≢ ScriptError.Memory
+        → script_in text.now ≡ Err fault) }
+    ensures memory { result ≡ Err ScriptError.Memory
+        → HasGoodFront (lines_of text.now) ⊎ IsScript text.now }
+{
+    let (header, steps) = read_header_and_steps(alloc, text)?;
+    match report_run(
+        alloc,
+        header.id,
+        header.first,
+        header.limits,
+        steps.as_slice(),
+    ) {
+        Ok(report) => Ok(report),
+        Err(Memory) => Err(ScriptError::Memory),
+    }
+}
+
+/// The report of what happens to a module and a CPU that are made so.
+fn report_run<T: Happens>(
+    alloc: Global,
+    id: u8,
+    first: u8,
+    limits: Limits,
+    happenings: &[T],
+) -> Result<Report, Memory>
+    ensures text { IfOk result (λ report. report.text.items
+        ≡ (report_of (scenario_with id first limits (map T.event happenings.now))).text) }
+    ensures good { IfOk result (λ report. report.good
+        ≡ (report_of (scenario_with id first limits (map T.event happenings.now))).good) }
+{
+    let mut world = World::with_limits(alloc, id, first, limits)?;
+    let mut text = Vec::new(alloc);
+    for (place, happening) in happenings.iter().enumerate() {
+        match happening.happen(&mut world) {
+            Ok(done) => push_done(&mut text, place + 1, &world, done)?,
+            Err(fault) => {
+                push_refusal(&mut text, place + 1, fault)?;
+                return Ok(Report { text, good: false });
+            }
+        }
+    }
+    push_ending(&mut text, &world)?;
+    Ok(Report { text, good: true })
+}
+
+/// What the event with this number did, in the world after it.
+fn push_done(text: &mut Vec<u8>, number: usize, world: &World, done: Done) -> Result<(), AllocError>
+    ensures { OnOk result (text.new.items
+        ≡ text.old.items ++ outcome_line number (outcome_in world.now done)) }
+{
+    match done {
+        Done::Quiet => push_quiet(text, number),
+        Done::ToModule(index) => push_sent(text, number, index, world.octets_to_module(index)),
+        Done::ToCpu(index) => push_sent(text, number, index, world.octets_to_cpu(index)),
+        Done::Heard(heard) => push_heard(text, number, heard),
+    }
+}
