@@ -1,8 +1,9 @@
-/* Holds another maker's module against the proved one: both are given the same random scripts, and
- * every octet of every answer is compared. A difference is shrunk to a short script.
+/* Holds another maker's module, or another maker's CPU's end, against the proved one: both are given the
+ * same random scripts, and every octet of every answer is compared, or every poll, every item of the
+ * record and the block number. A difference is shrunk to a short script.
  *
- * A maker writes four functions over their module and calls conformance_run. Link conformance.c,
- * conformance_random.c, conformance_report.c and libfio2070.a.
+ * A maker writes four functions over their module, or over their CPU's end, and calls conformance_main
+ * or conformance_cpu_main. Link all files conformance*.c and libfio2070.a.
  */
 #ifndef CONFORMANCE_H
 #define CONFORMANCE_H
@@ -15,7 +16,9 @@
 extern "C" {
 #endif
 
-/* The module under test. */
+/* ---- What is under test ---- */
+
+/* A module. */
 struct maker {
     void *context;
     uint8_t id;        /* what it answers to command 60, one octet */
@@ -27,7 +30,21 @@ struct maker {
     size_t (*exchange)(void *context, const uint8_t *octets, size_t length, uint8_t answer[FIO2070_LONGEST_FRAME]);
 };
 
-/* How often each comes, in 1,000 events; the rest are scans. */
+/* A CPU's end. Here it sends polls alone: the tester sends the other commands. */
+struct cpu_maker {
+    void *context;
+    void (*reset)(void *context, uint8_t number); /* as at its start; its first poll asks for this block */
+    /* Its next poll, also where the poll before had no answer. Returns how many octets it has. */
+    size_t (*poll)(void *context, uint8_t frame[FIO2070_LONGEST_FRAME]);
+    /* Gives it a frame. Returns how many items this adds to its record, and writes them to `items`. */
+    size_t (*hear)(void *context, const uint8_t *octets, size_t length,
+                   struct fio2070_record_item items[FIO2070_MOST_RECORD_ITEMS]);
+    uint8_t (*number)(void *context); /* of the block that its next poll asks for */
+};
+
+/* ---- Running ---- */
+
+/* How often each comes at a module, in 1,000 events; the rest are scans. */
 struct mix {
     unsigned polls;           /* with the next number */
     unsigned repeats;         /* with the number of the poll before, as after a loss */
@@ -40,52 +57,113 @@ struct mix {
     unsigned overflows; /* scripts in 1,000 in which all inputs change and few polls come */
 };
 
-/* What serves for most modules. */
+/* How often each comes at a CPU's end, in 1,000 polls. */
+struct cpu_mix {
+    unsigned lost_polls, lost_answers;
+    unsigned late_answers; /* they come after the next poll, before its answer */
+    unsigned repeats;      /* of a frame, in either direction */
+    unsigned others;       /* commands, whose answers the CPU's end hears too */
+    unsigned hostile;      /* octets that mostly spell no answer, and blocks with other numbers */
+    unsigned overflows;    /* so many scans before a poll that entries are pushed out */
+    unsigned orderly;      /* scripts in 1,000 with losses alone, as `fio2070 check` supposes */
+};
+
+/* What serves for most. */
 extern const struct mix CONFORMANCE_MIX;
+extern const struct cpu_mix CONFORMANCE_CPU_MIX;
 
-enum event_kind { EVENT_SCAN, EVENT_SYNC, EVENT_RESTART, EVENT_FRAME };
+/* Runs scripts of this many events in all. Returns how many events the shortest script has that shows
+ * a difference, and writes it to `out`; 0 where there is none. */
+size_t conformance_run(const struct maker *maker, const struct mix *mix, uint64_t seed, unsigned long events,
+                       FILE *out);
+size_t conformance_cpu_run(const struct cpu_maker *maker, const struct cpu_mix *mix, uint64_t seed,
+                           unsigned long events, FILE *out);
 
-/* What happens at the module. */
+/* What `main` of a tester does with its words, and its status: 0 where there is no difference, 1 where
+ * there is one, 2 where the words or the script are faulty.
+ *     PROGRAM [EVENTS [SEED]]   random scripts, 1,000,000 events with the seed 1
+ *     PROGRAM --replay          the script that comes on standard input */
+int conformance_main(const struct maker *maker, int count, char **words);
+int conformance_cpu_main(const struct cpu_maker *maker, int count, char **words);
+
+/* ---- Scripts ---- */
+
+enum event_kind {
+    EVENT_SCAN,
+    EVENT_SYNC,
+    EVENT_RESTART,
+    EVENT_FRAME,   /* `octets` come to the module */
+    EVENT_POLL,    /* the CPU's end polls */
+    EVENT_COMMAND, /* the tester sends `octets` in the place of the CPU's end */
+    EVENT_DELIVER, /* the frame that was sent last comes to the module */
+    EVENT_ANSWER,  /* an answer comes to the CPU's end: the last one, or one `back` before it */
+    EVENT_HEAR     /* `octets` come to the CPU's end */
+};
+
+/* What happens at the two ends, or on the bus. */
 struct event {
     enum event_kind kind;
     uint64_t inputs; /* of a scan */
-    size_t length;   /* of a frame */
+    unsigned long back;
+    size_t length; /* of a frame */
     uint8_t octets[FIO2070_LONGEST_FRAME + 1];
 };
 
 enum { CONFORMANCE_LONGEST = 400 /* events of a script */ };
 
 struct script {
+    uint8_t id, per_block; /* of the module */
+    uint8_t number;        /* of the first block that the CPU's end asks for */
     size_t length;
     struct event events[CONFORMANCE_LONGEST];
 };
 
-/* The answers of both modules to the last frame of a script. */
-struct difference {
-    size_t wanted_length, got_length;
-    uint8_t wanted[FIO2070_LONGEST_FRAME], got[FIO2070_LONGEST_FRAME];
+/* What is under test: one of the two is NULL. */
+struct ends {
+    const struct maker *module;
+    const struct cpu_maker *cpu;
 };
 
-/* Runs scripts of this many events in all. Returns how many events the shortest script has that shows
- * a difference, and writes it to `out`; 0 where there is none. */
-size_t conformance_run(const struct maker *maker, const struct mix *mix, uint64_t seed, unsigned long events,
-                       FILE *out);
-
-/* Runs a script on both modules. Returns 0 where all answers are the same, else the number of the
- * event, from 1, whose answers are not. */
-size_t conformance_compare(const struct maker *maker, const struct script *script, struct difference *difference);
+/* What the proved end and the one under test did at the last event. */
+struct difference {
+    size_t wanted_length, got_length; /* of the answers, or of the polls; 0 where the CPU's end heard a frame */
+    uint8_t wanted[FIO2070_LONGEST_FRAME], got[FIO2070_LONGEST_FRAME];
+    uint8_t heard;                  /* what the frame was that the CPU's end heard: an enum fio2070_heard_kind */
+    size_t wanted_items, got_items; /* that the record gained */
+    struct fio2070_record_item wanted_record[FIO2070_MOST_RECORD_ITEMS], got_record[FIO2070_MOST_RECORD_ITEMS];
+    uint8_t wanted_number, got_number; /* of the CPU's end */
+};
 
 /* Fills a script of CONFORMANCE_LONGEST events. */
-void conformance_random(struct script *script, const struct mix *mix, uint64_t *state);
+void conformance_random(struct script *script, const struct maker *maker, const struct mix *mix, uint64_t *state);
+void conformance_cpu_random(struct script *script, const struct cpu_mix *mix, uint64_t *state);
 
-/* Writes a script in the format of `fio2070 simulate`, the two answers to its last frame, and the rule
- * of docs/PROTOCOL.md that it is about, where that can be said. A poll out of sequence and octets that
- * spell no command are written as `send` too, although simulate refuses those lines. */
-void conformance_report(const struct maker *maker, const struct script *script, const struct difference *difference,
+/* Runs a script on both ends. Returns 0 where all is the same, else the number of the event, from 1, at
+ * which it is not. */
+size_t conformance_compare(const struct ends *ends, const struct script *script, struct difference *difference);
+
+/* Leaves out of a script what its difference does not need. */
+void conformance_shrink(const struct ends *ends, struct script *script);
+
+/* Writes a script in the format of `fio2070 simulate`. A frame that simulate's own ends do not send
+ * stands as a remark, and then the first line is one too, so that simulate refuses the script. */
+void conformance_write(const struct script *script, FILE *out);
+
+/* Reads a script that conformance_write wrote. Returns 0, or the number of the first faulty line. */
+unsigned long conformance_read(struct script *script, FILE *in);
+
+/* Writes the frames of a script as the CPU's end under test logs them, in the format of `fio2070 check`,
+ * each line after `head`. The last line is its next poll. */
+void conformance_transcript(const struct cpu_maker *maker, const struct script *script, const char *head, FILE *out);
+
+/* Writes a script, the difference at its last event, and the rule of docs/PROTOCOL.md that it is about,
+ * where that can be said; of a CPU's end the transcript too. */
+void conformance_report(const struct ends *ends, const struct script *script, const struct difference *difference,
                         FILE *out);
 
-/* The rule of docs/PROTOCOL.md, in its words, or NULL. */
+/* The rule of docs/PROTOCOL.md, in its words, or NULL: of the answer to these octets, and of a CPU's end. */
 const char *conformance_rule(const uint8_t *octets, size_t length, const struct difference *difference);
+const char *conformance_cpu_rule(const struct difference *difference);
 
 #ifdef __cplusplus
 }

@@ -1,9 +1,11 @@
-/* Random scripts: the events at a module whose CPU polls, loses answers, configures and errs. */
-#include "conformance.h"
+/* Random scripts: the events at a module whose CPU polls, loses answers, configures and errs; and those
+ * at a CPU's end, on a bus that loses, repeats and delays frames. */
+#include "conformance_link.h"
 
 #include <string.h>
 
 const struct mix CONFORMANCE_MIX = {100, 30, 10, 40, 60, 20, 20, 2, 250};
+const struct cpu_mix CONFORMANCE_CPU_MIX = {100, 100, 100, 100, 100, 100, 10, 250};
 
 /* xorshift64* */
 static uint64_t next_random(uint64_t *state) {
@@ -123,23 +125,164 @@ static void random_event(struct event *event, const struct mix *mix, struct cour
     }
 }
 
-void conformance_random(struct script *script, const struct mix *mix, uint64_t *state) {
+/* All inputs are reported with these filters, or with short ones where the filter is 0. */
+static void open_filters(struct event *event, unsigned filter, uint64_t *state) {
+    unsigned input;
+    event->length = 2 + 3 * 64;
+    event->octets[0] = FIO2070_CONFIGURE_INPUTS;
+    event->octets[1] = 64;
+    for (input = 0; input < 64; input++) {
+        uint8_t *item = event->octets + 2 + 3 * input;
+        item[0] = (uint8_t)input;
+        item[1] = item[2] = (uint8_t)(filter > 0 ? filter : below(state, 4));
+    }
+}
+
+void conformance_random(struct script *script, const struct maker *maker, const struct mix *mix, uint64_t *state) {
     struct course course;
     course.number = below(state, 256);
     course.levels = ~(uint64_t)0;
     course.overflows = below(state, 1000) < mix->overflows;
     memset(script, 0, sizeof *script);
+    script->id = maker->id;
+    script->per_block = maker->per_block;
     for (script->length = 0; script->length < CONFORMANCE_LONGEST; script->length++) {
         random_event(&script->events[script->length], mix, &course, state);
     }
-    /* All inputs are reported from the start, so that entries come at once. */
+    /* So that entries come at once. */
     script->events[0].kind = EVENT_FRAME;
-    script->events[0].length = 2 + 3 * 64;
-    script->events[0].octets[0] = FIO2070_CONFIGURE_INPUTS;
-    script->events[0].octets[1] = 64;
-    for (course.number = 0; course.number < 64; course.number++) {
-        uint8_t *item = script->events[0].octets + 2 + 3 * course.number;
-        item[0] = (uint8_t)course.number;
-        item[1] = item[2] = (uint8_t)(course.overflows ? 1 : below(state, 4));
+    open_filters(&script->events[0], course.overflows ? 1 : 0, state);
+}
+
+/* ---- At a CPU's end ---- */
+
+/* A script that grows, and both proved ends after it. */
+struct growth {
+    struct script *script;
+    struct link link;
+    struct course course;
+    int is_orderly;
+    uint64_t *state;
+};
+
+/* The next event, for the caller to fill; NULL where the script is full. */
+static struct event *next_event(struct growth *growth, enum event_kind kind) {
+    struct script *script = growth->script;
+    struct event *event;
+    if (script->length == CONFORMANCE_LONGEST) return NULL;
+    event = &script->events[script->length++];
+    event->kind = kind;
+    return event;
+}
+
+static void happen(struct growth *growth, const struct event *event) {
+    static struct difference ignored;
+    if (event != NULL) link_step(&growth->link, event, &ignored);
+}
+
+static void add(struct growth *growth, enum event_kind kind) { happen(growth, next_event(growth, kind)); }
+
+static void add_answer(struct growth *growth, unsigned back) {
+    struct event *event = next_event(growth, EVENT_ANSWER);
+    if (event != NULL) event->back = back;
+    happen(growth, event);
+}
+
+static void add_scans(struct growth *growth, unsigned count, int overflows) {
+    while (count-- > 0) {
+        struct event *event = next_event(growth, EVENT_SCAN);
+        if (event == NULL) return;
+        growth->course.overflows = overflows;
+        random_scan(event, &growth->course, growth->state);
+        happen(growth, event);
+    }
+}
+
+/* A command of the controller, and its answer, if there is one; loads of the counter happen at once. */
+static void add_command(struct growth *growth, const struct cpu_mix *mix) {
+    unsigned long answered = growth->link.answered;
+    struct event *event = next_event(growth, EVENT_COMMAND);
+    if (event == NULL) return;
+    event->length = random_command(event->octets, FIO2070_LONGEST_FRAME, growth->state);
+    happen(growth, event);
+    add(growth, EVENT_DELIVER);
+    if (growth->link.answered > answered && below(growth->state, 1000) >= mix->lost_answers) add_answer(growth, 0);
+    add(growth, EVENT_SYNC);
+}
+
+/* A block with the number that is due, or with one near it. */
+static size_t random_block(uint8_t *octets, const struct growth *growth) {
+    struct fio2070_entry entries[FIO2070_MOST_ENTRIES];
+    uint64_t *state = growth->state;
+    size_t count = below(state, 4) == 0 ? below(state, 256) : below(state, 4), place;
+    for (place = 0; place < count; place++) {
+        entries[place].input = (uint8_t)below(state, 128);
+        entries[place].state = (uint8_t)below(state, 2);
+        entries[place].stamp = (uint16_t)next_random(state);
+    }
+    memset(entries + count, 0, (FIO2070_MOST_ENTRIES - count) * sizeof entries[0]);
+    return fio2070_encode_block_answer((uint8_t)(growth->link.cpu.number + below(state, 3) - 1), entries, count,
+                                       (uint8_t)next_random(state), (uint32_t)next_random(state), octets,
+                                       FIO2070_LONGEST_FRAME);
+}
+
+/* Octets that no module sent: a block or an answer with an octet changed, cut short, or with one too many. */
+static void add_hostile(struct growth *growth) {
+    const struct frame *answer = &growth->link.answers[growth->link.answered % KEPT_ANSWERS];
+    struct event *event = next_event(growth, EVENT_HEAR);
+    uint64_t *state = growth->state;
+    if (event == NULL) return;
+    event->length = answer->length;
+    memcpy(event->octets, answer->octets, answer->length);
+    if (answer->length == 0 || below(state, 2) == 0) event->length = random_block(event->octets, growth);
+    switch (below(state, 4)) {
+    case 0: event->octets[below(state, (unsigned)event->length)] = (uint8_t)next_random(state); break;
+    case 1: event->length = below(state, (unsigned)event->length); break;
+    case 2: event->octets[event->length++] = (uint8_t)next_random(state); break;
+    default: break;
+    }
+    happen(growth, event);
+}
+
+/* Scans, a poll and what becomes of it. */
+static void add_poll(struct growth *growth, const struct cpu_mix *mix) {
+    unsigned disorder = growth->is_orderly ? 1000 : below(growth->state, 1000);
+    int overflows = below(growth->state, 1000) < mix->overflows;
+    add_scans(growth, overflows ? 17 : below(growth->state, 3), overflows);
+    add(growth, EVENT_POLL);
+    if (below(growth->state, 1000) < mix->lost_polls) return;
+    add(growth, EVENT_DELIVER);
+    if (disorder < mix->repeats) add(growth, EVENT_DELIVER);
+    if (below(growth->state, 1000) < mix->lost_answers) return;
+    if (!growth->is_orderly && below(growth->state, 1000) < mix->late_answers) {
+        add(growth, EVENT_POLL);
+        add(growth, EVENT_DELIVER);
+        add_answer(growth, 1);
+    }
+    add_answer(growth, 0);
+    if (disorder < mix->repeats) add_answer(growth, 0);
+    if (disorder >= 1000 - mix->hostile && !growth->is_orderly) add_hostile(growth);
+}
+
+void conformance_cpu_random(struct script *script, const struct cpu_mix *mix, uint64_t *state) {
+    static struct growth growth;
+    struct ends none = {NULL, NULL};
+    struct event *event;
+    memset(script, 0, sizeof *script);
+    script->id = 2;
+    script->per_block = FIO2070_MOST_ENTRIES;
+    script->number = (uint8_t)(below(state, 2) == 0 ? 250 + below(state, 6) : below(state, 256));
+    growth.script = script;
+    growth.course.levels = ~(uint64_t)0;
+    growth.is_orderly = below(state, 1000) < mix->orderly;
+    growth.state = state;
+    link_start(&growth.link, &none, script);
+    event = next_event(&growth, EVENT_COMMAND);
+    open_filters(event, 1, state);
+    happen(&growth, event);
+    add(&growth, EVENT_DELIVER);
+    while (script->length < CONFORMANCE_LONGEST) {
+        if (below(state, 1000) < mix->others) add_command(&growth, mix);
+        add_poll(&growth, mix);
     }
 }

@@ -1,5 +1,5 @@
-/* The script that shows a difference, the two answers, and the rule that it is about. */
-#include "conformance.h"
+/* The script that shows a difference, what both ends did, and the rule that it is about. */
+#include "conformance_link.h"
 
 #include <string.h>
 
@@ -71,101 +71,108 @@ const char *conformance_rule(const uint8_t *octets, size_t length, const struct 
     return rule_of_type(octets[0], difference);
 }
 
-/* ---- The script ---- */
+/* ---- Of a CPU's end ---- */
 
-static void write_octets(FILE *out, const uint8_t *octets, size_t length) {
+/* The first item that both have and that is not the same, or how many items the shorter record has. */
+static size_t first_item(const struct difference *difference) {
+    size_t place = 0;
+    while (place < difference->wanted_items && place < difference->got_items &&
+           link_same_items(&difference->wanted_record[place], &difference->got_record[place])) {
+        place++;
+    }
+    return place;
+}
+
+static const char *rule_of_item(const struct fio2070_record_item *wanted, const struct fio2070_record_item *got) {
+    if (wanted->gap == got->gap && wanted->input == got->input && wanted->stamp == got->stamp) {
+        if (wanted->state != got->state) return "bit 7: the state after the transition; bits 6 to 0: the input number";
+        return "the one number that has the entry's 16 bits as its low 16 bits and lies fewer than 65,536 steps";
+    }
+    return "Taking a block appends one gap mark where F is set, and then all of its entries in order.";
+}
+
+const char *conformance_cpu_rule(const struct difference *difference) {
+    size_t place = first_item(difference);
+    if (difference->wanted_length > 0) return "until then each poll asks for the same block again.";
+    switch (difference->heard) {
+    case FIO2070_UNREADABLE: return "spells no answer";
+    case FIO2070_OTHER: return "is an answer of another type than 182";
+    case FIO2070_STALE: return "is a 182 with another number than the CPU's";
+    default: break;
+    }
+    if (place < difference->wanted_items || place < difference->got_items) {
+        return rule_of_item(&difference->wanted_record[place], &difference->got_record[place]);
+    }
+    return "It rises by one, with 0 after 255, only when an answer with that number is taken";
+}
+
+/* ---- The report ---- */
+
+static void write_octets(const char *who, const uint8_t *octets, size_t length, FILE *out) {
     size_t place;
+    fprintf(out, "# %s: ", who);
     for (place = 0; place < length; place++) fprintf(out, "%02x", octets[place]);
+    fputs(length == 0 ? "none\n" : "\n", out);
 }
 
-static int is_poll(const struct event *event) {
-    return event->kind == EVENT_FRAME && event->length == 2 && event->octets[0] == FIO2070_POLL;
-}
-
-/* The number of the first poll from this event on; `other` where there is none. */
-static uint8_t next_poll(const struct script *script, size_t place, uint8_t other) {
-    for (; place < script->length; place++) {
-        if (is_poll(&script->events[place])) return script->events[place].octets[1];
+/* The number, how many items the record gained, and the first of them that is not the same. */
+static void write_record(const char *who, uint8_t number, const struct fio2070_record_item *items, size_t count,
+                         size_t place, FILE *out) {
+    const struct fio2070_record_item *item = &items[place];
+    fprintf(out, "# %s: number %u items %lu", who, number, (unsigned long)count);
+    if (place < count) {
+        fprintf(out, " item %lu ", (unsigned long)place);
+        if (item->gap) {
+            fputs("gap", out);
+        } else {
+            fprintf(out, "input %u state %u stamp %u wide %lu", item->input, item->state, item->stamp,
+                    (unsigned long)item->wide);
+        }
     }
-    return other;
-}
-
-static void write_header(const struct maker *maker, const struct script *script, FILE *out) {
-    int version = 1;
-    size_t place;
-    for (place = 0; place < script->length; place++) {
-        if (script->events[place].kind == EVENT_RESTART) version = 2;
-    }
-    if (maker->per_block != FIO2070_MOST_ENTRIES) version = 3;
-    fprintf(out, "fio2070 script %d %u %u", version, maker->id, next_poll(script, 0, 0));
-    if (version == 3) fprintf(out, " %u %u", maker->per_block, FIO2070_MOST_WAITING);
     fputs("\n", out);
 }
 
-/* How many frames went in each direction, and the CPU's number. */
-struct link_state {
-    unsigned long sent, answered;
-    uint8_t number;
-};
-
-/* A frame that is sent and delivered. The CPU takes the answer to a poll where its next poll has the
- * next number; else the answer is lost. */
-static void write_frame(const struct script *script, size_t place, struct link_state *state, FILE *out) {
-    const struct event *event = &script->events[place];
-    int is_own = is_poll(event) && event->octets[1] == state->number;
-    if (is_own) {
-        fputs("poll\n", out);
-    } else {
-        fputs("send ", out);
-        write_octets(out, event->octets, event->length);
-        fputs("\n", out);
-    }
-    fprintf(out, "to-module %lu\n", ++state->sent);
-    if (is_own && next_poll(script, place + 1, state->number) == (uint8_t)(state->number + 1)) {
-        fprintf(out, "to-cpu %lu\n", state->answered + 1);
-        state->number++;
-    }
+static void write_difference(const struct difference *difference, FILE *out) {
+    size_t place = first_item(difference);
+    write_record("wanted", difference->wanted_number, difference->wanted_record, difference->wanted_items, place, out);
+    write_record("got", difference->got_number, difference->got_record, difference->got_items, place, out);
 }
 
-static void write_script(const struct maker *maker, const struct script *script, FILE *out) {
-    struct link_state state = {0, 0, 0};
-    static struct fio2070_module module;
-    uint8_t answer[FIO2070_LONGEST_FRAME];
-    size_t place;
-    int octet;
-    memset(answer, 0, sizeof answer);
-    state.number = next_poll(script, 0, 0);
-    fio2070_module_start(&module, maker->id, maker->per_block);
-    for (place = 0; place < script->length; place++) {
-        const struct event *event = &script->events[place];
-        switch (event->kind) {
-        case EVENT_SCAN:
-            fputs("scan ", out);
-            for (octet = 0; octet < 8; octet++) fprintf(out, "%02x", (unsigned)(event->inputs >> 8 * octet & 255));
-            fputs("\n", out);
-            break;
-        case EVENT_SYNC: fputs("sync\n", out); break;
-        case EVENT_RESTART: fputs("restart\n", out); break;
-        case EVENT_FRAME:
-            write_frame(script, place, &state, out);
-            if (fio2070_module_receive(&module, event->octets, event->length, answer) > 0) state.answered++;
-        }
-    }
-}
-
-static void write_answer(const char *who, const uint8_t *octets, size_t length, FILE *out) {
-    fprintf(out, "# %s: ", who);
-    write_octets(out, octets, length);
-    fputs(length == 0 ? "no answer\n" : "\n", out);
-}
-
-void conformance_report(const struct maker *maker, const struct script *script, const struct difference *difference,
-                        FILE *out) {
+/* The octets that came to the module last. */
+static void last_command(const struct script *script, struct frame *frame) {
     const struct event *last = &script->events[script->length - 1];
-    const char *rule = conformance_rule(last->octets, last->length, difference);
-    write_header(maker, script, out);
-    write_script(maker, script, out);
-    write_answer("wanted", difference->wanted, difference->wanted_length, out);
-    write_answer("got", difference->got, difference->got_length, out);
+    const struct ends none = {NULL, NULL};
+    static struct difference ignored;
+    static struct link link;
+    size_t place;
+    link_start(&link, &none, script);
+    for (place = 0; place < script->length; place++) link_step(&link, &script->events[place], &ignored);
+    *frame = link.command;
+    if (last->kind != EVENT_FRAME) return;
+    frame->length = last->length;
+    memcpy(frame->octets, last->octets, last->length);
+}
+
+static void write_rule(const char *rule, FILE *out) {
     if (rule != NULL) fprintf(out, "# rule: %s\n", rule);
+}
+
+void conformance_report(const struct ends *ends, const struct script *script, const struct difference *difference,
+                        FILE *out) {
+    static struct frame frame;
+    conformance_write(script, out);
+    if (ends->cpu == NULL || difference->wanted_length > 0) {
+        write_octets("wanted", difference->wanted, difference->wanted_length, out);
+        write_octets("got", difference->got, difference->got_length, out);
+    } else {
+        write_difference(difference, out);
+    }
+    if (ends->cpu == NULL) {
+        last_command(script, &frame);
+        write_rule(conformance_rule(frame.octets, frame.length, difference), out);
+    } else {
+        write_rule(conformance_cpu_rule(difference), out);
+        fputs("# transcript:\n", out);
+        conformance_transcript(ends->cpu, script, "# ", out);
+    }
 }

@@ -1,7 +1,8 @@
 /* Holds the proved module against itself, and then twelve wrong ones. Each must be found and shrunk to
  * fewer than 30 lines of a script. The last line is `N passed, M failed`.
  *
- *     conforms EVENTS SEED [FAULT]
+ *     conforms EVENTS SEED
+ *     conforms FAULT --replay   the wrong module of this number, on the script of standard input
  */
 #include "conformance.h"
 
@@ -114,6 +115,10 @@ int main(int arguments, char **words) {
     unsigned long events = arguments > 1 ? strtoul(words[1], NULL, 10) : 1000000;
     uint64_t seed = arguments > 2 ? strtoul(words[2], NULL, 10) : 1;
     int passed = 0, failed = 0, fault;
+    if (arguments == 3 && strcmp(words[2], "--replay") == 0) {
+        wrong.fault = (enum fault)events;
+        return conformance_main(&MAKER, 2, words + 1);
+    }
     for (fault = NONE; fault < FAULTS; fault++) {
         size_t found;
         wrong.fault = (enum fault)fault;
