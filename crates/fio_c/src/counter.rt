@@ -1,6 +1,6 @@
 //! The millisecond counter in memory of the caller, and times in 32 bits.
 ghost use Rattle.std.specs.Prelude.{◌≡◌, List, [], ◌∷◌};
-ghost use Rattle.fio_input.specs.Counter.{CounterEvent, Tick, AskLoad, LineSync, StandsFor, counter as counter_after};
+ghost use Rattle.fio_input.specs.Counter.{CounterEvent, Tick, AskLoad, LineSync, IsCounterAfter, counter as counter_after};
 ghost use Rattle.fio_input.specs.Widening.{widened};
 
 use fio_input::{Counter, widen};
@@ -8,7 +8,7 @@ use fio_input::{Counter, widen};
 /// A counter at 0 (own profile), with no load asked for.
 #[unsafe(no_mangle)]
 pub extern "C" fn fio2070_counter_start(counter: &mut Counter)
-    ensures { StandsFor counter.new [] }
+    ensures { IsCounterAfter counter.new [] }
 {
     *counter = Counter::new();
 }
@@ -16,8 +16,8 @@ pub extern "C" fn fio2070_counter_start(counter: &mut Counter)
 /// Steps the counter by one, as each scan does before it samples the inputs (own profile).
 #[unsafe(no_mangle)]
 pub extern "C" fn fio2070_counter_tick(counter: &mut Counter)
-    ensures { (history : List CounterEvent) → StandsFor counter.old history
-        → StandsFor counter.new (Tick ∷ history) }
+    ensures { (history : List CounterEvent) → IsCounterAfter counter.old history
+        → IsCounterAfter counter.new (Tick ∷ history) }
 {
     counter.tick();
 }
@@ -26,8 +26,8 @@ pub extern "C" fn fio2070_counter_tick(counter: &mut Counter)
 /// for before (own profile).
 #[unsafe(no_mangle)]
 pub extern "C" fn fio2070_counter_ask_load(counter: &mut Counter, number: u32)
-    ensures { (history : List CounterEvent) → StandsFor counter.old history
-        → StandsFor counter.new (AskLoad number ∷ history) }
+    ensures { (history : List CounterEvent) → IsCounterAfter counter.old history
+        → IsCounterAfter counter.new (AskLoad number ∷ history) }
 {
     counter.ask_load(number);
 }
@@ -35,8 +35,8 @@ pub extern "C" fn fio2070_counter_ask_load(counter: &mut Counter, number: u32)
 /// LINESYNC goes from 0 to 1: a load that was asked for happens now (TEES 2009).
 #[unsafe(no_mangle)]
 pub extern "C" fn fio2070_counter_line_sync(counter: &mut Counter)
-    ensures { (history : List CounterEvent) → StandsFor counter.old history
-        → StandsFor counter.new (LineSync ∷ history) }
+    ensures { (history : List CounterEvent) → IsCounterAfter counter.old history
+        → IsCounterAfter counter.new (LineSync ∷ history) }
 {
     counter.line_sync();
 }
@@ -44,7 +44,7 @@ pub extern "C" fn fio2070_counter_line_sync(counter: &mut Counter)
 /// The milliseconds counted, modulo 2^32.
 #[unsafe(no_mangle)]
 pub extern "C" fn fio2070_counter_now(counter: &Counter) -> u32
-    ensures { (history : List CounterEvent) → StandsFor counter.now history
+    ensures { (history : List CounterEvent) → IsCounterAfter counter.now history
         → result ≡ counter_after history }
 {
     counter.now()

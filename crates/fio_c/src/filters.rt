@@ -1,8 +1,8 @@
 //! The filters of the 64 inputs in memory of the caller.
 ghost use Rattle.std.specs.Prelude.{◌≡◌, ◌<◌, ◌≤◌, ℕ, List, [], ◌∷◌, Some, None, length};
 ghost use Rattle.fio_message.specs.Bits.{is_set};
-ghost use Rattle.fio_input.specs.FilterHistory.{FilterEvent, Configure, Scan, is_reported, state, raw_levels};
-ghost use Rattle.fio_input.specs.Filters.{StandsFor};
+ghost use Rattle.fio_input.specs.FilterHistory.{FilterEvent, Configure, Scan, is_reported, input_state, raw_levels};
+ghost use Rattle.fio_input.specs.Filters.{AreFiltersAfter};
 ghost use Rattle.fio_c.specs.Flat.{read_items, first_absent};
 
 use crate::command_frames::read_items;
@@ -13,7 +13,7 @@ use fio_input::Filters;
 /// filtered state are 1 (own profile).
 #[unsafe(no_mangle)]
 pub extern "C" fn fio2070_filters_start(filters: &mut Filters)
-    ensures { StandsFor filters.new [] }
+    ensures { AreFiltersAfter filters.new [] }
 {
     *filters = Filters::new();
 }
@@ -22,9 +22,9 @@ pub extern "C" fn fio2070_filters_start(filters: &mut Filters)
 /// each input that is not ignored and whose filtered state changed.
 #[unsafe(no_mangle)]
 pub extern "C" fn fio2070_filters_scan(filters: &mut Filters, raw: u64) -> u64
-    ensures carried { (history : List FilterEvent) → StandsFor filters.old history
-        → StandsFor filters.new (Scan raw ∷ history) }
-    ensures reported { (history : List FilterEvent) → StandsFor filters.old history
+    ensures carried { (history : List FilterEvent) → AreFiltersAfter filters.old history
+        → AreFiltersAfter filters.new (Scan raw ∷ history) }
+    ensures reported { (history : List FilterEvent) → AreFiltersAfter filters.old history
         → (input : ℕ) → input < 64 → is_set result input ≡ is_reported input raw history }
 {
     filters.scan(raw)
@@ -33,8 +33,8 @@ pub extern "C" fn fio2070_filters_scan(filters: &mut Filters, raw: u64) -> u64
 /// The filtered state of each input: bit i is input i.
 #[unsafe(no_mangle)]
 pub extern "C" fn fio2070_filters_filtered(filters: &Filters) -> u64
-    ensures { (history : List FilterEvent) → StandsFor filters.now history
-        → (input : ℕ) → input < 64 → is_set result input ≡ state input history }
+    ensures { (history : List FilterEvent) → AreFiltersAfter filters.now history
+        → (input : ℕ) → input < 64 → is_set result input ≡ input_state input history }
 {
     filters.filtered()
 }
@@ -42,7 +42,7 @@ pub extern "C" fn fio2070_filters_filtered(filters: &Filters) -> u64
 /// The raw levels of the last scan, all ones before any (own profile): bit i is input i.
 #[unsafe(no_mangle)]
 pub extern "C" fn fio2070_filters_raw(filters: &Filters) -> u64
-    ensures { (history : List FilterEvent) → StandsFor filters.now history
+    ensures { (history : List FilterEvent) → AreFiltersAfter filters.now history
         → result ≡ raw_levels history }
 {
     filters.raw()
@@ -68,8 +68,8 @@ pub extern "C" fn fio2070_filters_configure(
 ) -> Configured
     ensures applied { length items.now ≤ 255 → first_absent items.now ≡ None
         → (result ≡ record { kind = 0; place = 0 })
-        × ((history : List FilterEvent) → StandsFor filters.old history
-        → StandsFor filters.new (Configure (read_items items.now) ∷ history)) }
+        × ((history : List FilterEvent) → AreFiltersAfter filters.old history
+        → AreFiltersAfter filters.new (Configure (read_items items.now) ∷ history)) }
     ensures absent { (place : ℕ) → length items.now ≤ 255 → first_absent items.now ≡ Some place
         → (result ≡ record { kind = 1; place = place }) × (filters.new ≡ filters.old) }
     ensures many { 255 < length items.now

@@ -1,7 +1,7 @@
 //! The module, in memory of the caller.
 ghost use Rattle.std.specs.Prelude.{◌≡◌, ◌≢◌, ◌<◌, ◌-◌, ℕ, List, ◌∷◌, [], length, min, unwrap_or};
 ghost use Rattle.fio_message.specs.Bits.{is_set};
-ghost use Rattle.fio_input.specs.FilterHistory.{state};
+ghost use Rattle.fio_input.specs.FilterHistory.{input_state};
 ghost use Rattle.fio_module.specs.Settings.{Settings};
 ghost use Rattle.fio_module.specs.Life.{History, Scan, LineSync, Raise, Received, Restart, life_of, counter_of, filter_events};
 ghost use Rattle.fio_module.specs.Log.{log_of};
@@ -151,7 +151,7 @@ pub extern "C" fn fio2070_module_filtered(device: &Module) -> u64
     ensures { (settings : Settings) (history : History)
         → StandsFor settings device.now history
         → (input : ℕ) → input < 64
-        → is_set result input ≡ state input (filter_events (life_of history)) }
+        → is_set result input ≡ input_state input (filter_events (life_of history)) }
 {
     device.state.filtered()
 }

@@ -5,9 +5,9 @@ use Rattle.std.proofs.lemmas.Bool.{cases_eq}
 use Rattle.fio_message.specs.Bits.{is_set}
 use Rattle.fio_message.specs.declared.fields.InputItem.{InputItem}
 use Rattle.fio_input.specs.declared.filters.Filters.{Filters}
-use Rattle.fio_input.specs.Filtering.{filtered_state}
-use Rattle.fio_input.specs.FilterHistory.{FilterEvent, Configure, all_present, applied_items, last_item_of, setting_by, setting, samples, base}
-use Rattle.fio_input.specs.Filters.{Keeps, StandsFor}
+use Rattle.fio_input.specs.FilterRule.{filtered_state}
+use Rattle.fio_input.specs.FilterHistory.{FilterEvent, Configure, all_present, applied_items, last_item_of, setting_by, input_setting, input_samples, state_at_configuration}
+use Rattle.fio_input.specs.Filters.{KeepsInput, AreFiltersAfter}
 use Rattle.fio_input.proofs.History.{state_by}
 use Rattle.fio_input.proofs.LastItem.{last_item_of-push_same, last_item_of-push_other}
 use Rattle.fio_input.proofs.Present.{all_present-push, applied_items-all}
@@ -15,18 +15,18 @@ use Rattle.fio_input.proofs.Present.{all_present-push, applied_items-all}
 -- what is kept of an input after a configuration whose last item that names the input is this one
 abbrev KeepsAfter : Filters → ℕ → List FilterEvent → Option InputItem → Type 0
 KeepsAfter filters input history named =
-    let before = setting input history in
-    let older = samples input history in
-    let level = base input history in
+    let before = input_setting input history in
+    let older = input_samples input history in
+    let level = state_at_configuration input history in
     let older' = if is_some named then [] else older in
     let level' = if is_some named then filtered_state before level older else level in
-    Keeps filters input (setting_by named before) older' (filtered_state (setting_by named before) level' older')
+    KeepsInput filters input (setting_by named before) older' (filtered_state (setting_by named before) level' older')
 
 module _ (old : Filters) (item : InputItem) (ignored : ℕ) (items : List InputItem) (history : List FilterEvent)
     (inside : item.input < 64) (leading_fits : item.leading ≤ 255) (trailing_fits : item.trailing ≤ 255)
     (lengths_long : length old.run_lengths ≡ 64) (leading_long : length old.leading ≡ 64) (trailing_long : length old.trailing ≡ 64)
     (here : is_set ignored item.input ≡ item.ignore) (elsewhere : (i : ℕ) → i < 64 → i ≢ item.input → is_set ignored i ≡ is_set old.ignored i)
-    (present : all_present items ≡ true) (s : StandsFor old (Configure items ∷ history)) where
+    (present : all_present items ≡ true) (s : AreFiltersAfter old (Configure items ∷ history)) where
   abbrev new : Filters
   new =
       record old {
@@ -53,7 +53,7 @@ module _ (old : Filters) (item : InputItem) (ignored : ℕ) (items : List InputI
         leading_fits = leading_fits;
         trailing_fits = trailing_fits;
         ignored = here;
-        filtered = (s.inputs i inside).filtered ∙ state_by (last_item_of i (applied_items items)) (setting i history) (base i history) (samples i history);
+        filtered = (s.inputs i inside).filtered ∙ state_by (last_item_of i (applied_items items)) (input_setting i history) (state_at_configuration i history) (input_samples i history);
       }
 
   -- what is kept of another input
@@ -85,11 +85,11 @@ module _ (old : Filters) (item : InputItem) (ignored : ℕ) (items : List InputI
       subst (KeepsAfter new i history) (sym last) (at_other i h other)
 
   -- the filters have been through the configuration with one more item
-  pub item_carries : StandsFor new (Configure more ∷ history)
+  pub item_carries : AreFiltersAfter new (Configure more ∷ history)
   item_carries = record { raw = s.raw; inputs = λ i h. after i h (cases_eq i item.input) }
 
 -- filters that no item is applied to have been through the configuration as they are
-pub StandsFor-unapplied : (filters : Filters) (items : List InputItem) (history : List FilterEvent) → applied_items items ≡ []
-    → StandsFor filters history → StandsFor filters (Configure items ∷ history)
-StandsFor-unapplied filters items history none s =
+pub AreFiltersAfter-unapplied : (filters : Filters) (items : List InputItem) (history : List FilterEvent) → applied_items items ≡ []
+    → AreFiltersAfter filters history → AreFiltersAfter filters (Configure items ∷ history)
+AreFiltersAfter-unapplied filters items history none s =
     record { raw = s.raw; inputs = λ i h. subst (KeepsAfter filters i history) (ap (last_item_of i) (sym none)) (s.inputs i h) }

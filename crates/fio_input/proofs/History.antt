@@ -2,8 +2,8 @@
 use Rattle.std.proofs.Common.{◌≡◌, ℕ, Bool, true, false, if◌then◌else◌, List, [], ◌∷◌, Option, Some, None, is_some, refl}
 use Rattle.fio_message.specs.Bits.{is_set}
 use Rattle.fio_message.specs.declared.fields.InputItem.{InputItem}
-use Rattle.fio_input.specs.Filtering.{Setting, filtered_state}
-use Rattle.fio_input.specs.FilterHistory.{FilterEvent, Configure, Scan, applied_items, last_item_of, setting_by, apply_to, setting, samples, base, state, raw_levels}
+use Rattle.fio_input.specs.FilterRule.{Setting, filtered_state}
+use Rattle.fio_input.specs.FilterHistory.{FilterEvent, Configure, Scan, applied_items, last_item_of, setting_by, applies_to, input_setting, input_samples, state_at_configuration, input_state, raw_levels}
 use Rattle.fio_input.proofs.RunLengths.{LatestIs}
 
 latest_if : (fresh level : Bool) (older : List Bool) → LatestIs level older → LatestIs level (if fresh then [] else older)
@@ -11,10 +11,10 @@ latest_if true level older h = tt
 latest_if false level older h = h
 
 -- the latest sample of an input is its raw level
-pub latest_is : (input : ℕ) (history : List FilterEvent) → LatestIs (is_set (raw_levels history) input) (samples input history)
+pub latest_is : (input : ℕ) (history : List FilterEvent) → LatestIs (is_set (raw_levels history) input) (input_samples input history)
 latest_is input [] = tt
 latest_is input (Configure items ∷ history) =
-    latest_if (apply_to input items) (is_set (raw_levels history) input) (samples input history) (latest_is input history)
+    latest_if (applies_to input items) (is_set (raw_levels history) input) (input_samples input history) (latest_is input history)
 latest_is input (Scan raw ∷ history) = refl
 
 -- a setting and samples anew from the state leave the state
@@ -26,6 +26,6 @@ state_by (Some item) before level older = refl
 
 -- a configuration leaves the filtered state of each input
 pub state-configure : (input : ℕ) (items : List InputItem) (history : List FilterEvent)
-    → state input (Configure items ∷ history) ≡ state input history
+    → input_state input (Configure items ∷ history) ≡ input_state input history
 state-configure input items history =
-    state_by (last_item_of input (applied_items items)) (setting input history) (base input history) (samples input history)
+    state_by (last_item_of input (applied_items items)) (input_setting input history) (state_at_configuration input history) (input_samples input history)

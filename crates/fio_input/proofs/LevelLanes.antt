@@ -3,7 +3,7 @@ use Rattle.std.proofs.Common.{◌≡◌, ℕ, ◌+◌, ◌/◌, ◌^◌, ◌<◌
 use Rattle.std.specs.Int.Bits.{bit_and}
 use Rattle.fio_message.specs.Bits.{is_set, bit_of}
 use Rattle.fio_message.proofs.Bits.{is_set_masked, is_set-low, is_set-shr}
-use Rattle.fio_input.specs.Filtering.{in_force}
+use Rattle.fio_input.specs.FilterRule.{in_force}
 use Rattle.fio_input.specs.Runs.{next_length, meets_filter}
 use lib.Lanes.{top}
 

@@ -7,9 +7,9 @@ use Rattle.std.specs.Int.Bits.{bit_and, bit_or, bit_xor}
 use Rattle.fio_message.specs.Bits.{is_set}
 use Rattle.fio_message.proofs.Bits.{is_set-merged, is_set-and, is_set-not, is_set-xor, is_set-zero}
 use Rattle.fio_input.specs.declared.filters.Filters.{Filters}
-use Rattle.fio_input.specs.Filtering.{ends_run}
-use Rattle.fio_input.specs.FilterHistory.{FilterEvent, Scan, setting, samples, state, raw_levels, is_reported}
-use Rattle.fio_input.specs.Filters.{StandsFor}
+use Rattle.fio_input.specs.FilterRule.{ends_run}
+use Rattle.fio_input.specs.FilterHistory.{FilterEvent, Scan, input_setting, input_samples, input_state, raw_levels, is_reported}
+use Rattle.fio_input.specs.Filters.{AreFiltersAfter}
 use Rattle.fio_input.specs.Runs.{run_length, next_length, meets_filter}
 use Rattle.fio_input.proofs.History.{latest_is}
 use Rattle.fio_input.proofs.RunLengths.{next_run, next_restarts, meets_is}
@@ -27,8 +27,8 @@ cases_beq false true = inr (λ e. cc)
 cases_beq false false = inl refl
 
 -- a sample that is the state leaves it
-settled_state : (i : ℕ) (history : List FilterEvent) (raw : ℕ) → is_set raw i ≡ state i history → is_set raw i ≡ state i (Scan raw ∷ history)
-settled_state i history raw settled = either_way true (ends_run (setting i history) (is_set raw i ∷ samples i history)) settled
+settled_state : (i : ℕ) (history : List FilterEvent) (raw : ℕ) → is_set raw i ≡ input_state i history → is_set raw i ≡ input_state i (Scan raw ∷ history)
+settled_state i history raw settled = either_way true (ends_run (input_setting i history) (is_set raw i ∷ input_samples i history)) settled
 
 -- the filtered states after a scan: the samples where a run meets its filter, and else as before
 abbrev pub merged : Filters → ℕ → ℕ → ℕ
@@ -37,21 +37,21 @@ merged old met raw = bit_or (bit_and old.filtered (bit_not w64 met)) (bit_and ra
 module _ (old : Filters) (lengths : List ℕ) (met raw : ℕ) (history : List FilterEvent) (met_fits : met < 2 ^ 64)
     (stepped : (i : ℕ) → i < 64 → slice_index lengths i ≡ next_length (slice_index old.run_lengths i) (is_set old.raw i) (is_set raw i))
     (tested : (i : ℕ) → i < 64 → is_set met i ≡ meets_filter (slice_index old.leading i) (slice_index old.trailing i) (is_set raw i) (slice_index lengths i))
-    (s : StandsFor old history) where
+    (s : AreFiltersAfter old history) where
   -- the sample of an input is its state already, so that its run's length tells nothing
   abbrev IsSettled : ℕ → Type 0
-  IsSettled i = is_set raw i ≡ state i history
+  IsSettled i = is_set raw i ≡ input_state i history
 
   -- the new length is that of the samples with one more
   abbrev IsCounted : ℕ → Type 0
-  IsCounted i = slice_index lengths i ≡ min (run_length (is_set raw i ∷ samples i history)) 255
+  IsCounted i = slice_index lengths i ≡ min (run_length (is_set raw i ∷ input_samples i history)) 255
 
-  length_by : (i : ℕ) → i < 64 → (n : ℕ) → n ≡ min (run_length (samples i history)) 255
+  length_by : (i : ℕ) → i < 64 → (n : ℕ) → n ≡ min (run_length (input_samples i history)) 255
       → next_length (slice_index old.run_lengths i) (is_set old.raw i) (is_set raw i) ≡ next_length n (is_set (raw_levels history) i) (is_set raw i)
       → IsCounted i
   length_by i h n counted same =
       stepped i h ∙ same ∙ ap (λ length. next_length length (is_set (raw_levels history) i) (is_set raw i)) counted
-      ∙ next_run (samples i history) _ (is_set raw i) (latest_is i history)
+      ∙ next_run (input_samples i history) _ (is_set raw i) (latest_is i history)
 
   settled_or_counted : (i : ℕ) → i < 64 → IsSettled i ⊎ IsCounted i
   settled_or_counted i h =
@@ -60,7 +60,7 @@ module _ (old : Filters) (lengths : List ℕ) (met raw : ℕ) (history : List Fi
             elim (cases_beq (is_set old.raw i) (is_set raw i)) [
               | inl same ↦ inl (sym same ∙ settled)
               | inr other ↦
-                  let n = min (run_length (samples i history)) 255 in
+                  let n = min (run_length (input_samples i history)) 255 in
                   inr (length_by i h n refl (next_restarts _ n _ _ other ∙ ap (λ levels. next_length n (is_set levels i) (is_set raw i)) s.raw))
             ]
         | inr counted ↦
@@ -69,17 +69,17 @@ module _ (old : Filters) (lengths : List ℕ) (met raw : ℕ) (history : List Fi
       ]
 
   -- a run meets its filter exactly if the new sample ends a run
-  met_is : (i : ℕ) → i < 64 → IsCounted i → is_set met i ≡ ends_run (setting i history) (is_set raw i ∷ samples i history)
+  met_is : (i : ℕ) → i < 64 → IsCounted i → is_set met i ≡ ends_run (input_setting i history) (is_set raw i ∷ input_samples i history)
   met_is i h counted =
       let at = s.inputs i h in
       tested i h ∙ ap₂ (λ e r. meets_filter e r (is_set raw i) (slice_index lengths i)) at.leading at.trailing
-      ∙ ap (meets_filter (setting i history).leading (setting i history).trailing (is_set raw i)) counted
-      ∙ meets_is (setting i history) (samples i history) (is_set raw i) at.leading_fits at.trailing_fits
+      ∙ ap (meets_filter (input_setting i history).leading (input_setting i history).trailing (is_set raw i)) counted
+      ∙ meets_is (input_setting i history) (input_samples i history) (is_set raw i) at.leading_fits at.trailing_fits
 
   -- the new filtered states are those of the history with the scan
-  state_is : (i : ℕ) → i < 64 → is_set (merged old met raw) i ≡ state i (Scan raw ∷ history)
+  state_is : (i : ℕ) → i < 64 → is_set (merged old met raw) i ≡ input_state i (Scan raw ∷ history)
   state_is i h =
-      let ends = ends_run (setting i history) (is_set raw i ∷ samples i history) in
+      let ends = ends_run (input_setting i history) (is_set raw i ∷ input_samples i history) in
       is_set-merged old.filtered raw met i met_fits h
       ∙ elim (settled_or_counted i h) [
         | inl settled ↦ ap (λ before. if is_set met i then is_set raw i else before) (s.inputs i h).filtered ∙ either_way (is_set met i) ends settled
@@ -87,7 +87,7 @@ module _ (old : Filters) (lengths : List ℕ) (met raw : ℕ) (history : List Fi
       ]
 
   -- the filters have been through the scan too
-  pub scan_carries : StandsFor (record old { run_lengths = lengths; filtered = merged old met raw; raw = raw }) (Scan raw ∷ history)
+  pub scan_carries : AreFiltersAfter (record old { run_lengths = lengths; filtered = merged old met raw; raw = raw }) (Scan raw ∷ history)
   scan_carries =
       record {
         raw = refl;
@@ -124,11 +124,11 @@ unchanged true false false e = refl
 unchanged false now before e = refl
 
 -- samples that are the filtered states leave all as it was but the raw levels
-module _ (old : Filters) (raw : ℕ) (history : List FilterEvent) (same : raw ≡ old.filtered) (s : StandsFor old history) where
-  settled_at : (i : ℕ) → i < 64 → is_set raw i ≡ state i history
+module _ (old : Filters) (raw : ℕ) (history : List FilterEvent) (same : raw ≡ old.filtered) (s : AreFiltersAfter old history) where
+  settled_at : (i : ℕ) → i < 64 → is_set raw i ≡ input_state i history
   settled_at i h = ap (λ levels. is_set levels i) same ∙ (s.inputs i h).filtered
 
-  pub settled_carries : StandsFor (record old { raw = raw }) (Scan raw ∷ history)
+  pub settled_carries : AreFiltersAfter (record old { raw = raw }) (Scan raw ∷ history)
   settled_carries =
       record {
         raw = refl;
@@ -150,4 +150,4 @@ module _ (old : Filters) (raw : ℕ) (history : List FilterEvent) (same : raw �
   pub settled_reports : (i : ℕ) → i < 64 → is_set 0 i ≡ is_reported i raw history
   settled_reports i h =
       let state_after = settled_state i history raw (settled_at i h) in
-      is_set-zero i ∙ unchanged (not (setting i history).ignore) _ _ (sym state_after ∙ settled_at i h)
+      is_set-zero i ∙ unchanged (not (input_setting i history).ignore) _ _ (sym state_after ∙ settled_at i h)

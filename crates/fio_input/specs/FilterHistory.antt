@@ -5,7 +5,7 @@ use Rattle.std.specs.Option.{option_or}
 use Rattle.std.specs.List.{list_all}
 use Rattle.fio_message.specs.declared.fields.InputItem.{InputItem}
 use Rattle.fio_message.specs.Bits.{is_set}
-use Rattle.fio_input.specs.Filtering.{Setting, filtered_state}
+use Rattle.fio_input.specs.FilterRule.{Setting, filtered_state}
 
 -- what happens to the filters: a configuration that is received, applied or not, and a scan, whose
 -- raw levels are bit i for input i
@@ -35,37 +35,38 @@ setting_by (Some item) before =
 
 -- the last item naming the input in the latest applied configuration that names it, and at the
 -- start: ignored, both filters 5
-abbrev pub setting : ℕ → List FilterEvent → Setting
-setting input [] = record { ignore = true; leading = 5; trailing = 5 }
-setting input (Configure items ∷ history) =
-    setting_by (last_item_of input (applied_items items)) (setting input history)
-setting input (Scan raw ∷ history) = setting input history
+abbrev pub input_setting : ℕ → List FilterEvent → Setting
+input_setting input [] = record { ignore = true; leading = 5; trailing = 5 }
+input_setting input (Configure items ∷ history) =
+    setting_by (last_item_of input (applied_items items)) (input_setting input history)
+input_setting input (Scan raw ∷ history) = input_setting input history
 
 -- whether a configuration with these items applies to the input: it is applied and names it
-abbrev pub apply_to : ℕ → List InputItem → Bool
-apply_to input items = is_some (last_item_of input (applied_items items))
+abbrev pub applies_to : ℕ → List InputItem → Bool
+applies_to input items = is_some (last_item_of input (applied_items items))
 
--- the levels of the input at the scans since the latest configuration that applies to it, or since
--- the start, the newest first
-abbrev pub samples : ℕ → List FilterEvent → List Bool
-samples input [] = []
-samples input (Configure items ∷ history) =
-    if apply_to input items then [] else samples input history
-samples input (Scan raw ∷ history) = is_set raw input ∷ samples input history
+-- the samples of the input: its levels at the scans since the latest configuration that applies to
+-- it, or since the start, the newest first. So a configuration restarts the run.
+abbrev pub input_samples : ℕ → List FilterEvent → List Bool
+input_samples input [] = []
+input_samples input (Configure items ∷ history) =
+    if applies_to input items then [] else input_samples input history
+input_samples input (Scan raw ∷ history) = is_set raw input ∷ input_samples input history
 
--- the filtered state of the input just before that configuration, and 1 with none
-abbrev pub base : ℕ → List FilterEvent → Bool
-base input [] = true
-base input (Configure items ∷ history) =
-    if apply_to input items
-    then filtered_state (setting input history) (base input history) (samples input history)
-    else base input history
-base input (Scan raw ∷ history) = base input history
+-- the filtered state of the input just before that configuration, and 1 with none. The samples since
+-- then start from it, so that a configuration keeps the state.
+abbrev pub state_at_configuration : ℕ → List FilterEvent → Bool
+state_at_configuration input [] = true
+state_at_configuration input (Configure items ∷ history) =
+    if applies_to input items
+    then filtered_state (input_setting input history) (state_at_configuration input history) (input_samples input history)
+    else state_at_configuration input history
+state_at_configuration input (Scan raw ∷ history) = state_at_configuration input history
 
 -- the filtered state of an input
-abbrev pub state : ℕ → List FilterEvent → Bool
-state input history =
-    filtered_state (setting input history) (base input history) (samples input history)
+abbrev pub input_state : ℕ → List FilterEvent → Bool
+input_state input history =
+    filtered_state (input_setting input history) (state_at_configuration input history) (input_samples input history)
 
 -- the raw levels of the latest scan, all ones before any
 abbrev pub raw_levels : List FilterEvent → ℕ
@@ -76,5 +77,5 @@ raw_levels (Scan raw ∷ history) = raw
 -- whether a scan after a history changes the filtered state of an input that is not ignored
 abbrev pub is_reported : ℕ → ℕ → List FilterEvent → Bool
 is_reported input raw history =
-    not (setting input history).ignore
-    && not (beq (state input (Scan raw ∷ history)) (state input history))
+    not (input_setting input history).ignore
+    && not (beq (input_state input (Scan raw ∷ history)) (input_state input history))

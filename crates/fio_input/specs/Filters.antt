@@ -1,14 +1,14 @@
--- What the filters of the inputs stand for.
+-- The filters of all inputs after a history.
 use Rattle.std.specs.Prelude.{ℕ, ◌≡◌, ◌<◌, ◌≤◌, ◌⊎◌, min, Bool, slice_index, List}
 use Rattle.fio_message.specs.Bits.{is_set}
 use Rattle.fio_input.specs.declared.filters.Filters.{Filters}
-use Rattle.fio_input.specs.Filtering.{Setting}
+use Rattle.fio_input.specs.FilterRule.{Setting}
 use Rattle.fio_input.specs.Runs.{run_length}
-use Rattle.fio_input.specs.FilterHistory.{FilterEvent, setting, samples, state, raw_levels}
+use Rattle.fio_input.specs.FilterHistory.{FilterEvent, input_setting, input_samples, input_state, raw_levels}
 
 -- what the filters keep of one input: the length of its latest run only where the run is towards
 -- another state
-pub record Keeps (filters : Filters) (input : ℕ)
+pub record KeepsInput (filters : Filters) (input : ℕ)
     (setting : Setting) (samples : List Bool) (state : Bool) : Type 0 where
   pub run_length : (is_set filters.raw input ≡ state)
       ⊎ (slice_index filters.run_lengths input ≡ min (run_length samples) 255)
@@ -20,7 +20,7 @@ pub record Keeps (filters : Filters) (input : ℕ)
   pub filtered : is_set filters.filtered input ≡ state
 
 -- the filters have been through this history
-pub record StandsFor (filters : Filters) (history : List FilterEvent) : Type 0 where
+pub record AreFiltersAfter (filters : Filters) (history : List FilterEvent) : Type 0 where
   pub raw : filters.raw ≡ raw_levels history
   pub inputs : (input : ℕ) → input < 64
-      → Keeps filters input (setting input history) (samples input history) (state input history)
+      → KeepsInput filters input (input_setting input history) (input_samples input history) (input_state input history)

@@ -1,7 +1,7 @@
 //! The lengths of the inputs' latest runs of equal samples, stepped 16 inputs at a time.
 ghost use Rattle.std.specs.Prelude.{◌≡◌, ◌<◌, ◌≤◌, ℕ, ◌+◌, ◌==◌, min, length, slice_index, if◌then◌else◌, nat_le};
 ghost use Rattle.fio_message.specs.Bits.{is_set, bit_of};
-ghost use Rattle.fio_input.specs.Filtering.{in_force};
+ghost use Rattle.fio_input.specs.FilterRule.{in_force};
 ghost use Rattle.fio_input.specs.Runs.{next_length, meets_filter};
 
 use crate::filters::INPUTS;

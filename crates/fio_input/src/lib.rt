@@ -6,10 +6,11 @@
 //! gives the one recent time with the given low bits.
 //!
 //! The definitions are over whole histories, lists with the newest event first: `specs/Counter`
-//! has the counter, `specs/FilterHistory` what a history of configurations and scans makes of each
-//! input, `specs/Filtering` the filtered state of one input from its samples, and `specs/Widening`
-//! the times. A value *stands for* a history: `new` begins with the empty one, each call carries
-//! it on by its own event, and each answer is promised for every history that the value stands for.
+//! has the counter, `specs/FilterRule` the filtered state of one input from its samples,
+//! `specs/FilterHistory` what a history of configurations and scans makes of each input,
+//! `specs/Delivery` how often inputs change, and `specs/Widening` the times. A value has been
+//! through a history: `new` begins with the empty one, each call adds its own event, and each
+//! answer is promised for every history that the value has been through.
 //!
 //! Nothing here takes memory.
 #![tactic(auto)]

@@ -1,7 +1,7 @@
 -- The transition log: all transitions of a life, oldest first.
 use Rattle.std.specs.Prelude.{ℕ, zero, suc, ◌%◌, ◌^◌, Bool, List, [], ◌∷◌, ◌++◌, if◌then◌else◌}
 use Rattle.fio_message.specs.declared.fields.Entry.{Entry}
-use Rattle.fio_input.specs.FilterHistory.{is_reported, state}
+use Rattle.fio_input.specs.FilterHistory.{is_reported, input_state}
 use Rattle.fio_module.specs.Life.{Scan, History, Scanned, Life, life_of, counter_of, scans_of, loads_of, filter_events}
 
 -- a change of an input's filtered state: the state after it, the counter at its scan, already
@@ -27,7 +27,7 @@ abbrev pub transition_at : Life → ℕ → Transition
 transition_at life input =
     record {
       input = input;
-      level = state input (filter_events life);
+      level = input_state input (filter_events life);
       counter = counter_of life;
       scans = scans_of life;
       loads = loads_of life;

@@ -10,7 +10,7 @@ use Rattle.fio_message.specs.declared.commands.Command.TheVariants.{Status, Load
 use Rattle.fio_message.specs.Answers.{SpellsAnswer}
 use Rattle.fio_message.specs.Status.{error_status, set_before_status}
 use Rattle.fio_message.specs.Decoding.{command_in}
-use Rattle.fio_input.specs.FilterHistory.{all_present, raw_levels, state}
+use Rattle.fio_input.specs.FilterHistory.{all_present, raw_levels, input_state}
 use Rattle.fio_module.specs.Settings.{Settings}
 use Rattle.fio_module.specs.Life.{History, Commanded, Life, life_of, counter_of, filter_events}
 use Rattle.fio_module.specs.Sendings.{answer_of, latest_sending}
@@ -29,7 +29,7 @@ answer_to settings life (ConfigureInputs items) =
 answer_to settings life RawInputs =
     Some (answers.RawInputs (raw_levels (filter_events life)) (counter_of life))
 answer_to settings life FilteredInputs =
-    let inputs = word_of 64 (λ input. state input (filter_events life)) in
+    let inputs = word_of 64 (λ input. input_state input (filter_events life)) in
     Some (answers.FilteredInputs inputs (counter_of life))
 answer_to settings life (Poll number) =
     option_map answer_of (latest_sending settings (Commanded (Poll number) ∷ life))

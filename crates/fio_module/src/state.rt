@@ -39,7 +39,7 @@ impl ModuleState {
     ghost use Rattle.std.specs.Prelude.{◌≡◌, ◌<◌, ◌-◌, ℕ, List, ◌∷◌, [], Some, true, false, length, min};
     ghost use Rattle.circular_buffer.specs.Buffer.{Buffer, buffer};
     ghost use Rattle.fio_message.specs.Bits.{is_set};
-    ghost use Rattle.fio_input.specs.FilterHistory.{state};
+    ghost use Rattle.fio_input.specs.FilterHistory.{input_state};
     ghost use Rattle.fio_module.specs.Settings.{Settings, settings_with};
     ghost use Rattle.fio_module.specs.Life.{History, Life, Scan, LineSync, Raise, Received, Restart, Commanded, life_of, counter_of, filter_events};
     ghost use Rattle.fio_module.specs.Blocks.{is_new, latest_poll};
@@ -385,7 +385,7 @@ impl ModuleState {
         ensures { (settings : Settings) (ring : Buffer (List ℕ)) (history : History)
             → IsAfterHistory settings self.now ring history
             → (input : ℕ) → input < 64
-            → is_set result input ≡ state input (filter_events (life_of history)) }
+            → is_set result input ≡ input_state input (filter_events (life_of history)) }
     {
         self.filters.filtered()
     }

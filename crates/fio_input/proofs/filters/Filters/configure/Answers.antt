@@ -1,13 +1,13 @@
 use Rattle.std.proofs.Common.{◌∷◌, [], take, sym, ◌∙◌, refl, subst, arith}
 use Rattle.std.proofs.lemmas.List.{take_more, take_all}
 use Rattle.fio_input.specs.FilterHistory.{Configure}
-use Rattle.fio_input.specs.Filters.{StandsFor}
-use Rattle.fio_input.proofs.Configured.{StandsFor-unapplied}
+use Rattle.fio_input.specs.Filters.{AreFiltersAfter}
+use Rattle.fio_input.proofs.Configured.{AreFiltersAfter-unapplied}
 use Rattle.fio_input.proofs.Present.{all_present-none, all_present-some, all_present-take, all_present-at, applied_items-some}
 use Rattle.fio_input.proofs.filters.Filters.configure.Goals as goal
 
 pub loop-item-init : goal.loop-item-init
-loop-item-init c history s = StandsFor-unapplied c.args.self.now [] history refl s
+loop-item-init c history s = AreFiltersAfter-unapplied c.args.self.now [] history refl s
 
 pub apply-requires : goal.apply-requires
 apply-requires c =
@@ -25,7 +25,7 @@ loop-item-preserved c history s =
 
 pub returns-clause-carried : goal.returns-clause-carried
 returns-clause-carried c history s =
-    subst (λ front. StandsFor c.loop-item.self (Configure front ∷ history))
+    subst (λ front. AreFiltersAfter c.loop-item.self (Configure front ∷ history))
     (take_all c.loop-item.item-index c.args.items.now (omega arith)) (c.loop-item.invariant history s)
 
 pub returns-clause-ok : goal.returns-clause-ok
@@ -35,7 +35,7 @@ pub returns-in-Some-clause-carried : goal.returns-in-Some-clause-carried
 returns-in-Some-clause-carried c history s =
     let items = c.args.items.now in
     let found = sym c.first_bad_item.ensures ∙ c.in-Some.is in
-    StandsFor-unapplied c.args.self.now items history (applied_items-some items c.in-Some.place found) s
+    AreFiltersAfter-unapplied c.args.self.now items history (applied_items-some items c.in-Some.place found) s
 
 pub returns-in-Some-clause-ok : goal.returns-in-Some-clause-ok
 returns-in-Some-clause-ok c =

@@ -1,9 +1,10 @@
--- The filtered state of one input. Samples are listed the newest first.
+-- The rule of a filter: the filtered state of one input, by its samples. They are listed the newest
+-- first.
 use Rattle.std.specs.Prelude.{ℕ, zero, suc, max, Bool, true, false, ◌&&◌, ◌||◌, if◌then◌else◌, List, [], ◌∷◌}
 use Rattle.std.specs.Bool.{beq}
 
 -- what an item of a configuration sets for an input: whether its transitions are left unreported,
--- its filter from 1 to 0 and its filter from 0 to 1, in samples
+-- its leading filter, which is that from 1 to 0, and its trailing filter, from 0 to 1, in samples
 pub record Setting : Type 0 where
   pub ignore : Bool
   pub leading : ℕ
