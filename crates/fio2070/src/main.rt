@@ -1,5 +1,5 @@
-//! The program `fio2070`: the words of its command line and its standard streams, handed to the
-//! crate `fio_tool`.
+//! The program `fio2070`: the crate `fio_tool`, called with the words of the command line and the
+//! standard streams.
 #![tactic(auto)]
 
 use fio_tool::run_program;

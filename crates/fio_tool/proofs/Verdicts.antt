@@ -1,5 +1,5 @@
 -- The verdict on a transcript as a function, and as the relation that says what it means.
-use Rattle.std.proofs.Common.{◌≡◌, ◌↔◌, ◌<◌, ◌≤◌, ◌⊎◌, inl, inr, ℕ, zero, suc, Bool, true, Option, Some, None, List, refl, ap, ap₂, sym, ◌∙◌, arith, length, get_or, add-one}
+use Rattle.std.proofs.Common.{◌≡◌, ◌<◌, ◌≤◌, ◌⊎◌, inl, inr, ℕ, zero, suc, true, Option, Some, None, List, refl, ap, ap₂, sym, ◌∙◌, arith, length}
 use Rattle.std.specs.Prelude.{is_some, option_map, option_and_then, slice_get, unwrap_or}
 use Rattle.std.specs.Option.{option_or}
 use Rattle.std.proofs.lemmas.Bool.{cases_order}

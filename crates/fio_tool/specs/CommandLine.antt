@@ -32,7 +32,7 @@ command_line = fold with_tool program tools
 abbrev pub chosen_name : List (List ℕ) → Option (List ℕ)
 chosen_name words = option_map (λ found. found.0) (subcommand_of command_line words)
 
--- the words have no fault, and name this tool
+-- the command line is valid, and names this tool
 pub record NamesTool (words : List (List ℕ)) (tool : Tool) : Type 0 where
   pub faultless : fault_of command_line words ≡ []
   pub named : chosen_name words ≡ Some (name_of tool)

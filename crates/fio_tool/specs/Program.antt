@@ -72,8 +72,8 @@ refusal_status DisplayVersion = 0
 refusal_status OutOfMemory = 3
 refusal_status _ = 2
 
--- the status where the words have a fault of one of these kinds: that of the kind, or 3 where memory
--- runs out
+-- the status of a command line whose fault is of one of these kinds: that of the kind, or 3 where
+-- memory runs out
 abbrev pub IsRefusalStatus : Kinds → ℕ → Type 0
 IsRefusalStatus kinds status =
     (status ≡ 3) ⊎ ((kind : ErrorKind) × IsAmong kind kinds × (status ≡ refusal_status kind))

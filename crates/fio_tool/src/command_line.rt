@@ -25,8 +25,8 @@ const USAGE: &str = "fio2070 COMMAND < FILE";
 /// no subcommand.
 ///
 /// # Errors
-/// `clap`'s, exactly where the words have a fault or ask for help or the version, or where there is
-/// no memory.
+/// `clap`'s, exactly where the command line is invalid or asks for help or the version, or where an
+/// allocation failed.
 pub fn choose<'a>(alloc: Global, words: &'a [&'a str]) -> Result<Option<Tool>, Error>
     ensures tool { IfOk result (λ tool.
         option_map name_of tool ≡ chosen_name (map (λ word. word.now) words.entry.now)) }

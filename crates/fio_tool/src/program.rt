@@ -30,14 +30,14 @@ pub enum Ending {
 /// Why a tool ended without its text.
 #[derive(Clone, Copy, Debug, PartialEq, Eq, Hash, Error)]
 pub enum ToolFault {
-    /// A read failed, be it only interrupted. Nothing was written.
+    /// A read failed; `Interrupted` counts and is not retried. Nothing was written.
     #[error("read fault")]
     Read,
-    /// A write or the flush failed, be it only interrupted, or a write took no octet. Some of the
-    /// text may have been written.
+    /// A write or the flush failed, or a write took no octet; `Interrupted` counts and is not retried.
+    /// Some of the text may have been written.
     #[error("write fault")]
     Write,
-    /// There was no memory for the input or its text. Nothing was written.
+    /// An allocation failed, for the input or its text. Nothing was written.
     #[error("out of memory")]
     Memory,
 }
@@ -71,11 +71,11 @@ impl From<AllocError> for ToolFault {
 /// |---|---|
 /// | 0 | the text reports no fault; also where help or the version was asked for |
 /// | 1 | the text reports a fault, or an input that is too long |
-/// | 2 | the words name no subcommand, or have another fault |
-/// | 3 | a read or a write failed, or there was no memory |
+/// | 2 | the command line names no subcommand, or is invalid |
+/// | 3 | a read or a write failed, or memory ran out |
 ///
 /// For 3 and for no subcommand the program prints one line, `fio2070: read fault` or the like; for
-/// every other fault of the words it prints `clap`'s text. A failure to print these is passed over.
+/// every other invalid command line it prints `clap`'s text. A failure to print these is ignored.
 pub fn run_program<'a, R: Read, W: Write>(
     alloc: Global,
     words: &'a [&'a str],
@@ -84,28 +84,28 @@ pub fn run_program<'a, R: Read, W: Write>(
 ) -> u8
     ensures known { result ≤ 3 }
     ensures taken { TakesAtMost MOST_READ (R.remaining reader.old) (R.remaining reader.new) }
-    // Where the words name no tool, nothing is read.
+    // Where the command line names no tool, nothing is read.
     ensures unread { ((tool : Tool) → NamesTool (map (λ word. word.now) words.entry.now) tool → ⊥)
         → reader.new ≡ reader.old }
-    // Where the words name a tool, a status of 0 or 1 says that the tool has reported what it read.
+    // Where it names a tool, a status of 0 or 1 says that the tool has reported what it read.
     ensures reported { (tool : Tool) → NamesTool (map (λ word. word.now) words.entry.now) tool
         → result ≤ 1
         → (input : List ℕ)
         × HasReported tool input (R.remaining reader.old) (R.remaining reader.new)
         (W.contents writer.old) (W.contents writer.new)
         × (result ≡ program_status tool input) }
-    // 2 says that the words are wrong: not where they name a tool.
+    // 2 is for a command line that names no tool.
     ensures named { (tool : Tool) → NamesTool (map (λ word. word.now) words.entry.now) tool
         → result ≢ 2 }
-    // Words without a fault that name no tool give 2, or 3 where memory runs out.
+    // A valid command line that names no tool gives 2, or 3 where memory runs out.
     ensures no_subcommand { fault_of command_line (map (λ word. word.now) words.entry.now) ≡ []
         → chosen_name (map (λ word. word.now) words.entry.now) ≡ None
         → (result ≡ 2) ⊎ (result ≡ 3) }
-    // Words with a fault give the status of that fault, or 3 where memory runs out.
+    // An invalid one gives the status of its fault, or 3 where memory runs out.
     ensures refused { fault_of command_line (map (λ word. word.now) words.entry.now) ≢ []
         → IsRefusalStatus
         (fault_of command_line (map (λ word. word.now) words.entry.now)) result }
-    // 1 is for the text of a tool: words with a fault never give it.
+    // 1 is for the text of a tool: an invalid command line never gives it.
     ensures never_one { fault_of command_line (map (λ word. word.now) words.entry.now) ≢ []
         → result ≢ 1 }
 {

@@ -7,11 +7,10 @@ mod show;
 mod simulate;
 
 pub use check::check_text;
-pub use show::show_text;
-pub use simulate::simulate_text;
-
 use fio_message::Memory;
 use fio_world::Report;
+pub use show::show_text;
+pub use simulate::simulate_text;
 use std::alloc::Global;
 
 /// The greatest number of octets of an input (own profile).

@@ -31,8 +31,8 @@ const EXPECTED: usize = 8;
 /// one line `input too long`. Lines that are empty or begin with `#` give none.
 ///
 /// # Errors
-/// `Memory` where there is none for the text: only where some line of the input gives one, or the
-/// input is too long.
+/// `Memory` where an allocation failed: only where some line of the input gives a text, or the input
+/// is too long.
 pub fn show_text(alloc: Global, input: &[u8]) -> Result<Report, Memory>
     ensures text { IfOk result (λ report. report.text.items ≡ show_text input.now) }
     ensures good { IfOk result (λ report. report.good ≡ is_show_good input.now) }

@@ -17,7 +17,7 @@ const HEADER: usize = 1;
 /// input of more than 1,048,576 octets the one line `input too long`.
 ///
 /// # Errors
-/// `Memory` where there is none for the script, for its run or for the text.
+/// `Memory` where an allocation failed, for the script, its run or its text.
 pub fn simulate_text(alloc: Global, input: &[u8]) -> Result<Report, Memory>
     ensures text { IfOk result (λ report. report.text.items ≡ simulate_text input.now) }
     ensures good { IfOk result (λ report. report.good ≡ is_simulate_good input.now) }

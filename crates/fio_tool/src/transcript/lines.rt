@@ -40,7 +40,7 @@ pub enum TraceError {
         /// The number of the line in the text, from 1.
         line: usize,
     },
-    /// There was no memory for a line. Each line above it is a frame.
+    /// An allocation failed, for a line. Each line above it is a frame.
     #[error("out of memory")]
     Memory,
 }

@@ -1,4 +1,3 @@
-use Rattle.std.proofs.Common.{arith}
 use Rattle.fio_tool.proofs.CommandLineLemmas.{none_named}
 use Rattle.fio_tool.proofs.command_line.tool_named.Goals as goal
 

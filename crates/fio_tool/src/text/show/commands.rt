@@ -1,4 +1,4 @@
-//! The lines that tell of each command.
+//! The lines for each command.
 ghost use Rattle.std.specs.Prelude.{◌≡◌, ◌++◌, ◌≤◌, length, codes, OnOk};
 ghost use Rattle.fio_tool.specs.ShowCommands.{body_text, clearing_text, command_text, configuration_text, item_text, number_text, other_text, outputs_text};
 
