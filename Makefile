@@ -58,11 +58,8 @@ uninstall: uninstall-more
 
 install-more:
 ifneq ($(libraries),)
-	install -d '$(root)/$(LIB)'
+	install -d '$(root)/$(LIB)' '$(root)/include'
 	install -m 644 $(libraries) '$(root)/$(LIB)'
-endif
-ifneq ($(headers),)
-	install -d '$(root)/include'
 	install -m 644 $(headers) '$(root)/include'
 endif
 ifneq ($(tools),)
@@ -78,15 +75,16 @@ uninstall-more:
 	rm -f $(foreach file,$(notdir $(headers)),'$(root)/include/$(file)')
 	rm -rf '$(root)/$(TOOLS)/tools'
 
-# The archive and the Debian package: the same files give the same octets each time.
+# The archive and the Debian package, with the library for C: the same files give the same octets each time.
 
-dist deb: all
+dist deb: all libfio2070.a
 	@packaging/$@ '$(DIST)'
 
 # The library for C: `make library` makes the archive, and a shared library for languages that load one, in OUT.
-# They are installed where they were made.
+# They are installed where they were made. PCPREFIX is the prefix that fio2070.pc names.
 
 OUT = .
+PCPREFIX = $(PREFIX)
 VERSION = $(shell sed -n 's/^## \([0-9][0-9.]*\).*/\1/p' CHANGELOG.md | head -n 1)
 pkgconfig = $(root)/$(LIB)/pkgconfig
 shared = $(wildcard libfio2070.so)
@@ -118,7 +116,7 @@ uninstall: uninstall-library
 install-library: install-more
 ifneq ($(libraries),)
 	install -d '$(pkgconfig)'
-	sed -e 's|@PREFIX@|$(PREFIX)|' -e 's|@LIB@|$(LIB)|' -e 's|@VERSION@|$(VERSION)|' packaging/fio2070.pc.in \
+	sed -e 's|@PREFIX@|$(PCPREFIX)|' -e 's|@LIB@|$(LIB)|' -e 's|@VERSION@|$(VERSION)|' packaging/fio2070.pc.in \
 	    >'$(pkgconfig)/fio2070.pc'
 endif
 ifneq ($(shared),)

@@ -11,7 +11,9 @@ use crate::written::write_front;
 use arrayvec::ArrayVec;
 use fio_message::{Answer, Body, InputNumber, OtherAnswer, encode_answer};
 
-/// Writes an answer, and returns how many octets it has: 0 where there is no room.
+/// Writes an answer, and returns how many octets it has: 0 where there is no room. Inlined, so that no
+/// answer and no frame is made where the type is known.
+#[inline(always)]
 fn write_answer(answer: &Answer, out: &mut [u8]) -> usize
     ensures { Writes (answer_octets answer.now) out.old out.new result }
 {

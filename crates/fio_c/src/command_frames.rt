@@ -11,7 +11,9 @@ use crate::written::write_front;
 use arrayvec::ArrayVec;
 use fio_message::{Body, Command, InputItem, InputNumber, OtherCommand, encode_command};
 
-/// Writes a command, and returns how many octets it has: 0 where there is no room.
+/// Writes a command, and returns how many octets it has: 0 where there is no room. Inlined, so that no
+/// command and no frame is made where the type is known.
+#[inline(always)]
 fn write_command(command: &Command, out: &mut [u8]) -> usize
     ensures { Writes (command_octets command.now) out.old out.new result }
 {
