@@ -14,7 +14,7 @@ use crate::inputs::{is_too_long, report_too_long};
 use crate::short_messages::{push_short, short_message};
 use fio_message::{DecodeError, Memory, decode_answer, decode_command, read_block};
 use fio_world::Report;
-use fio_world::text::{FaultWords, numbered_lines, read_octets_to};
+use fio_world::text::{numbered_lines, read_octets_to};
 use std::alloc::Global;
 
 /// How many octets of text to expect for an octet of input: an entry of a block, six digits, gives a
@@ -150,8 +150,7 @@ fn push_refusal(text: &mut Vec<u8>, number: usize, fault: DecodeError) -> Result
         ≡ text.old.items ++ told_at number (Err (fault_text fault))) }
     ensures good { IfOk result (λ good. good ≡ false) }
 {
-    let words = FaultWords(fault);
-    let line = format!(in *text.allocator(); "line {number}: {words}\n")?;
+    let line = format!(in *text.allocator(); "line {number}: {fault}\n")?;
     text.extend_from_slice(line.as_bytes())?;
     Ok(false)
 }
