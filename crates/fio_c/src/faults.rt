@@ -1,14 +1,12 @@
 //! Why octets are no message.
-ghost use Rattle.std.specs.Prelude.{◌≡◌, ◌+◌, ◌≤◌, ◌++◌, length, decimal};
+ghost use Rattle.std.specs.Prelude.{◌≡◌, Some, None};
 ghost use Rattle.fio_message.specs.declared.faults.DecodeError.{DecodeError};
 ghost use Rattle.fio_message.specs.Texts.{fault_text};
 ghost use Rattle.fio_c.specs.Faults.{fault_of, no_fault};
 ghost use Rattle.fio_c.specs.Written.{Writes, WritesNothing};
 
 use crate::written::write_front;
-use arrayvec::ArrayVec;
 use fio_message::DecodeError;
-use itoa::Buffer;
 
 /// Why octets are no message: the first fault that applies (own profile).
 #[derive(Clone, Copy)]
@@ -62,6 +60,23 @@ pub(crate) fn fault_from(error: DecodeError) -> Fault
     }
 }
 
+/// The fault of a decoder that this is, if it is one.
+fn error_from(fault: &Fault) -> Option<DecodeError>
+    ensures some { (error : DecodeError) → fault.now ≡ fault_of error → result ≡ Some error }
+    ensures none { fault.now ≡ no_fault → result ≡ None }
+{
+    match fault.kind {
+        1 => Some(DecodeError::Empty),
+        2 => Some(DecodeError::TooLong { got: fault.got }),
+        3 => Some(DecodeError::UnknownType { code: fault.code }),
+        4 => Some(DecodeError::WrongLength {
+            needed: fault.needed,
+            got: fault.got,
+        }),
+        _ => None,
+    }
+}
+
 /// Writes the words of a fault, as `fio2070 show` has them, with no line end and no octet of 0
 /// behind them. Returns how many octets they have, at most 65: 0 where there is no room or no fault.
 #[unsafe(no_mangle)]
@@ -70,54 +85,8 @@ pub extern "C" fn fio2070_fault_text(fault: &Fault, out: &mut [u8]) -> usize
         → Writes (fault_text error) out.old out.new result }
     ensures none { fault.now ≡ no_fault → WritesNothing out.old out.new result }
 {
-    match fault.kind {
-        1 => write_front(b"empty", out),
-        2 => write_front(words_of(b"too long got ", fault.got).as_slice(), out),
-        3 => write_front(
-            words_of(b"unknown type ", usize::from(fault.code)).as_slice(),
-            out,
-        ),
-        4 => {
-            let mut words = words_of(b"wrong length needed ", fault.needed);
-            append(&mut words, b" got ");
-            append_decimal(&mut words, fault.got);
-            write_front(words.as_slice(), out)
-        }
-        _ => 0,
+    match error_from(fault) {
+        Some(error) => write_front(error.words().as_str().as_bytes(), out),
+        None => 0,
     }
-}
-
-/// Room for the words of a fault.
-type Words = ArrayVec<u8, 128>;
-
-/// A word and a number.
-fn words_of(word: &[u8], number: usize) -> Words
-    requires { length word.now ≤ 40 }
-    ensures words { result.items ≡ word.now ++ decimal number }
-    ensures short { length result.items ≤ 80 }
-{
-    let mut words = Words::new();
-    append(&mut words, word);
-    append_decimal(&mut words, number);
-    words
-}
-
-/// Appends a word, for which there is room.
-fn append(words: &mut Words, word: &[u8])
-    requires { length words.old.items + length word.now ≤ 128 }
-    ensures { words.new.items ≡ words.old.items ++ word.now }
-{
-    match words.try_extend_from_slice(word) {
-        Ok(()) => {}
-        Err(_) => unreachable!(),
-    }
-}
-
-/// Appends a number in decimal digits, for which there is room.
-fn append_decimal(words: &mut Words, number: usize)
-    requires { length words.old.items + 40 ≤ 128 }
-    ensures appended { words.new.items ≡ words.old.items ++ decimal number }
-    ensures short { length words.new.items ≤ length words.old.items + 40 }
-{
-    append(words, Buffer::new().format(number).as_bytes());
 }

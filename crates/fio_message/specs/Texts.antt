@@ -1,4 +1,4 @@
--- The words in which the program reports a refusal, with decimal numbers (own profile).
+-- The words of faults, with decimal numbers (own profile).
 use Rattle.std.specs.Prelude.{ℕ, List, ◌++◌, codes, decimal}
 use Rattle.fio_message.specs.declared.faults.DecodeError.{DecodeError}
 use Rattle.fio_message.specs.declared.faults.DecodeError.TheVariants.{Empty, TooLong, UnknownType, WrongLength}
@@ -10,3 +10,7 @@ fault_text (TooLong got) = codes "too long got " ++ decimal got
 fault_text (UnknownType code) = codes "unknown type " ++ decimal code
 fault_text (WrongLength needed got) =
     codes "wrong length needed " ++ (decimal needed ++ (codes " got " ++ decimal got))
+
+-- the words where an allocation failed
+abbrev pub memory_text : List ℕ
+memory_text = codes "out of memory"

@@ -1,6 +1,9 @@
-use Rattle.std.proofs.Common.{◌≡◌, ℕ, ◌+◌, ◌<◌, List, [], ◌∷◌, ◌++◌, length, take, get_or, refl, ap, ◌∙◌}
+use Rattle.std.proofs.Common.{◌≡◌, ℕ, zero, suc, ◌+◌, ◌-◌, ◌/◌, ◌%◌, ◌^◌, ◌<◌, ◌==◌, Bool, true, false, ◌&&◌, inl, inr, List, [], ◌∷◌, ◌++◌, length, take, get_or, slice_index, refl, ap, ◌∙◌, arith}
+use Rattle.std.proofs.lemmas.Bool.{and_parts, cases_lt, eqb-true}
+use Rattle.std.proofs.lemmas.Fmt.{hex_byte}
 use Rattle.std.proofs.lemmas.List.{take_more}
-use Rattle.hex.specs.Hex.{encode_with, encode_lower}
+use Rattle.std.specs.Fmt.{digits, digit_glyph, padded_integral, format_spec}
+use Rattle.hex.specs.Hex.{encode_with, encode_lower, lower_digits}
 
 -- the digits of two lists of octets stand one after the other
 encode_with-append : (table front back : List ℕ)
@@ -19,3 +22,30 @@ pub encode_lower-more : (octets : List ℕ) (place : ℕ) → place < length oct
     → encode_lower (take (place + 1) octets) ≡ encode_lower (take place octets) ++ encode_lower (get_or octets place 0 ∷ [])
 encode_lower-more octets place within =
     ap encode_lower (take_more octets place 0 within) ∙ encode_with-append _ (take place octets) _
+
+-- the test that the digits below n are those of the table, which computes
+abbrev are_digits : ℕ → Bool
+are_digits zero = true
+are_digits (suc n) = (digit_glyph false n == slice_index lower_digits n) && are_digits n
+
+-- a digit below n passed the test
+are_digits-at : (n digit : ℕ) → are_digits n ≡ true → digit < n
+    → digit_glyph false digit ≡ slice_index lower_digits digit
+are_digits-at zero digit passed below = absurd (omega arith)
+are_digits-at (suc n) digit passed below =
+    let parts = and_parts (digit_glyph false n == slice_index lower_digits n) (are_digits n) passed in
+    elim (cases_lt digit n) [
+      | inl less ↦ are_digits-at n digit parts.1 less
+      | inr top ↦
+          let same : digit ≡ n = omega arith in
+          rw same (eqb-true _ _ parts.0)
+    ]
+
+-- what `{:02x}` writes of an octet
+pub octet_padded : (octet : ℕ) → octet < 256
+    → padded_integral (format_spec 32 0 4 2 (2 ^ 64 - 1)) false [] (digits 16 false octet) ≡ encode_lower (octet ∷ [])
+unfolding encode_with
+octet_padded octet small =
+    let high : digit_glyph false (octet / 16) ≡ slice_index lower_digits (octet / 16) = are_digits-at 16 (octet / 16) refl (omega arith) in
+    let low : digit_glyph false (octet % 16) ≡ slice_index lower_digits (octet % 16) = are_digits-at 16 (octet % 16) refl (omega arith) in
+    rw (hex_byte false octet small, high, low) refl

@@ -21,5 +21,6 @@ pub mod Headers
 pub mod EventLines
 pub mod Steps
 pub mod Scripts
+pub mod Faults
 pub mod ReportLines
 pub mod Reports

@@ -10,6 +10,7 @@ use Rattle.fio_cpu.specs.declared.items.Item.TheVariants.{Entry, Gap}
 use Rattle.fio_module.specs.Blocks.{waiting_of}
 use Rattle.fio_module.specs.Life.{life_of, counter_of}
 use Rattle.fio_module.specs.Settings.{Settings}
+use Rattle.fio_world.specs.Faults.{refusal_text}
 use Rattle.fio_world.specs.Hexadecimal.{digits_of, octet_digits}
 use Rattle.fio_world.specs.declared.outcome.Outcome.{Outcome}
 use Rattle.fio_world.specs.declared.outcome.Outcome.TheVariants as outcomes
@@ -52,12 +53,8 @@ refusal_in errors.Memory = None
 
 -- why the event with this number is refused
 abbrev pub refused_line : ℕ → Refusal → List ℕ
-refused_line number (NotSent index) =
-    decimal number ++ (codes " refused not sent " ++ (decimal index ++ codes "\n"))
-refused_line number (OutOfOrder index last) =
-    decimal number ++ (codes " refused out of order " ++ (decimal index
-    ++ (codes " after " ++ (decimal last ++ codes "\n"))))
-refused_line number PollIsOurs = decimal number ++ codes " refused poll is ours\n"
+refused_line number reason =
+    decimal number ++ (codes " refused " ++ (refusal_text reason ++ codes "\n"))
 
 -- ---- the end of a run
 

@@ -1,6 +1,11 @@
 //! The outcome of an event, and why it may not happen.
+ghost use Rattle.std.specs.Prelude.{Some};
+ghost use Rattle.fio_world.specs.Faults.{world_error_text};
+
 use fio_cpu::Heard;
-use fio_message::Frame;
+use fio_message::{Frame, Memory};
+use std::fmt;
+use std::fmt::{Display, Formatter};
 use thiserror::Error;
 
 /// The outcome of an event.
@@ -23,13 +28,11 @@ pub enum Outcome {
 #[derive(Clone, Copy, Debug, PartialEq, Eq, Hash, Error)]
 pub enum WorldError {
     /// No frame with this number was sent in that direction: it is 0, or above the number sent.
-    #[error("not sent {index}")]
     NotSent {
         /// The number that was asked for.
         index: usize,
     },
     /// A frame with a higher number was delivered in that direction already.
-    #[error("out of order {index} after {last}")]
     OutOfOrder {
         /// The number that was asked for.
         index: usize,
@@ -37,11 +40,24 @@ pub enum WorldError {
         last: usize,
     },
     /// A poll was given to be sent: polls are sent by `Event::Poll` alone.
-    #[error("poll is ours")]
     PollIsOurs,
     /// There was no memory for what the event adds.
-    #[error("out of memory")]
     Memory,
+}
+
+impl Display for WorldError {
+    ghost output = { λ fault. Some (world_error_text fault) };
+
+    fn fmt<W: fmt::Write>(&self, f: &mut Formatter<W>) -> fmt::Result {
+        match *self {
+            WorldError::NotSent { index } => write!(f, "not sent {index}"),
+            WorldError::OutOfOrder { index, last } => {
+                write!(f, "out of order {index} after {last}")
+            }
+            WorldError::PollIsOurs => f.write_str("poll is ours"),
+            WorldError::Memory => Memory.fmt(f),
+        }
+    }
 }
 
 /// What stopped a run.

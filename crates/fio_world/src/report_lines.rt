@@ -9,7 +9,7 @@ ghost use Rattle.fio_cpu.specs.declared.hearing.Heard.TheVariants as heards;
 
 use crate::outcome::WorldError;
 use crate::push_line;
-use crate::text::{EntryLines, FaultWords, push_hexadecimal};
+use crate::text::{EntryLines, push_hexadecimal};
 use crate::world::World;
 use fio_cpu::{Heard, Item};
 use fio_message::{Entry, Memory};
@@ -47,8 +47,7 @@ pub(crate) fn push_heard(text: &mut Vec<u8>, number: usize, heard: Heard) -> Res
         Heard::Stale { block } => push_line!(text; {number as u64} b" stale " {block} b"\n"),
         Heard::Other { code } => push_line!(text; {number as u64} b" other " {code} b"\n"),
         Heard::Unreadable(fault) => {
-            let words = FaultWords(fault);
-            let line = format!(in *text.allocator(); "{number} unreadable {words}\n")?;
+            let line = format!(in *text.allocator(); "{number} unreadable {fault}\n")?;
             text.extend_from_slice(line.as_bytes())
         }
     }
@@ -82,15 +81,10 @@ pub(crate) fn push_refusal(
     ensures { OnOk result (IsSomeAnd (refusal_in fault) (λ refusal.
         text.new.items ≡ text.old.items ++ refused_line number refusal)) }
 {
-    let alloc = *text.allocator();
-    let line = match fault {
-        WorldError::NotSent { index } => format!(in alloc; "{number} refused not sent {index}\n")?,
-        WorldError::OutOfOrder { index, last } => {
-            format!(in alloc; "{number} refused out of order {index} after {last}\n")?
-        }
-        WorldError::PollIsOurs => format!(in alloc; "{number} refused poll is ours\n")?,
-        WorldError::Memory => return Err(Memory),
-    };
+    if fault == WorldError::Memory {
+        return Err(Memory);
+    }
+    let line = format!(in *text.allocator(); "{number} refused {fault}\n")?;
     text.extend_from_slice(line.as_bytes())?;
     Ok(())
 }

@@ -2,7 +2,6 @@
 ghost use Rattle.std.specs.Prelude.{◌≡◌, ◌++◌, OnOk, OnErr};
 ghost use Rattle.fio_message.specs.Texts.{fault_text};
 
-use crate::text::FaultWords;
 use fio_message::{DecodeError, Memory};
 
 /// A text, and whether it reports no fault.
@@ -23,8 +22,6 @@ pub fn push_fault(text: &mut Vec<u8>, fault: &DecodeError) -> Result<(), Memory>
     ensures ok { OnOk result (text.new.items ≡ text.old.items ++ fault_text fault.now) }
     ensures err { OnErr result (text.new.items ≡ text.old.items) }
 {
-    let words = FaultWords(*fault);
-    let words = format!(in *text.allocator(); "{words}")?;
-    text.extend_from_slice(words.as_bytes())?;
+    text.extend_from_slice(fault.words().as_str().as_bytes())?;
     Ok(())
 }

@@ -1,10 +1,13 @@
 //! Scripts, and why a text is none.
-ghost use Rattle.std.specs.Prelude.{◌≡◌};
+ghost use Rattle.std.specs.Prelude.{◌≡◌, Some};
+ghost use Rattle.fio_world.specs.Faults.{script_error_text};
 
 use crate::event::Event;
 use fio_message::{DecodeError, Memory};
 use fio_module::Limits;
 use std::alloc::AllocFailed;
+use std::fmt;
+use std::fmt::{Display, Formatter};
 use thiserror::Error;
 
 /// What a module and a CPU are made with, and what then happens.
@@ -25,22 +28,18 @@ pub struct Script {
 #[derive(Clone, Copy, Debug, PartialEq, Eq, Hash, Error)]
 pub enum ScriptError {
     /// The first line is no header of a version that there is, or there is no line.
-    #[error("line 1: bad header")]
     BadHeader,
     /// 10,000 events stand above the line, whatever it holds.
-    #[error("line {line}: too many events")]
     TooManyEvents {
         /// The number of the line.
         line: usize,
     },
     /// The line has no form of an event.
-    #[error("line {line}: bad line")]
     BadLine {
         /// The number of the line.
         line: usize,
     },
     /// The line sends octets that spell no command.
-    #[error("line {line}: bad frame {fault}")]
     BadFrame {
         /// The number of the line.
         line: usize,
@@ -48,8 +47,21 @@ pub enum ScriptError {
         fault: DecodeError,
     },
     /// The events or the octets of a frame had to grow, and there was no memory.
-    #[error("out of memory")]
     Memory,
+}
+
+impl Display for ScriptError {
+    ghost output = { λ fault. Some (script_error_text fault) };
+
+    fn fmt<W: fmt::Write>(&self, f: &mut Formatter<W>) -> fmt::Result {
+        match *self {
+            ScriptError::BadHeader => f.write_str("line 1: bad header"),
+            ScriptError::TooManyEvents { line } => write!(f, "line {line}: too many events"),
+            ScriptError::BadLine { line } => write!(f, "line {line}: bad line"),
+            ScriptError::BadFrame { line, fault } => write!(f, "line {line}: bad frame {fault}"),
+            ScriptError::Memory => Memory.fmt(f),
+        }
+    }
 }
 
 impl From<Memory> for ScriptError {

@@ -12,7 +12,7 @@ pub use entry_lines::EntryLines;
 pub use lines::{is_skipped, split_line};
 pub use numbering::{NumberedLines, numbered_lines};
 pub use octets::{is_octets, read_octets_to};
-pub use printing::{FaultWords, Hexadecimal};
+pub use printing::Hexadecimal;
 pub use words::{
     after_prefix, read_inputs, read_number, read_octet, read_octets, read_small_number,
     split_at_blank,

@@ -1,6 +1,6 @@
 use fio_message::DecodeError;
 use fio_world::push_fault;
-use fio_world::text::{FaultWords, Hexadecimal};
+use fio_world::text::Hexadecimal;
 use std::test::Fail;
 
 const FAULTS: [(DecodeError, &str); 4] = [
@@ -19,9 +19,9 @@ const FAULTS: [(DecodeError, &str); 4] = [
 #[test]
 fn words_of_refusals(rt: HostRuntime) -> Result<(), Fail> {
     for (fault, wanted) in FAULTS {
-        let words = FaultWords(fault);
-        let words = format!(in rt.alloc(); "{words}")?;
+        let words = format!(in rt.alloc(); "{fault}")?;
         assert_eq!(rt; words.as_str(), wanted);
+        assert_eq!(rt; fault.words().as_str(), wanted);
         let mut text = Vec::from_slice(rt.alloc(), b"line 3: ")?;
         push_fault(&mut text, &fault)?;
         assert_eq!(rt; &text.as_slice()[..8], b"line 3: ".as_slice());

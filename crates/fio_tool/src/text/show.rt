@@ -17,7 +17,7 @@ use answers::{push_answer, push_block_view};
 use commands::push_command;
 use fio_message::{DecodeError, Memory, decode_answer, decode_command, read_block};
 use fio_world::Report;
-use fio_world::text::{FaultWords, numbered_lines, read_octets_to};
+use fio_world::text::{numbered_lines, read_octets_to};
 use short::{push_short, short_message};
 use std::alloc::Global;
 
@@ -154,8 +154,7 @@ fn push_refusal(text: &mut Vec<u8>, number: usize, fault: DecodeError) -> Result
         ≡ text.old.items ++ text_at number (Err (fault_text fault))) }
     ensures good { IfOk result (λ good. good ≡ false) }
 {
-    let words = FaultWords(fault);
-    let line = format!(in *text.allocator(); "line {number}: {words}\n")?;
+    let line = format!(in *text.allocator(); "line {number}: {fault}\n")?;
     text.extend_from_slice(line.as_bytes())?;
     Ok(false)
 }

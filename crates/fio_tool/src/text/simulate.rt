@@ -5,7 +5,6 @@ ghost use Rattle.fio_world.specs.declared.script.ScriptError.TheVariants as erro
 
 use super::{is_too_long, report_too_long};
 use fio_message::Memory;
-use fio_world::text::FaultWords;
 use fio_world::{Report, ScriptError, report_text};
 use std::alloc::{AllocError, Global};
 
@@ -44,8 +43,7 @@ fn refused_script(alloc: Global, fault: ScriptError) -> Result<Report, Memory>
         ScriptError::TooManyEvents { line } => write!(text, "line {line}: too many events\n")?,
         ScriptError::BadLine { line } => write!(text, "line {line}: bad line\n")?,
         ScriptError::BadFrame { line, fault } => {
-            let words = FaultWords(fault);
-            write!(text, "line {line}: bad frame {words}\n")?;
+            write!(text, "line {line}: bad frame {fault}\n")?;
         }
         ScriptError::Memory => unreachable!(),
     }

@@ -1,5 +1,4 @@
-//! What texts print: octets as hexadecimal digits, and the words of a refusal.
-use fio_message::DecodeError;
+//! What texts print: octets as hexadecimal digits.
 use std::fmt;
 use std::fmt::{Display, Formatter};
 
@@ -14,39 +13,9 @@ impl Display for Hexadecimal<'_> {
     ghost output = { λ octets. Some (encode_lower octets.0.now) };
 
     fn fmt<W: fmt::Write>(&self, f: &mut Formatter<W>) -> fmt::Result {
-        'octets: for octet in self.0 {
-            let mut digits = [0; 2];
-            if hex::encode_to_slice([*octet], &mut digits).is_err() {
-                return Err(fmt::Error);
-            }
-            let Ok(digits) = str::from_utf8(&digits) else {
-                return Err(fmt::Error);
-            };
-            f.write_str(digits)?;
+        'octets: for &octet in self.0 {
+            write!(f, "{octet:02x}")?;
         }
         Ok(())
-    }
-}
-
-/// Prints the words of a refusal: `empty`, `too long got N`, `unknown type N` or
-/// `wrong length needed N got M`.
-#[derive(Clone, Copy, Debug)]
-pub struct FaultWords(pub DecodeError);
-
-impl Display for FaultWords {
-    ghost use Rattle.std.specs.Prelude.{Some};
-    ghost use Rattle.fio_message.specs.Texts.{fault_text};
-
-    ghost output = { λ words. Some (fault_text words.0) };
-
-    fn fmt<W: fmt::Write>(&self, f: &mut Formatter<W>) -> fmt::Result {
-        match self.0 {
-            DecodeError::Empty => write!(f, "empty"),
-            DecodeError::TooLong { got } => write!(f, "too long got {got}"),
-            DecodeError::UnknownType { code } => write!(f, "unknown type {code}"),
-            DecodeError::WrongLength { needed, got } => {
-                write!(f, "wrong length needed {needed} got {got}")
-            }
-        }
     }
 }
