@@ -4,7 +4,7 @@ ghost use Rattle.fio_module.specs.Settings.{Settings};
 ghost use Rattle.fio_world.specs.declared.event.Event.TheVariants as events;
 ghost use Rattle.fio_world.specs.Done.{octets_numbered, outcome_in, result_in};
 ghost use Rattle.fio_world.specs.Link.{Machine};
-ghost use Rattle.fio_world.specs.Steps.{event_of};
+ghost use Rattle.fio_world.specs.Steps.{command_named, event_of};
 ghost use Rattle.fio_world.specs.Worlds.{Shows, Steps};
 
 use super::World;
@@ -71,17 +71,40 @@ impl World {
                 self.module.restart();
                 Ok(Done::Quiet)
             }
-            Form::Poll => {
-                let frame = self.poller.poll();
-                self.send(&frame)
-            }
-            Form::Send(word) => self.send_command(&command_named(word)),
+            Form::Poll => self.send_poll(),
+            Form::Send(word) => self.send_named(word),
             Form::ToModule(index) => self.deliver_to_module(*index),
             Form::ToCpu(index) => self.deliver_to_cpu(*index),
         }
     }
 
+    /// The CPU sends a poll. It stands apart, as all that have room for a frame: events that need
+    /// none do not clear it then.
+    #[inline(never)]
+    fn send_poll(&mut self) -> Result<Done, WorldError>
+        ensures row { (settings : Settings) (first : ℕ) (machine : Machine)
+            → Shows settings first machine self.old
+            → Steps settings first machine events.Poll (result_in self.new result) self.new }
+        ensures err { OnErr result (self.new ≡ self.old) }
+    {
+        let frame = self.poller.poll();
+        self.send(&frame)
+    }
+
+    /// The CPU sends the command that a word's octets spell.
+    #[inline(never)]
+    fn send_named(&mut self, word: &[u8]) -> Result<Done, WorldError>
+        ensures row { (settings : Settings) (first : ℕ) (machine : Machine)
+            → Shows settings first machine self.old
+            → Steps settings first machine (events.Send (command_named word.now))
+            (result_in self.new result) self.new }
+        ensures err { OnErr result (self.new ≡ self.old) }
+    {
+        self.send_command(&command_named(word))
+    }
+
     /// The CPU sends a command, unless it is a poll.
+    #[inline(never)]
     fn send_command(&mut self, command: &Command) -> Result<Done, WorldError>
         ensures row { (settings : Settings) (first : ℕ) (machine : Machine)
             → Shows settings first machine self.old
@@ -148,6 +171,7 @@ impl World {
 
     /// The module receives the frame with this number, and its answer, if any, joins those to the
     /// CPU. Room for it is asked for first: what the module has received can't be taken back.
+    #[inline(never)]
     fn deliver_to_module(&mut self, index: usize) -> Result<Done, WorldError>
         ensures row { (settings : Settings) (first : ℕ) (machine : Machine)
             → Shows settings first machine self.old
