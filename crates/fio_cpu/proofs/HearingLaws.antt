@@ -1,10 +1,14 @@
--- What the reader of block answers reports of octets, as what the CPU hears in them.
-use Rattle.std.proofs.Common.{◌≡◌, ◌↔◌, ℕ, List, Option, Some, None, Result, Ok, Err, ap, refl}
+-- What the readers of answers report of octets, as what the CPU hears in them.
+use Rattle.std.proofs.Common.{◌≡◌, ◌↔◌, ℕ, List, Option, Some, None, Result, Ok, Err, ap, sym, refl}
+use Rattle.std.specs.Option.{ok_or}
+use Rattle.fio_message.specs.declared.answers.Answer.{Answer}
+use Rattle.fio_message.specs.declared.answers.Answer.TheVariants as answers
 use Rattle.fio_message.specs.declared.faults.DecodeError.{DecodeError}
 use Rattle.fio_message.specs.Octets.{IsOctets}
 use Rattle.fio_message.specs.Blocks.{Block, block_answer, SpellsBlock}
-use Rattle.fio_message.specs.Decoding.{decoded_answer, block_in}
+use Rattle.fio_message.specs.Decoding.{answered_block, answer_type_of, decoded_answer, block_in}
 use Rattle.fio_message.proofs.MessageLaws.{answer_decoded, block_back, block_spelled}
+use Rattle.fio_cpu.specs.declared.hearing.Heard.TheVariants.{Unreadable, Other}
 use Rattle.fio_cpu.specs.Hearing.{heard_answer, heard_as}
 
 -- an option that is no block is none
@@ -34,3 +38,17 @@ module _ {octets : List ℕ} {view : Result Block DecodeError}
       unspelled block found =
           let is = (accepted block).1 (block_spelled octets block are_octets found) in
           cc
+
+-- an answer that is no block is heard by its type
+pub heard_as-other : (answer : Option Answer) (fault : DecodeError) (code number : ℕ)
+    → answered_block answer ≡ None → answer_type_of (ok_or answer fault) ≡ Ok code
+    → Other code ≡ heard_as number (ok_or answer fault)
+heard_as-other None fault code number none is = absurd (cc is)
+heard_as-other (Some (answers.Block block entries status stamp)) fault code number none is = absurd (cc none)
+heard_as-other (Some other) fault code number none is = ap Other (cc is)
+
+-- octets that are no answer are heard by their fault
+pub heard_as-unreadable : (answer : Option Answer) (fault found : DecodeError) (number : ℕ)
+    → answer_type_of (ok_or answer fault) ≡ Err found → Unreadable found ≡ heard_as number (ok_or answer fault)
+heard_as-unreadable None fault found number is = ap Unreadable (cc is)
+heard_as-unreadable (Some answer) fault found number is = absurd (cc is)

@@ -8,7 +8,7 @@ ghost use Rattle.fio_cpu.specs.Hearing.{heard_answer, heard_as, after_block, aft
 
 use crate::recording::record_block;
 use crate::{Heard, Item};
-use fio_message::{BlockView, Command, Frame, Memory, decode_answer, encode_command, read_block};
+use fio_message::{BlockView, Command, Frame, Memory, answer_type, encode_command, read_block};
 use std::alloc::Global;
 use std::marker::Model;
 
@@ -107,16 +107,13 @@ impl Poller {
 }
 
 /// What octets are that spell no block answer: another answer, or unreadable, whatever the CPU's
-/// number is. It stands apart since an answer as a value takes a kilobyte.
-#[inline(never)]
+/// number is.
 fn hear_other(octets: &[u8]) -> Heard
     requires { block_in octets.now ≡ None }
     ensures { (number : ℕ) → result ≡ heard_as number (decoded_answer octets.now) }
 {
-    match decode_answer(octets) {
-        Ok(answer) => Heard::Other {
-            code: answer.code(),
-        },
+    match answer_type(octets) {
+        Ok(code) => Heard::Other { code },
         Err(fault) => Heard::Unreadable(fault),
     }
 }

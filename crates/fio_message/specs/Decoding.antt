@@ -1,6 +1,6 @@
 -- Decoding as functions on octets: the message that they spell, if any, and what a decoder answers.
 -- The laws tie both to spelling and to refusals.
-use Rattle.std.specs.Prelude.{ℕ, ◌+◌, ◌==◌, ◌&&◌, nat_le, nat_lt, Bool, false, List, [], ◌∷◌, length, Option, Some, None, Result, if◌then◌else◌}
+use Rattle.std.specs.Prelude.{ℕ, ◌+◌, ◌==◌, ◌&&◌, nat_le, nat_lt, Bool, false, List, [], ◌∷◌, length, Option, Some, None, Result, Ok, Err, if◌then◌else◌}
 use Rattle.std.specs.Option.{ok_or}
 use Rattle.fio_message.specs.declared.commands.Command.{Command}
 use Rattle.fio_message.specs.declared.commands.Command.TheVariants.{Poll}
@@ -9,7 +9,7 @@ use Rattle.fio_message.specs.declared.answers.Answer.TheVariants as answers
 use Rattle.fio_message.specs.declared.faults.DecodeError.{DecodeError}
 use Rattle.fio_message.specs.declared.faults.DecodeError.TheVariants.{Empty, TooLong, UnknownType, WrongLength}
 use Rattle.fio_message.specs.Commands.{command_length}
-use Rattle.fio_message.specs.Answers.{answer_length}
+use Rattle.fio_message.specs.Answers.{answer_code, answer_length}
 use Rattle.fio_message.specs.Blocks.{Block}
 use Rattle.fio_message.specs.Reading.{command_at, answer_at}
 
@@ -75,3 +75,8 @@ decoded_command octets = ok_or (command_in octets) (fault_in (command_length oct
 -- the same for answers
 abbrev pub decoded_answer : List ℕ → Result Answer DecodeError
 decoded_answer octets = ok_or (answer_in octets) (fault_in (answer_length octets) octets)
+
+-- the type of an answer that was decoded
+abbrev pub answer_type_of : Result Answer DecodeError → Result ℕ DecodeError
+answer_type_of (Err fault) = Err fault
+answer_type_of (Ok answer) = Ok (answer_code answer)

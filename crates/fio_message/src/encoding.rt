@@ -44,15 +44,20 @@ fn flagged(flag: bool, input: InputNumber) -> u8
     if flag { 128 + input.get() } else { input.get() }
 }
 
-/// Appends an item of a configuration, in three octets.
+/// Appends an item of a configuration, in three octets at once.
 fn append_item(frame: &mut Frame, item: &InputItem)
     requires { length frame.old.items + 3 ≤ 773 }
     ensures appended { frame.new.items ≡ frame.old.items ++ item_octets item.now }
     ensures within { IsItem item.now }
 {
-    frame.push(flagged(item.ignore, item.input));
-    frame.push(item.leading);
-    frame.push(item.trailing);
+    append(
+        frame,
+        &[
+            flagged(item.ignore, item.input),
+            item.leading,
+            item.trailing,
+        ],
+    );
 }
 
 /// Appends an entry of a block, in three octets at once.

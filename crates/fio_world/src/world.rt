@@ -137,6 +137,8 @@ impl World {
     /// and `Memory` where there is none. `Scan`, `LineSync`, `Raise`, `Restart` and a delivery to
     /// the CPU that adds nothing to the record take no memory. A delivery to the module asks for
     /// the place of its answer before the module receives the frame.
+    // Inlined, so that a caller who reads no frame pays for none.
+    #[inline(always)]
     pub fn step(&mut self, event: &Event) -> Result<Outcome, WorldError>
         ensures row { (settings : Settings) (first : ℕ) (machine : Machine)
             → Shows settings first machine self.old

@@ -174,6 +174,7 @@ fn answers_and_their_octets(rt: HostRuntime) {
     for (answer, octets) in &answers(&rt) {
         assert_eq!(rt; encode_answer(answer).as_slice(), *octets);
         assert!(rt; matches!(decode_answer(octets), Ok(found) if found == *answer));
+        assert!(rt; matches!(answer_type(octets), Ok(code) if code == answer.code()));
         assert_eq!(rt; Some(&answer.code()), octets.first());
     }
 }
