@@ -2,15 +2,17 @@
 use Rattle.std.proofs.Common.{◌≡◌, ◌≢◌, ◌<◌, ◌≤◌, ◌∙◌, ℕ, zero, suc, ◌+◌, ◌==◌, Bool, true, false, List, [], ◌∷◌, map, length, drop, Option, Some, None, Result, Ok, Err, refl, sym, ap, arith, subst, add-one, length-drop}
 use Rattle.std.specs.Prelude.{option_map, slice_get, unwrap_or, if◌then◌else◌}
 use Rattle.std.specs.Option.{option_or}
+use Rattle.std.proofs.lemmas.Option.{same_Some}
 use Rattle.std.specs.Result.{result_err}
 use Rattle.fio_world.specs.Collected.{collected, with_first}
 use Rattle.fio_world.specs.Lines.{lines_of, numbered, with_front, is_skipped}
-use Rattle.fio_tool.specs.Transcript.{TranscriptLine, earliest_above, frame_in, line_in, transcript_in, command_on, answer_on}
-use Rattle.fio_tool.specs.TranscriptFacts.{facts_at, rule_broken_by, with_line}
+use Rattle.fio_tool.specs.Transcript.{TranscriptLine, earliest_above, frame_in, line_in, transcript_in}
+use Rattle.fio_tool.specs.TranscriptFacts.{facts_at, rule_broken_by, said_by_frame, said_on, with_line}
 use Rattle.fio_tool.specs.TranscriptRules.{breach_at, verdict_in, verdict_of, verdict_on}
 use Rattle.fio_tool.specs.declared.transcript.facts.Facts.{Facts}
 use Rattle.fio_tool.specs.declared.transcript.lines.TraceError.{TraceError}
 use Rattle.fio_tool.specs.declared.transcript.rules.Rule.{Rule}
+use Rattle.fio_tool.specs.declared.transcript.said.Said.{Said}
 use Rattle.fio_tool.specs.declared.transcript.verdict.Verdict.{Verdict}
 use Rattle.fio_tool.specs.declared.transcript.verdict.Verdict.TheVariants.{Good, Broken}
 use Rattle.fio_tool.proofs.KeptFacts.{rule_broken-kept, facts_at-next}
@@ -81,12 +83,12 @@ unbroken number (Some rule) is = absurd (cc)
 
 module _ (lines : List TranscriptLine) (place : ℕ) (line : TranscriptLine) (here : slice_get lines place ≡ Some line) (facts facts' : Facts) where
   abbrev first_broken : Option Rule
-  first_broken = rule_broken_by facts (command_on line) (answer_on line)
+  first_broken = rule_broken_by facts (said_on line)
 
   next-stands : (breach breach' : Option Verdict) → StandsSoFar lines place facts breach
       → (breach ≢ None → breach' ≡ breach)
       → (breach ≡ None → breach' ≡ option_map (Broken line.number) first_broken)
-      → (breach ≡ None → breach' ≡ None → facts' ≡ with_line facts (command_on line) (answer_on line))
+      → (breach ≡ None → breach' ≡ None → facts' ≡ with_line facts (said_on line))
       → StandsSoFar lines (suc place) facts' breach'
   next-stands (Some verdict) breach' so_far same broken added =
       let is : breach' ≡ Some verdict = same (λ e. absurd (cc)) in
@@ -104,18 +106,11 @@ module _ (lines : List TranscriptLine) (place : ℕ) (line : TranscriptLine) (he
             added refl none ∙ sym (facts_at-next lines place line facts here (so_far.kept refl) holds);
       }
 
--- a frame by its direction and its count of octets
-pub counted_frame : (found : Option (Bool × List ℕ)) (from_cpu : Bool) (count : ℕ)
-    → ◌≡◌ {A = Option (Bool × ℕ)} (Some (from_cpu, count)) (option_map (λ frame. (frame.0, length frame.1)) found)
-    → (octets : List ℕ) × (found ≡ Some (from_cpu, octets)) × (length octets ≡ count)
-counted_frame (Some (direction, octets)) from_cpu count is =
-    let direction_is : from_cpu ≡ direction = ap (λ found. unwrap_or (option_map (λ frame. frame.0) found) true) is in
-    let count_is : count ≡ length octets = ap (λ found. unwrap_or (option_map (λ frame. frame.1) found) 0) is in
-    (octets, rw direction_is refl, sym count_is)
-counted_frame None from_cpu count is = absurd (cc)
-
-pub same_octets : (from_cpu : Bool) (octets others : List ℕ) → ◌≡◌ {A = Option (Bool × List ℕ)} (Some (from_cpu, octets)) (Some (from_cpu, others)) → octets ≡ others
-same_octets from_cpu octets others is = ap (λ found. unwrap_or (option_map (λ frame. frame.1) found) []) is
+-- the frame of a line that says something
+pub framed : (found : Option (Bool × List ℕ)) (said : Said) → Some said ≡ option_map said_by_frame found
+    → (from_cpu : Bool) × (octets : List ℕ) × (found ≡ Some (from_cpu, octets)) × (said ≡ said_by_frame (from_cpu, octets))
+framed (Some (from_cpu, octets)) said is = (from_cpu, octets, refl, same_Some _ _ is)
+framed None said is = absurd (cc)
 
 -- the line of a frame
 pub line_read : (number : ℕ) (line : List ℕ) (from_cpu : Bool) (octets : List ℕ) → frame_in line ≡ Some (from_cpu, octets)
@@ -129,20 +124,22 @@ first_course text lines facts reads kept =
     record { left_is = reads; within = omega arith; stands = record { found = refl; kept = λ none. kept } }
 
 -- one frame more
-pub next_course : (lines : List TranscriptLine) (frames number : ℕ) (text : List ℕ) (left : List (ℕ × List ℕ)) (line : TranscriptLine) (facts facts' : Facts) (breach breach' : Option Verdict)
-    → line_in (number, text) ≡ Ok line → line.number ≡ number
+pub next_course : (lines : List TranscriptLine) (frames number : ℕ) (text : List ℕ) (left : List (ℕ × List ℕ)) (line : TranscriptLine) (said : Said) (facts facts' : Facts) (breach breach' : Option Verdict)
+    → line_in (number, text) ≡ Ok line → line.number ≡ number → said ≡ said_on line
     → IsCourse lines frames ((number, text) ∷ left) facts breach
     → (breach ≢ None → breach' ≡ breach)
-    → (breach ≡ None → breach' ≡ option_map (Broken number) (rule_broken_by facts (command_on line) (answer_on line)))
-    → (breach ≡ None → breach' ≡ None → facts' ≡ with_line facts (command_on line) (answer_on line))
+    → (breach ≡ None → breach' ≡ option_map (Broken number) (rule_broken_by facts said))
+    → (breach ≡ None → breach' ≡ None → facts' ≡ with_line facts said)
     → IsCourse lines (frames + 1) left facts' breach'
-next_course lines frames number text left line facts facts' breach breach' reads numbered course same broken added =
+next_course lines frames number text left line said facts facts' breach breach' reads numbered says course same broken added =
     let first = first-left line (collected (map line_in left)) (drop frames lines) (rw reads at course.left_is) in
     let cut = dropped-first lines frames line first.0 first.2 in
+    let broken_by = λ (none : breach ≡ None). broken none ∙ ap (λ s. option_map (Broken number) (rule_broken_by facts s)) says in
+    let added_by = λ (none : breach ≡ None) (holds : breach' ≡ None). added none holds ∙ ap (with_line facts) says in
     record {
       left_is = first.1 ∙ ap Ok (sym cut.1) ∙ ap (λ n. Ok (drop n lines)) (sym (add-one frames));
       within = omega (arith, cut.2);
-      stands = subst (λ n. StandsSoFar lines n facts' breach') (sym (add-one frames)) (next-stands lines frames line cut.0 facts facts' breach breach' course.stands same (rw numbered broken) added);
+      stands = subst (λ n. StandsSoFar lines n facts' breach') (sym (add-one frames)) (next-stands lines frames line cut.0 facts facts' breach breach' course.stands same (rw numbered broken_by) added_by);
     }
 
 none-left : (lines : List TranscriptLine) (frames : ℕ) → collected (map line_in []) ≡ Ok (drop frames lines) → frames ≤ length lines → frames ≡ length lines
@@ -159,9 +156,9 @@ course_end lines frames facts breach course =
     ap (λ n. unwrap_or (earliest_above (breach_at lines) n) (Good n)) (sym all) ∙ ap (λ found. unwrap_or found (Good frames)) (sym course.stands.found)
 
 -- the verdict on what is read
-pub verdict_read : (text : List ℕ) (lines : List TranscriptLine) (verdict : Verdict) → transcript_in text ≡ Ok lines → verdict_on lines ≡ verdict
-    → verdict_in text ≡ Ok verdict
-verdict_read text lines verdict reads is = ap verdict_of reads ∙ ap Ok is
+pub verdict_read : (text : List ℕ) (lines : List TranscriptLine) (found verdict : Verdict) → transcript_in text ≡ Ok lines → verdict_on lines ≡ found
+    → verdict ≡ found → verdict_in text ≡ Ok verdict
+verdict_read text lines found verdict reads is same = ap verdict_of reads ∙ ap Ok (is ∙ sym same)
 
 -- what is read has no fault
 pub read_whole : (read : Result (List TranscriptLine) TraceError) → None ≡ result_err read → (lines : List TranscriptLine) × (read ≡ Ok lines)

@@ -1,24 +1,98 @@
 -- What is kept of the lines above a place says which rule the line there breaks.
-use Rattle.std.proofs.Common.{◌≡◌, ◌<◌, ◌⊎◌, inl, inr, ℕ, zero, suc, ◌+◌, Bool, true, false, Option, Some, None, refl, ap, sym, arith, cond}
-use Rattle.std.specs.Prelude.{List, length, ◌==◌, ◌&&◌, if◌then◌else◌, not, find, is_some, option_map, slice_get}
+use Rattle.std.proofs.Common.{◌≡◌, ◌<◌, ◌⊎◌, inl, inr, ℕ, zero, suc, ◌+◌, Bool, true, false, Option, Some, None, refl, ap, sym, ◌∙◌, arith, cond}
+use Rattle.std.specs.Prelude.{List, length, ◌==◌, ◌&&◌, ◌||◌, if◌then◌else◌, not, find, is_some, option_map, slice_get}
 use Rattle.std.proofs.lemmas.Bool.{le-ltb, lt-ltb, not-false}
 use Rattle.fio_message.specs.Answers.{answer_code}
 use Rattle.fio_message.specs.Blocks.{Block}
 use Rattle.fio_message.specs.Decoding.{command_in, answer_in, polled_number, answered_block}
 use Rattle.fio_message.specs.Commands.{command_code}
-use Rattle.fio_message.specs.Status.{says_more}
+use Rattle.fio_message.specs.Status.{says_more, says_again, says_out_of_sequence}
 use Rattle.fio_message.specs.declared.commands.Command.{Command}
 use Rattle.fio_message.specs.declared.commands.Command.TheVariants as commands
 use Rattle.fio_message.specs.declared.commands.OtherCommand.TheVariants as others
 use Rattle.fio_message.specs.declared.answers.Answer.{Answer}
 use Rattle.fio_message.specs.declared.answers.Answer.TheVariants as answers
 use Rattle.fio_tool.specs.Transcript.{TranscriptLine, Placed, command_on, answer_on, command_sent, answer_heard, poll_sent, block_heard, command_above, poll_above, earlier_poll, earlier_block, is_some_and}
-use Rattle.fio_tool.specs.TranscriptRules.{is_broken, rule_broken, rules, number_due}
-use Rattle.fio_tool.specs.TranscriptFacts.{facts_at, is_answered_above, number_due_by, with_command, with_answer, with_line, rule_broken_by, is_broken_by_answer, is_broken_by_command, is_broken_by_block}
+use Rattle.fio_tool.specs.TranscriptRules.{accepts, is_beyond_limits, is_broken, names_absent, rule_broken, rules, number_due}
+use Rattle.fio_tool.specs.TranscriptFacts.{facts_at, is_answered_above, number_due_by, with_line, rule_broken_by, said_by, said_by_command, said_by_answer, said_on}
 use Rattle.fio_tool.specs.declared.transcript.facts.Facts.{Facts}
 use Rattle.fio_tool.specs.declared.transcript.rules.Rule.{Rule}
 use Rattle.fio_tool.specs.declared.transcript.rules.Rule.TheVariants.{Readable, Pair, Number, Advance, Same, Sequence, Limits, Rest, Refusal}
 use Rattle.fio_tool.proofs.PlacesAbove.{is_some_and-map, is_some-map, latest_above-below, answered-above, answered-below}
+
+-- ---- a command or an answer, before it is read for the rules
+
+-- the facts with a poll more, and with a block answer more, where there is one
+abbrev with_poll : Facts → Option ℕ → Facts
+with_poll facts None = facts
+with_poll facts (Some number) = record facts {
+  polled = Some number;
+  answered = false;
+  advanced = is_some_and facts.polled (λ polled. not (number == polled));
+}
+
+abbrev with_block : Facts → Option Block → Facts
+with_block facts None = facts
+with_block facts (Some block) = record facts { answered = true; more = Some (says_more block.status) }
+
+abbrev with_command : Facts → Command → Facts
+with_command facts command = record (with_poll facts (polled_number (Some command))) {
+  awaited = Some (command_code command + 128);
+  absent_named = names_absent command;
+}
+
+abbrev with_answer : Facts → Answer → Facts
+with_answer facts answer = record (with_block facts (answered_block (Some answer))) {
+  awaited = None;
+  absent_named = false;
+}
+
+abbrev is_broken_by_command : Facts → Command → Rule → Bool
+is_broken_by_command facts command Advance = is_some_and (polled_number (Some command)) (λ number.
+    is_some_and (number_due_by facts) (λ due. not (number == due)))
+is_broken_by_command facts command rule = false
+
+abbrev is_broken_by_block : Facts → Block → Rule → Bool
+is_broken_by_block facts block Number = is_some_and facts.polled (λ polled. not (block.number == polled))
+is_broken_by_block facts block Same = says_again block.status && facts.advanced
+is_broken_by_block facts block Sequence =
+    says_out_of_sequence block.status && (says_again block.status || is_some facts.more)
+is_broken_by_block facts block Limits = is_beyond_limits block
+is_broken_by_block facts block Rest = length block.entries == 0 && is_some_and facts.more (λ more. more)
+is_broken_by_block facts block rule = false
+
+abbrev is_broken_by_answer : Facts → Answer → Rule → Bool
+is_broken_by_answer facts answer Pair = not (is_some_and facts.awaited (λ code. code == answer_code answer))
+is_broken_by_answer facts answer Refusal = accepts answer && facts.absent_named
+is_broken_by_answer facts answer rule =
+    is_some_and (answered_block (Some answer)) (λ block. is_broken_by_block facts block rule)
+
+-- what is read of it for the rules says the same
+command-said : (facts : Facts) (command : Command)
+    → (find (is_broken_by_command facts command) rules ≡ rule_broken_by facts (said_by_command command))
+    × (with_command facts command ≡ with_line facts (said_by_command command))
+command-said facts (commands.Poll number) = (refl, refl)
+command-said facts (commands.Status clear) = (refl, refl)
+command-said facts (commands.LoadCounter load) = (refl, refl)
+command-said facts (commands.ConfigureInputs items) = (refl, refl)
+command-said facts commands.RawInputs = (refl, refl)
+command-said facts commands.FilteredInputs = (refl, refl)
+command-said facts (commands.SetOutputs levels controls) = (refl, refl)
+command-said facts (commands.Watchdog timeout) = (refl, refl)
+command-said facts commands.Identify = (refl, refl)
+command-said facts (commands.Other kind body) = (refl, refl)
+
+answer-said : (facts : Facts) (answer : Answer)
+    → (find (is_broken_by_answer facts answer) rules ≡ rule_broken_by facts (said_by_answer answer))
+    × (with_answer facts answer ≡ with_line facts (said_by_answer answer))
+answer-said facts (answers.Status flags receive_errors transmit_errors stamp) = (refl, refl)
+answer-said facts (answers.LoadCounter status) = (refl, refl)
+answer-said facts (answers.ConfigureInputs status) = (refl, refl)
+answer-said facts (answers.RawInputs inputs stamp) = (refl, refl)
+answer-said facts (answers.FilteredInputs inputs stamp) = (refl, refl)
+answer-said facts (answers.Block number entries status stamp) = (refl, refl)
+answer-said facts (answers.Watchdog status) = (refl, refl)
+answer-said facts (answers.Other kind body) = (refl, refl)
 
 -- ---- a block answer below a poll
 
@@ -243,24 +317,25 @@ module _ (lines : List TranscriptLine) (place : ℕ) where
 
   broken-by : (command : Option Command) (answer : Option Answer) → (command ≡ None) ⊎ (answer ≡ None)
       → command_sent lines place ≡ command → answer_heard lines place ≡ answer
-      → rule_broken lines place ≡ rule_broken_by kept command answer
-  broken-by (Some command) None one sent heard = command-kept command sent heard
-  broken-by None (Some answer) one sent heard = answer-kept answer sent heard
+      → rule_broken lines place ≡ rule_broken_by kept (said_by command answer)
+  broken-by (Some command) None one sent heard = command-kept command sent heard ∙ (command-said kept command).0
+  broken-by None (Some answer) one sent heard = answer-kept answer sent heard ∙ (answer-said kept answer).0
   broken-by None None one sent heard = rw (sent, heard) refl
   broken-by (Some command) (Some answer) (inl e) sent heard = absurd (cc)
   broken-by (Some command) (Some answer) (inr e) sent heard = absurd (cc)
 
   added-by : (command : Option Command) (answer : Option Answer) → (command ≡ None) ⊎ (answer ≡ None)
       → command_sent lines place ≡ command → answer_heard lines place ≡ answer → rule_broken lines place ≡ None
-      → facts_at lines (suc place) ≡ with_line kept command answer
-  added-by (Some command) None one sent heard holds = command-added command (polled_number (Some command)) refl sent heard
+      → facts_at lines (suc place) ≡ with_line kept (said_by command answer)
+  added-by (Some command) None one sent heard holds =
+      command-added command (polled_number (Some command)) refl sent heard ∙ (command-said kept command).1
   added-by None (Some answer) one sent heard holds =
-      answer-added answer (answered_block (Some answer)) refl sent heard (second-fails _ _ Readable Pair _ holds)
+      answer-added answer (answered_block (Some answer)) refl sent heard (second-fails _ _ Readable Pair _ holds) ∙ (answer-said kept answer).1
   added-by None None one sent heard holds = absurd (let broken = rw (sent, heard) at holds in cc)
   added-by (Some command) (Some answer) (inl e) sent heard holds = absurd (cc)
   added-by (Some command) (Some answer) (inr e) sent heard holds = absurd (cc)
 
--- a line sends no command, or tells no answer
+-- a line sends no command, or hears no answer
 one-way : (from_cpu : Bool) (command : Option Command) (answer : Option Answer)
     → ((if from_cpu then command else None) ≡ None) ⊎ ((if from_cpu then None else answer) ≡ None)
 one-way true command answer = inr refl
@@ -272,9 +347,9 @@ module _ (lines : List TranscriptLine) (place : ℕ) (line : TranscriptLine) (fa
   one = one-way line.from_cpu (command_in line.octets) (answer_in line.octets)
 
   -- the first rule that a line breaks, by what is kept of the lines above it
-  pub rule_broken-kept : rule_broken lines place ≡ rule_broken_by facts (command_on line) (answer_on line)
+  pub rule_broken-kept : rule_broken lines place ≡ rule_broken_by facts (said_on line)
   rule_broken-kept = rw kept_above (broken-by lines place (command_on line) (answer_on line) one (rw here refl) (rw here refl))
 
   -- what is kept below a line that breaks no rule
-  pub facts_at-next : rule_broken lines place ≡ None → facts_at lines (suc place) ≡ with_line facts (command_on line) (answer_on line)
+  pub facts_at-next : rule_broken lines place ≡ None → facts_at lines (suc place) ≡ with_line facts (said_on line)
   facts_at-next holds = rw kept_above (added-by lines place (command_on line) (answer_on line) one (rw here refl) (rw here refl) holds)

@@ -2,18 +2,52 @@
 -- the contracts of private functions name it. The rules by places in `TranscriptRules` decide; by the
 -- law `transcript_laws::facts_decide_the_rules` both agree.
 use Rattle.std.specs.Prelude.{ℕ, suc, ◌+◌, ◌%◌, Bool, true, false, List, Option, Some, None, length, find, ◌==◌, ◌&&◌, ◌||◌, nat_lt, not, is_some, option_map, if◌then◌else◌}
+use Rattle.std.specs.List.{list_any}
 use Rattle.fio_message.specs.Answers.{answer_code}
 use Rattle.fio_message.specs.Blocks.{Block}
 use Rattle.fio_message.specs.Commands.{command_code}
-use Rattle.fio_message.specs.Decoding.{polled_number, answered_block}
-use Rattle.fio_message.specs.Status.{says_more, says_again, says_out_of_sequence}
+use Rattle.fio_message.specs.Status.{says_more, says_lost, says_again, says_out_of_sequence}
 use Rattle.fio_message.specs.declared.answers.Answer.{Answer}
+use Rattle.fio_message.specs.declared.answers.Answer.TheVariants as answers
 use Rattle.fio_message.specs.declared.commands.Command.{Command}
-use Rattle.fio_tool.specs.Transcript.{TranscriptLine, Placed, block_heard, command_above, earlier_poll, earlier_block, is_some_and}
-use Rattle.fio_tool.specs.TranscriptRules.{is_beyond_limits, accepts, names_absent, rules}
+use Rattle.fio_message.specs.declared.commands.Command.TheVariants as commands
+use Rattle.fio_tool.specs.Transcript.{TranscriptLine, Placed, answer_from, answer_on, block_heard, command_above, command_from, command_on, earlier_poll, earlier_block, is_some_and}
+use Rattle.fio_tool.specs.TranscriptRules.{accepts, is_absent, names_absent, rules}
 use Rattle.fio_tool.specs.declared.transcript.facts.Facts.{Facts}
 use Rattle.fio_tool.specs.declared.transcript.rules.Rule.{Rule}
 use Rattle.fio_tool.specs.declared.transcript.rules.Rule.TheVariants.{Readable, Pair, Number, Advance, Same, Sequence, Limits, Rest, Refusal}
+use Rattle.fio_tool.specs.declared.transcript.said.Said.{Said}
+use Rattle.fio_tool.specs.declared.transcript.said.Said.TheVariants as said
+
+-- ---- what a line says to the rules
+
+abbrev pub said_by_command : Command → Said
+said_by_command (commands.Poll number) = said.Poll number
+said_by_command command = said.Command (command_code command + 128) (names_absent command)
+
+abbrev pub said_by_block : Block → Said
+said_by_block block = said.Block block.number block.status (length block.entries)
+    (list_any (λ entry. is_absent entry.input) block.entries)
+
+abbrev pub said_by_answer : Answer → Said
+said_by_answer (answers.Block number entries status stamp) = said.Block number status
+    (length entries.items) (list_any (λ entry. is_absent entry.input) entries.items)
+said_by_answer answer = said.Answer (answer_code answer) (accepts answer)
+
+-- by the command that a line sends, or the answer that it hears
+abbrev pub said_by : Option Command → Option Answer → Said
+said_by (Some command) heard = said_by_command command
+said_by None (Some answer) = said_by_answer answer
+said_by None None = said.Nothing
+
+-- by a frame, behind whether the CPU sent it
+abbrev pub said_by_frame : Bool × List ℕ → Said
+said_by_frame frame = said_by (command_from frame.0 frame.1) (answer_from frame.0 frame.1)
+
+abbrev pub said_on : TranscriptLine → Said
+said_on line = said_by (command_on line) (answer_on line)
+
+-- ---- what is kept
 
 -- a block answer stands directly below a poll, and above a place
 abbrev pub is_answered_above : List TranscriptLine → ℕ → Placed ℕ → Bool
@@ -36,77 +70,59 @@ facts_at lines place = record {
   more = option_map (λ block. says_more block.value.status) (earlier_block lines place);
 }
 
--- ---- one line more
-
--- the facts with a poll more, where there is one
-abbrev pub with_poll : Facts → Option ℕ → Facts
-with_poll facts None = facts
-with_poll facts (Some number) = record facts {
+-- the facts with one line more
+abbrev pub with_line : Facts → Said → Facts
+with_line facts said.Nothing = facts
+with_line facts (said.Poll number) = record facts {
+  awaited = Some 182;
+  absent_named = false;
   polled = Some number;
   answered = false;
   advanced = is_some_and facts.polled (λ polled. not (number == polled));
 }
-
--- the facts with a block answer more, where there is one
-abbrev pub with_block : Facts → Option Block → Facts
-with_block facts None = facts
-with_block facts (Some block) =
-    record facts { answered = true; more = Some (says_more block.status) }
-
-abbrev pub with_command : Facts → Command → Facts
-with_command facts command = record (with_poll facts (polled_number (Some command))) {
-  awaited = Some (command_code command + 128);
-  absent_named = names_absent command;
+with_line facts (said.Command answer absent) =
+    record facts { awaited = Some answer; absent_named = absent }
+with_line facts (said.Block number status entries absent) = record facts {
+  awaited = None;
+  absent_named = false;
+  answered = true;
+  more = Some (says_more status);
 }
+with_line facts (said.Answer code accepted) =
+    record facts { awaited = None; absent_named = false }
 
-abbrev pub with_answer : Facts → Answer → Facts
-with_answer facts answer =
-    record (with_block facts (answered_block (Some answer))) {
-      awaited = None;
-      absent_named = false;
-    }
-
--- the facts with one line more: the command that it sends or the answer that it hears
-abbrev pub with_line : Facts → Option Command → Option Answer → Facts
-with_line facts (Some command) heard = with_command facts command
-with_line facts None (Some answer) = with_answer facts answer
-with_line facts None None = facts
-
--- ---- the rules that a command or an answer breaks, by what is kept
+-- ---- the rules by what is kept
 
 -- the number that the next poll must have
 abbrev pub number_due_by : Facts → Option ℕ
 number_due_by facts =
     option_map (λ polled. if facts.answered then (polled + 1) % 256 else polled) facts.polled
 
--- a command breaks a rule
-abbrev pub is_broken_by_command : Facts → Command → Rule → Bool
-is_broken_by_command facts command Advance = is_some_and (polled_number (Some command)) (λ number.
-    is_some_and (number_due_by facts) (λ due. not (number == due)))
-is_broken_by_command facts command rule = false
+-- no command directly above awaits an answer of this type
+abbrev pub is_unasked : Facts → ℕ → Bool
+is_unasked facts code = not (is_some_and facts.awaited (λ awaited. awaited == code))
 
--- a block answer breaks a rule, but for those on all answers
-abbrev pub is_broken_by_block : Facts → Block → Rule → Bool
-is_broken_by_block facts block Number =
-    is_some_and facts.polled (λ polled. not (block.number == polled))
-is_broken_by_block facts block Same = says_again block.status && facts.advanced
-is_broken_by_block facts block Sequence =
-    says_out_of_sequence block.status && (says_again block.status || is_some facts.more)
-is_broken_by_block facts block Limits = is_beyond_limits block
-is_broken_by_block facts block Rest =
-    length block.entries == 0 && is_some_and facts.more (λ more. more)
-is_broken_by_block facts block rule = false
-
--- an answer breaks a rule
-abbrev pub is_broken_by_answer : Facts → Answer → Rule → Bool
-is_broken_by_answer facts answer Pair =
-    not (is_some_and facts.awaited (λ code. code == answer_code answer))
-is_broken_by_answer facts answer Refusal = accepts answer && facts.absent_named
-is_broken_by_answer facts answer rule =
-    is_some_and (answered_block (Some answer)) (λ block. is_broken_by_block facts block rule)
+-- a line that says this breaks a rule
+abbrev pub is_broken_by : Facts → Said → Rule → Bool
+is_broken_by facts said.Nothing Readable = true
+is_broken_by facts (said.Answer code accepted) Pair = is_unasked facts code
+is_broken_by facts (said.Block number status entries absent) Pair = is_unasked facts 182
+is_broken_by facts (said.Block number status entries absent) Number =
+    is_some_and facts.polled (λ polled. not (number == polled))
+is_broken_by facts (said.Poll number) Advance =
+    is_some_and (number_due_by facts) (λ due. not (number == due))
+is_broken_by facts (said.Block number status entries absent) Same =
+    says_again status && facts.advanced
+is_broken_by facts (said.Block number status entries absent) Sequence =
+    says_out_of_sequence status && (says_again status || is_some facts.more)
+is_broken_by facts (said.Block number status entries absent) Limits =
+    (says_lost status && not (says_more status))
+    || ((says_more status && not (entries == 255)) || absent)
+is_broken_by facts (said.Block number status entries absent) Rest =
+    entries == 0 && is_some_and facts.more (λ more. more)
+is_broken_by facts (said.Answer code accepted) Refusal = accepted && facts.absent_named
+is_broken_by facts line rule = false
 
 -- the first rule that a line breaks
-abbrev pub rule_broken_by : Facts → Option Command → Option Answer → Option Rule
-rule_broken_by facts (Some command) heard = find (is_broken_by_command facts command) rules
-rule_broken_by facts None (Some answer) = find (is_broken_by_answer facts answer) rules
-rule_broken_by facts None None = Some Readable
+abbrev pub rule_broken_by : Facts → Said → Option Rule
+rule_broken_by facts line = find (is_broken_by facts line) rules

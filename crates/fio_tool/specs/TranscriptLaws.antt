@@ -1,9 +1,9 @@
 -- Laws of the rules of a transcript.
 use Rattle.std.specs.Prelude.{◌≡◌, ◌↔◌, ℕ, suc, ◌<◌, false, List, Option, Some, None, Ok, slice_get}
 use Rattle.fio_tool.specs.InputFaults.{is_too_long}
-use Rattle.fio_tool.specs.Transcript.{TranscriptLine, Placed, latest_above, transcript_in, command_on, answer_on}
+use Rattle.fio_tool.specs.Transcript.{TranscriptLine, Placed, latest_above, transcript_in}
 use Rattle.fio_tool.specs.TranscriptRules.{IsVerdict, rule_broken, verdict_on}
-use Rattle.fio_tool.specs.TranscriptFacts.{facts_at, rule_broken_by, with_line}
+use Rattle.fio_tool.specs.TranscriptFacts.{facts_at, rule_broken_by, said_on, with_line}
 use Rattle.fio_tool.specs.Check.{check_text, is_check_good, is_good, verdict_text}
 use Rattle.fio_tool.specs.declared.transcript.verdict.Verdict.{Verdict}
 
@@ -35,13 +35,10 @@ IsTextOfItsLines input = (lines : List TranscriptLine) (verdict : Verdict)
 -- what is kept below it
 pub record FactsDecide (lines : List TranscriptLine) (place : ℕ) (line : TranscriptLine)
     : Type 0 where
-  pub broken :
-      rule_broken lines place
-      ≡ rule_broken_by (facts_at lines place) (command_on line) (answer_on line)
+  pub broken : rule_broken lines place ≡ rule_broken_by (facts_at lines place) (said_on line)
   pub kept :
       rule_broken lines place ≡ None →
-      facts_at lines (suc place)
-      ≡ with_line (facts_at lines place) (command_on line) (answer_on line)
+      facts_at lines (suc place) ≡ with_line (facts_at lines place) (said_on line)
 
 abbrev pub FactsDecideRules : List TranscriptLine → Type 0
 FactsDecideRules lines = (place : ℕ) (line : TranscriptLine)

@@ -4,6 +4,7 @@ mod facts;
 mod lines;
 mod one_pass;
 mod rules;
+mod said;
 mod status_bits;
 mod verdict;
 

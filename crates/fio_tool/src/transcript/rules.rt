@@ -1,16 +1,11 @@
 //! The rules of a transcript, by what is kept of the lines above.
-ghost use Rattle.std.specs.Prelude.{◌≡◌, ◌==◌, ◌&&◌, ◌||◌, not, is_some, length, find};
-ghost use Rattle.std.specs.List.{list_any};
-ghost use Rattle.fio_message.specs.Blocks.{block_answer};
-ghost use Rattle.fio_message.specs.Status.{says_again, says_error, says_out_of_sequence};
-ghost use Rattle.fio_message.specs.declared.fields.Entry.{Entry};
-ghost use Rattle.fio_tool.specs.Transcript.{is_some_and};
-ghost use Rattle.fio_tool.specs.TranscriptRules.{accepts, is_absent, is_beyond_limits, names_absent, rules};
-ghost use Rattle.fio_tool.specs.TranscriptFacts.{is_broken_by_answer, number_due_by};
+ghost use Rattle.std.specs.Prelude.{◌≡◌};
+ghost use Rattle.fio_tool.specs.declared.transcript.facts.Facts.{Facts};
+ghost use Rattle.fio_tool.specs.TranscriptFacts.{is_broken_by, number_due_by, rule_broken_by};
 
 use super::facts::Facts;
-use super::status_bits::{AGAIN, LOST, MORE, OUT_OF_SEQUENCE, REFUSED, is_set};
-use fio_message::{Answer, BlockView, Command, InputItem, InputNumber};
+use super::said::Said;
+use super::status_bits::{AGAIN, LOST, MORE, OUT_OF_SEQUENCE, is_set};
 
 /// What a line of a transcript may break, in the order in which the rules are tried (own profile).
 #[derive(Clone, Copy, Debug, PartialEq, Eq, PartialOrd, Ord, Hash)]
@@ -38,46 +33,59 @@ pub enum Rule {
 }
 
 impl Facts {
-    /// The first rule that a block answer breaks.
-    pub(super) fn rule_broken_by_block(&self, block: &BlockView<'_>) -> Option<Rule>
-        ensures { result ≡ find (is_broken_by_answer self.now (block_answer block.now)) rules }
+    /// The first rule that a line breaks.
+    pub(super) fn rule_broken(&self, said: Said) -> Option<Rule>
+        ensures { result ≡ rule_broken_by self.now said }
     {
-        let status = block.status();
-        if self.breaks_pair(182) {
+        if breaks_readable(said) {
+            Some(Rule::Readable)
+        } else if self.breaks_pair(said) {
             Some(Rule::Pair)
-        } else if self.breaks_number(block.block()) {
+        } else if self.breaks_number(said) {
             Some(Rule::Number)
-        } else if self.breaks_same(status) {
+        } else if self.breaks_advance(said) {
+            Some(Rule::Advance)
+        } else if self.breaks_same(said) {
             Some(Rule::Same)
-        } else if self.breaks_sequence(status) {
+        } else if self.breaks_sequence(said) {
             Some(Rule::Sequence)
-        } else if breaks_limits(block) {
+        } else if breaks_limits(said) {
             Some(Rule::Limits)
-        } else if self.breaks_rest(block) {
+        } else if self.breaks_rest(said) {
             Some(Rule::Rest)
+        } else if self.breaks_refusal(said) {
+            Some(Rule::Refusal)
         } else {
             None
         }
     }
 
-    /// Whether an answer of this type stands elsewhere than directly below its command.
-    pub(super) fn breaks_pair(&self, code: u8) -> bool
-        ensures { result ≡ not (is_some_and self.now.awaited (λ awaited. awaited == code)) }
+    fn breaks_pair(&self, said: Said) -> bool
+        ensures { result ≡ is_broken_by self.now said Rule.Pair }
     {
-        self.awaited != Some(code)
+        match said {
+            Said::Block { .. } => self.awaited != Some(182),
+            Said::Answer { code, .. } => self.awaited != Some(code),
+            _ => false,
+        }
     }
 
-    fn breaks_number(&self, number: u8) -> bool
-        ensures { result ≡ is_some_and self.now.polled (λ polled. not (number == polled)) }
+    fn breaks_number(&self, said: Said) -> bool
+        ensures { result ≡ is_broken_by self.now said Rule.Number }
     {
-        self.polled.is_some_and(|polled| number != polled)
+        match said {
+            Said::Block { number, .. } => self.polled.is_some_and(|polled| number != polled),
+            _ => false,
+        }
     }
 
-    /// Whether a poll has another number than the one that is due.
-    pub(super) fn breaks_advance(&self, number: u8) -> bool
-        ensures { result ≡ is_some_and (number_due_by self.now) (λ due. not (number == due)) }
+    fn breaks_advance(&self, said: Said) -> bool
+        ensures { result ≡ is_broken_by self.now said Rule.Advance }
     {
-        self.number_due().is_some_and(|due| number != due)
+        match said {
+            Said::Poll { number } => self.number_due().is_some_and(|due| number != due),
+            _ => false,
+        }
     }
 
     /// The number that the next poll must have, and `None` before the first poll.
@@ -92,75 +100,64 @@ impl Facts {
         }
     }
 
-    fn breaks_same(&self, status: u8) -> bool
-        ensures { result ≡ (says_again status && self.now.advanced) }
+    fn breaks_same(&self, said: Said) -> bool
+        ensures { result ≡ is_broken_by self.now said Rule.Same }
     {
-        is_set(status, AGAIN) && self.advanced
-    }
-
-    fn breaks_sequence(&self, status: u8) -> bool
-        ensures { result ≡ (says_out_of_sequence status
-            && (says_again status || is_some self.now.more)) }
-    {
-        is_set(status, OUT_OF_SEQUENCE) && (is_set(status, AGAIN) || self.more.is_some())
-    }
-
-    fn breaks_rest(&self, block: &BlockView<'_>) -> bool
-        ensures { result ≡ (length block.now.entries == 0
-            && is_some_and self.now.more (λ more. more)) }
-    {
-        block.is_empty() && self.more == Some(true)
-    }
-}
-
-fn breaks_limits(block: &BlockView<'_>) -> bool
-    ensures { result ≡ is_beyond_limits block.now }
-{
-    let more = is_set(block.status(), MORE);
-    let lost = is_set(block.status(), LOST);
-    lost && !more || more && block.len() != 255 || names_absent_entry(block)
-}
-
-fn names_absent_entry(block: &BlockView<'_>) -> bool
-    ensures { result ≡ list_any (λ entry. is_absent entry.input) block.now.entries }
-{
-    for entry in block.entries() {
-        if is_absent(entry.input) {
-            return true;
+        match said {
+            Said::Block { status, .. } => is_set(status, AGAIN) && self.advanced,
+            _ => false,
         }
     }
-    false
-}
 
-/// Whether a command is a configuration that names an input above 63.
-pub(super) fn names_absent(command: &Command) -> bool
-    ensures { result ≡ names_absent command.now }
-{
-    match command {
-        Command::ConfigureInputs { items } => names_absent_item(items.as_slice()),
-        _ => false,
+    fn breaks_sequence(&self, said: Said) -> bool
+        ensures { result ≡ is_broken_by self.now said Rule.Sequence }
+    {
+        match said {
+            Said::Block { status, .. } => {
+                is_set(status, OUT_OF_SEQUENCE) && (is_set(status, AGAIN) || self.more.is_some())
+            }
+            _ => false,
+        }
+    }
+
+    fn breaks_rest(&self, said: Said) -> bool
+        ensures { result ≡ is_broken_by self.now said Rule.Rest }
+    {
+        match said {
+            Said::Block { entries, .. } => entries == 0 && self.more == Some(true),
+            _ => false,
+        }
+    }
+
+    fn breaks_refusal(&self, said: Said) -> bool
+        ensures { result ≡ is_broken_by self.now said Rule.Refusal }
+    {
+        match said {
+            Said::Answer { accepts, .. } => accepts && self.absent_named,
+            _ => false,
+        }
     }
 }
 
-fn names_absent_item(items: &[InputItem]) -> bool
-    ensures { result ≡ list_any (λ item. is_absent item.input) items.now }
+fn breaks_readable(said: Said) -> bool
+    ensures { (facts : Facts) → result ≡ is_broken_by facts said Rule.Readable }
 {
-    items.iter().any(|item| is_absent(item.input))
+    matches!(said, Said::Nothing)
 }
 
-/// Whether an input is above 63, so that no module of this profile has it.
-fn is_absent(input: InputNumber) -> bool
-    ensures { result ≡ is_absent input }
+fn breaks_limits(said: Said) -> bool
+    ensures { (facts : Facts) → result ≡ is_broken_by facts said Rule.Limits }
 {
-    input.get() > 63
-}
-
-/// Whether an answer says that a configuration was taken.
-pub(super) fn is_acceptance(answer: &Answer) -> bool
-    ensures { result ≡ accepts answer.now }
-{
-    match answer {
-        Answer::ConfigureInputs { status } => !is_set(*status, REFUSED),
+    match said {
+        Said::Block {
+            status,
+            entries,
+            names_absent,
+            ..
+        } => {
+            let more = is_set(status, MORE);
+            is_set(status, LOST) && !more || more && entries != 255 || names_absent
+        }
         _ => false,
     }
 }

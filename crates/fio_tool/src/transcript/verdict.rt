@@ -5,6 +5,7 @@ ghost use Rattle.fio_tool.specs.TranscriptRules.{verdict_on};
 use super::facts::Facts;
 use super::lines::Line;
 use super::rules::Rule;
+use super::said::Said;
 
 /// What a transcript is found to be.
 #[derive(Clone, Copy, Debug, PartialEq, Eq, Hash)]
@@ -30,7 +31,7 @@ pub fn check_trace(lines: &[Line]) -> Verdict
 {
     let mut facts = Facts::default();
     for line in lines {
-        if let Err(rule) = facts.add_line(line) {
+        if let Err(rule) = facts.add(Said::on(line)) {
             let number = line.number;
             return Verdict::Broken { number, rule };
         }

@@ -2,7 +2,7 @@ use Rattle.std.proofs.Common.{◌≡◌, ◌∙◌, sym, ap, refl, add-one, None
 use Rattle.std.specs.Result.{result_err}
 use Rattle.std.proofs.lemmas.Option.{slice_get_read}
 use Rattle.fio_tool.specs.Transcript.{earliest_above}
-use Rattle.fio_tool.specs.TranscriptFacts.{facts_at}
+use Rattle.fio_tool.specs.TranscriptFacts.{facts_at, rule_broken_by, with_line}
 use Rattle.fio_tool.specs.TranscriptRules.{breach_at, rule_broken}
 use Rattle.fio_tool.specs.declared.transcript.verdict.Verdict.TheVariants.{Broken}
 use Rattle.fio_tool.proofs.KeptFacts.{rule_broken-kept, facts_at-next}
@@ -15,7 +15,9 @@ returns-in-Err c =
     let place = c.loop-line.line-index in
     let line = c.line-item.result in
     let here = slice_get_read lines _ place line refl c.loop-line-test.true c.line-item.is in
-    let broken = rule_broken-kept lines place line _ here c.loop-line.invariant.kept ∙ sym c.add_line.ensures.broken ∙ ap result_err c.in-Err.is in
+    let facts = c.loop-line.facts in
+    let says = ap (rule_broken_by facts) (sym c.on.ensures) in
+    let broken = rule_broken-kept lines place line facts here c.loop-line.invariant.kept ∙ says ∙ sym c.add.ensures.broken ∙ ap result_err c.in-Err.is in
     ap (λ l. Broken l.number c.in-Err.rule) c.line.view_is ∙ sym (verdict-broken lines place line _ here broken c.loop-line.invariant.holds)
 
 pub loop-line-preserved : goal.loop-line-preserved
@@ -24,10 +26,11 @@ loop-line-preserved c =
     let place = c.loop-line.line-index in
     let line = c.line-item.result in
     let here = slice_get_read lines _ place line refl c.loop-line-test.true c.line-item.is in
+    let facts = c.loop-line.facts in
     let kept = c.loop-line.invariant.kept in
     let holds : rule_broken lines place ≡ None =
-    rule_broken-kept lines place line _ here kept ∙ sym c.add_line.ensures.broken ∙ ap result_err c.in_default.is in
+    rule_broken-kept lines place line facts here kept ∙ ap (rule_broken_by facts) (sym c.on.ensures) ∙ sym c.add.ensures.broken ∙ ap result_err c.in_default.is in
     record {
-      kept = c.in_default.ensures.kept ∙ sym (facts_at-next lines place line _ here kept holds) ∙ ap (facts_at lines) (sym (add-one place));
+      kept = c.in_default.ensures.kept ∙ ap (with_line facts) c.on.ensures ∙ sym (facts_at-next lines place line facts here kept holds) ∙ ap (facts_at lines) (sym (add-one place));
       holds = ap (earliest_above (breach_at lines)) (add-one place) ∙ kept-more lines place line here holds c.loop-line.invariant.holds;
     }
