@@ -96,6 +96,12 @@ def of_calls(found):
     return table(heads, rows).replace('| --- | ---: |', '| --- | --- |', 1)
 
 
+def of_library(found):
+    """Instructions of each call for C, beside those of the call below it."""
+    rows = [[f'`{call}`', case, *compared(pair, 0)] for (call, case), pair in found.items()]
+    return table(['Call', 'case', 'C', 'crate', 'ratio'], rows).replace('| --- | ---: |', '| --- | --- |', 1)
+
+
 def machine(rounds):
     """The name of this machine's processor, how busy the machine was, and how often each program was timed."""
     about = subprocess.run(['lscpu'], capture_output=True, text=True, check=True).stdout

@@ -120,6 +120,31 @@ class Proved(tester.Maker):
         return self.module.receive(octets)
 
 
+class ProvedCpu(tester.CpuMaker):
+    """The proved CPU's end."""
+
+    def reset(self, number):
+        self.poller = fio2070.Poller(number)
+
+    def poll(self):
+        return self.poller.poll()
+
+    def hear(self, octets):
+        before = len(self.poller.record)
+        self.poller.hear(octets)
+        return self.poller.record[before:]
+
+    def number(self):
+        return self.poller.number
+
+
+class Gapless(ProvedCpu):
+    """It keeps no gap marks."""
+
+    def hear(self, octets):
+        return [item for item in super().hear(octets) if not item.gap]
+
+
 class Forgetful(Proved):
     """It does not set E in a block that it sends again."""
 
@@ -136,6 +161,12 @@ class Tester(unittest.TestCase):
         script = tester.run(Forgetful(), events=20_000)
         self.assertIn('\npoll\nto-module 1\npoll\nto-module 2\n# wanted: ', script)
         self.assertIn('sent again with E set', script)
+
+    def test_cpu(self):
+        self.assertIsNone(tester.run_cpu(ProvedCpu(), events=20_000))
+        script = tester.run_cpu(Gapless(), events=20_000)
+        self.assertIn('one gap mark where F is set', script)
+        self.assertIn('\n# transcript:\n', script)
 
 
 if __name__ == '__main__':

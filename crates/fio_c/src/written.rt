@@ -1,5 +1,9 @@
 //! Octets in a buffer of the caller.
+ghost use Rattle.std.specs.Prelude.{◌∷◌};
 ghost use Rattle.fio_c.specs.Written.{Writes};
+
+/// How many octets a body has at most (own profile: a frame holds 773).
+pub(crate) const LONGEST_BODY: usize = 772;
 
 /// Writes octets to the front of the buffer, and returns how many. Where the buffer is shorter
 /// nothing is written, and the result is 0.
@@ -13,4 +17,21 @@ pub(crate) fn write_front(octets: &[u8], out: &mut [u8]) -> usize
     let (front, _) = out.split_at_mut(count);
     front.copy_from_slice(octets);
     count
+}
+
+/// Writes a message that is its type and a body, without a frame between. Where the buffer is shorter
+/// nothing is written, and the result is 0.
+pub(crate) fn write_with_body(code: u8, body: &[u8], out: &mut [u8]) -> usize
+    ensures { Writes (code ∷ body.now) out.old out.new result }
+{
+    if out.len() <= body.len() {
+        return 0;
+    }
+    match out.split_first_mut() {
+        Some((first, rest)) => {
+            *first = code;
+            write_front(body, rest) + 1
+        }
+        None => 0,
+    }
 }
