@@ -1,4 +1,5 @@
 use Rattle.std.proofs.Common.{◌≡◌, ◌≢◌, ℕ, ◌+◌, ◌-◌, ◌<◌, ◌≤◌, length, map, take, zero, suc, Bool, true, false, List, [], ◌∷◌, ◌++◌, Option, Some, None, Result, Ok, Err, codes, refl, ap, sym, append_assoc, append-nil, arith, ◌∙◌}
+use Rattle.std.specs.Prelude.{IfSome}
 use Rattle.std.specs.Option.{option_map_or, ok_or}
 use Rattle.std.proofs.lemmas.List.{take_all, drop_all, length-map, map-append}
 use Rattle.fio_message.specs.Decoding.{decoded_command}
@@ -6,14 +7,16 @@ use Rattle.fio_message.specs.declared.commands.Command.{Command}
 use Rattle.fio_message.specs.declared.faults.DecodeError.{DecodeError}
 use Rattle.fio_module.specs.Settings.{settings_with}
 use Rattle.fio_world.specs.Collected.{collected, with_first}
-use Rattle.fio_world.specs.EventLines.{event_at, plain_event, frame_at, sending_at}
+use Rattle.fio_world.specs.EventLines.{event_at, IsReadAs, plain_event, frame_at, sending_at}
 use Rattle.fio_world.specs.Headers.{header_of}
 use Rattle.fio_world.specs.Hexadecimal.{octets_in}
 use Rattle.fio_world.specs.Lines.{is_skipped, numbered}
 use Rattle.fio_world.specs.Scripts.{Scenario, readings, events_of, HasGoodFront, HaveGoodFront}
+use Rattle.fio_world.specs.Steps.{event_of}
 use Rattle.fio_world.specs.Words.{after_prefix}
 use Rattle.fio_world.specs.declared.event.Event.{Event}
 use Rattle.fio_world.specs.declared.headers.Header.{Header}
+use Rattle.fio_world.specs.declared.steps.Form.{Form}
 use Rattle.fio_world.specs.declared.script.ScriptError.{ScriptError}
 use Rattle.fio_world.specs.declared.script.ScriptError.TheVariants.{BadLine, Memory}
 
@@ -64,6 +67,38 @@ pub read_on-fault : (events : List Event) (count : ℕ) (restarts : Bool) (left 
     → read_on events count restarts left ≡ Err fault
 read_on-fault events count restarts left line lines fault first few gives =
     rw (first, readings-first count restarts line lines few, gives) refl
+
+-- the event of a line is the same at another number
+sent_at : (number other : ℕ) (decoded : Result Command DecodeError) (event : Event)
+    → sending_at number decoded ≡ Ok event → sending_at other decoded ≡ Ok event
+sent_at number other (Ok command) event is = is
+sent_at number other (Err fault) event is = absurd (cc is)
+
+framed_at : (number other : ℕ) (found : Option (List ℕ)) (event : Event)
+    → frame_at number found ≡ Ok event → frame_at other found ≡ Ok event
+framed_at number other None event is = absurd (cc is)
+framed_at number other (Some octets) event is = sent_at number other (decoded_command octets) event is
+
+read_at : (number other : ℕ) (word : Option (List ℕ)) (plain : Option Event) (event : Event)
+    → option_map_or (λ word. frame_at number (octets_in word)) word (ok_or plain (BadLine number)) ≡ Ok event
+    → option_map_or (λ word. frame_at other (octets_in word)) word (ok_or plain (BadLine other)) ≡ Ok event
+read_at number other None None event is = absurd (cc is)
+read_at number other None (Some plain) event is = is
+read_at number other (Some word) plain event is = framed_at number other (octets_in word) event is
+
+pub is_read_as : (restarts : Bool) (number : ℕ) (line : List ℕ) (event : Event)
+    → event_at restarts (number, line) ≡ Ok event → IsReadAs restarts line event
+is_read_as restarts number line event is other =
+    read_at number other (after_prefix (codes "send ") line) (plain_event restarts line) event is
+
+-- the same line is read as the same event
+pub same_line : (restarts : Bool) (number : ℕ) (above line : List ℕ) (found : Option Form) (form : Form)
+    → IfSome found (λ form. IsReadAs restarts above (event_of form)) → found ≡ Some form → above ≡ line
+    → Ok (event_of form) ≡ event_at restarts (number, line)
+same_line restarts number above line None form read is same = absurd (cc is)
+same_line restarts number above line (Some other) form read is same =
+    let form_is : other ≡ form = cc is in
+    rw (← form_is, ← same) (sym (read number))
 
 -- lines that give these events stand above the lines that are left
 pub record HaveRead (restarts : Bool) (all left : List (ℕ × List ℕ)) (events : List Event) : Type 0 where

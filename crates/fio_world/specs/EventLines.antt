@@ -1,5 +1,5 @@
 -- A script's further lines: one event each.
-use Rattle.std.specs.Prelude.{ℕ, Bool, List, Option, Some, None, Result, Ok, Err, option_map, codes}
+use Rattle.std.specs.Prelude.{◌≡◌, ℕ, Bool, List, Option, Some, None, Result, Ok, Err, option_map, codes}
 use Rattle.std.specs.Bool.{then_some}
 use Rattle.std.specs.Option.{option_map_or, ok_or}
 use Rattle.fio_message.specs.Decoding.{decoded_command}
@@ -39,6 +39,10 @@ abbrev pub event_at : Bool → ℕ × List ℕ → Result Event ScriptError
 event_at restarts line =
     option_map_or (λ word. frame_at line.0 (octets_in word)) (after_prefix (codes "send ") line.1)
     (ok_or (plain_event restarts line.1) (BadLine line.0))
+
+-- a line is read as this event, whatever its number
+abbrev pub IsReadAs : Bool → List ℕ → Event → Type 0
+IsReadAs restarts line event = (number : ℕ) → event_at restarts (number, line) ≡ Ok event
 
 -- the fault of a line below as many events as a script may have
 abbrev pub too_many_at : ℕ × List ℕ → Result Event ScriptError

@@ -1,13 +1,16 @@
 //! Texts as scripts.
-ghost use Rattle.std.specs.Prelude.{◌≡◌, ◌≢◌, [], Ok, IfOk, IfErr, OnErr};
+ghost use Rattle.std.specs.Prelude.{◌≡◌, ◌≢◌, [], Ok, IfOk, IfErr, IfSome, OnErr};
+ghost use Rattle.std.specs.Str.{bytes_eq};
+ghost use Rattle.fio_world.specs.EventLines.{event_at, IsReadAs};
 ghost use Rattle.fio_world.specs.Lines.{lines_of};
+ghost use Rattle.fio_world.specs.Steps.{event_of};
 ghost use Rattle.fio_world.specs.Scripts.{events_of, scenario_below, scenario_of, script_in, HasGoodFront, HaveGoodFront};
 
 use crate::event::Event;
 use crate::event_lines::read_step;
 use crate::headers::{Header, read_header};
 use crate::script::{Script, ScriptError};
-use crate::steps::Step;
+use crate::steps::{Form, Step};
 use crate::text::{numbered_lines, split_line};
 use fio_message::Memory;
 use std::alloc::Global;
@@ -75,14 +78,42 @@ fn read_steps<'a>(
         → HaveGoodFront restarts (lines_of text.now) }
 {
     let mut steps = Vec::new(alloc);
+    let mut above: &[u8] = &[];
+    let mut form = None;
     'lines: for (number, line) in numbered_lines(text, 2) {
         if steps.len() == MAX_EVENTS {
             return Err(ScriptError::TooManyEvents { line: number });
         }
-        let step = read_step(number, line, restarts)?;
+        let step = read_below(above, form, number, line, restarts)?;
+        above = line;
+        form = Some(step.form);
         steps.push(step)?;
     }
     Ok(steps)
+}
+
+/// The event of a line below one whose event has this form. Most lines of a long script are scans at
+/// which nothing changes, and so are the same as the line above.
+fn read_below<'a>(
+    above: &[u8],
+    form: Option<Form<'a>>,
+    number: usize,
+    line: &'a [u8],
+    restarts: bool,
+) -> Result<Step<'a>, ScriptError>
+    requires { IfSome form (λ form. IsReadAs restarts above.now (event_of form)) }
+    ensures { result ≡ event_at restarts (number, line.now) }
+{
+    match form {
+        Some(form) if are_same(above, line) => Ok(Step { form }),
+        _ => read_step(number, line, restarts),
+    }
+}
+
+fn are_same(line: &[u8], other: &[u8]) -> bool
+    ensures { result ≡ bytes_eq line.now other.now }
+{
+    line == other
 }
 
 /// The events that steps are.

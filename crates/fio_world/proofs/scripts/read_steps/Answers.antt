@@ -1,8 +1,9 @@
-use Rattle.std.proofs.Common.{◌<◌, sym, ◌∙◌, vec_len, rules, arith}
+use Rattle.std.proofs.Common.{◌<◌, sym, subst, ◌∙◌, vec_len, rules, arith}
 use Rattle.std.proofs.lemmas.Grind.{common_steps}
 use Rattle.std.proofs.lemmas.List.{length_push}
 use Rattle.std.proofs.lemmas.Result.{err_from_is_err_and}
-use Rattle.fio_world.proofs.ReadingLemmas.{read_on-start, read_on-end, read_on-event, read_on-fault, HaveRead-start, HaveRead-event, good_front, no_memory, more_than_none}
+use Rattle.fio_world.proofs.ReadingLemmas.{read_on-start, read_on-end, read_on-event, read_on-fault, HaveRead-start, HaveRead-event, good_front, no_memory, more_than_none, is_read_as}
+use Rattle.fio_world.specs.EventLines.{IsReadAs}
 use Rattle.fio_world.specs.Lines.{lines_of}
 use Rattle.fio_world.proofs.scripts.read_steps.Goals as goal
 
@@ -13,6 +14,7 @@ lines-init c =
       events = read_on-start _ _ c.args.restarts _ _ c.new-steps.ensures.items c.new-steps.ensures.len all;
       front = HaveRead-start c.args.restarts _ _ _ all c.new-steps.ensures.items;
       few = omega arith;
+      above = tt;
     }
 
 pub lines-preserved : goal.lines-preserved
@@ -25,6 +27,9 @@ lines-preserved c =
       front = rw c.in_ok-push.ensures.items
           (HaveRead-event _ _ _ _ _ _ _ c.lines.invariant.front c.in-Some.ensures.steps gives);
       few = omega (arith, few, c.in_ok-push.ensures.len);
+      above =
+          subst (IsReadAs c.args.restarts c.in-Some.line.now) (sym c.step.view_is)
+          (is_read_as c.args.restarts c.in-Some.number c.in-Some.line.now c.in_ok-step.step gives);
     }
 
 pub returns-in_err-step-clause-err : goal.returns-in_err-step-clause-err
