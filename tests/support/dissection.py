@@ -3,7 +3,7 @@ commands and answers as a search through the whole transcript finds them."""
 
 import re
 
-from support.tables import told
+from support.tables import output_of
 from support.tshark import FIELDS
 
 FAULT = re.compile(r'empty|too long got \d+|unknown type \d+|wrong length needed \d+ got \d+')
@@ -34,7 +34,7 @@ def shown(frames):
             size += 2 * len(frames[end]) + 1
             end += 1
         pieces = []
-        for line in told('show', ''.join(frame.hex() + '\n' for frame in frames[start:end]))[0].splitlines():
+        for line in output_of('show', ''.join(frame.hex() + '\n' for frame in frames[start:end]))[0].splitlines():
             if line.startswith('  '):
                 pieces[-1].append(line)
             else:

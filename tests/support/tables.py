@@ -15,7 +15,7 @@ def lines_that_fit(line, above=''):
     return (MOST_OCTETS - len(above)) // len(line)
 
 
-def told(tool, text):
+def output_of(tool, text):
     """What the program writes for an input, and its exit status."""
     done = subprocess.run([os.path.join(TOP, 'fio2070'), tool], input=text.encode('latin-1'),
                           stdout=subprocess.PIPE, timeout=900)
@@ -31,7 +31,7 @@ class Judge:
 
     def row(self, tool, text, wanted, status):
         """The tool writes the wanted text for this input, and ends with the status."""
-        found = told(tool, text)
+        found = output_of(tool, text)
         if found == (wanted, status):
             self.passed += 1
             return
