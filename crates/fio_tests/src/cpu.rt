@@ -94,20 +94,3 @@ fn poll_has_the_present_number(rt: HostRuntime) {
     hear(&rt, &mut poller, &ONE_ENTRY);
     assert_eq!(rt; poller.poll().as_slice(), [0x36, 6].as_slice());
 }
-
-/// After a block of one entry, 258 blocks of 255 entries: 65,536 items, and then more.
-#[test]
-fn more_items_than_sixteen_bits_count(rt: HostRuntime) {
-    let mut poller = Poller::new(rt.alloc(), 5);
-    assert_eq!(rt; hear(&rt, &mut poller, &ONE_ENTRY), taken(1, 0));
-    let mut block = full_block();
-    let mut items: usize = 1;
-    for _ in 0..258 {
-        block[1] = poller.number();
-        assert_eq!(rt; hear(&rt, &mut poller, &block), taken(255, 8));
-        items = items.saturating_add(255);
-        assert_eq!(rt; poller.items().len(), items);
-    }
-    assert_eq!(rt; items, 65_791);
-    assert_eq!(rt; poller.number(), 8);
-}

@@ -5,15 +5,21 @@
 //! They stand in a crate of their own, since a crate with tests is proved twice.
 #![tactic(auto)]
 
+/// The poller: the octets of the profile's blocks, and what it takes of them.
 #[cfg(test)]
 mod cpu;
+/// The counter, the filters and the widening: the profile's examples, and a filter of one input as a second source.
 #[cfg(test)]
 mod input;
+/// Messages: the profile's octets, both ways.
 #[cfg(test)]
 mod message;
+/// The module: the profile's commands and the octets of their answers.
 #[cfg(test)]
 mod module;
+/// The tools over readers and writers: docs/FORMATS.md for the texts, and failing ends.
 #[cfg(test)]
 mod tool;
+/// Both ends and the bus: the profile's examples, and docs/FORMATS.md for the texts.
 #[cfg(test)]
 mod world;

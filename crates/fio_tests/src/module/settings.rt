@@ -1,5 +1,5 @@
 //! Limits and restarts.
-use super::{full_scans, gets, open_all, poll_gets};
+use super::gets;
 use fio_module::{Limits, Module};
 use std::test::Fail;
 
@@ -15,18 +15,6 @@ fn limits_have_a_range(rt: HostRuntime) {
         let limits = Limits::new(per_block, waiting);
         assert_eq!(rt; limits.is_some(), in_range, "{per_block} and {waiting}");
     }
-}
-
-#[test]
-fn most_that_may_wait(rt: HostRuntime) -> Result<(), Fail> {
-    let limits = Limits::new(255, 8192).ok_or("in range")?;
-    for (scans, place, status) in [(128, 0, 8), (129, 64, 0x0c)] {
-        let mut module = Module::with_limits(rt.alloc(), 2, limits)?;
-        open_all(&rt, &mut module);
-        full_scans(&mut module, 0, scans);
-        poll_gets(&rt, &mut module, 0, place, 255, status, 7937);
-    }
-    Ok(())
 }
 
 #[test]

@@ -1,13 +1,14 @@
 //! The three tools over readers and writers that fail at a call, and over ones that give or take an octet
 //! a call.
 use super::ends::{Endless, Feed, Sink};
-use fio_tool::{Ending, Tool, ToolFault, check, show, show_text, simulate};
-use std::alloc::{AllocError, Global};
+use fio_tool::{Ending, Tool, ToolFault, check, show, simulate};
+use std::alloc::Global;
 use std::io::{Read, Write};
-use std::test::Fail;
 
-/// What each tool reads, what it writes then, and how it ends.
-const ROWS: [(Tool, &[u8], &[u8], Ending); 3] = [
+/// A tool, what it reads, what it writes then, and how it ends.
+type Row = (Tool, &'static [u8], &'static [u8], Ending);
+
+const ROWS: [Row; 3] = [
     (
         Tool::Show,
         b"3605\n\nzz",
@@ -37,19 +38,36 @@ fn run<R: Read, W: Write>(
     }
 }
 
+/// Reads and writes an octet a call: whether the tool ends as wanted with the whole text, having asked for
+/// each octet and for the end once.
+fn passes_octets(alloc: Global, tool: Tool, input: &[u8], text: &[u8], wanted: Ending) -> bool {
+    let mut feed = Feed::new(input, 1);
+    let mut sink = Sink::new(alloc, 1);
+    run(alloc, tool, &mut feed, &mut sink) == Ok(wanted)
+        && feed.calls == input.len().saturating_add(1)
+        && sink.octets.as_slice() == text
+        && sink.calls == text.len()
+        && sink.flushes == 1
+}
+
 #[test]
-fn an_octet_a_call(rt: HostRuntime) -> Result<(), Fail> {
+fn an_octet_a_call(rt: HostRuntime) {
     for (tool, input, text, wanted) in ROWS {
-        let mut feed = Feed::new(input, 1);
-        let mut sink = Sink::new(rt.alloc(), 1);
-        let ending = run(rt.alloc(), tool, &mut feed, &mut sink)?;
-        assert!(rt; ending == wanted, "{tool:?}");
-        assert_eq!(rt; sink.octets.as_slice(), text);
-        assert_eq!(rt; feed.calls, input.len() + 1);
-        assert_eq!(rt; sink.calls, text.len());
-        assert_eq!(rt; sink.flushes, 1);
+        assert!(rt;
+            passes_octets(rt.alloc(), tool, input, text, wanted),
+            "{tool:?}"
+        );
     }
-    Ok(())
+}
+
+/// Whether the tool ends at this read, which fails, and writes nothing.
+fn ends_at_read(alloc: Global, tool: Tool, input: &[u8], failing: usize) -> bool {
+    let mut feed = Feed::new(input, 1);
+    feed.failing = failing;
+    let mut sink = Sink::new(alloc, 1);
+    run(alloc, tool, &mut feed, &mut sink) == Err(ToolFault::Read)
+        && feed.calls == failing
+        && sink.calls == 0
 }
 
 /// Each error is final, although it is that of an interrupted call.
@@ -57,78 +75,73 @@ fn an_octet_a_call(rt: HostRuntime) -> Result<(), Fail> {
 fn each_read_may_fail(rt: HostRuntime) {
     for (tool, input, _, _) in ROWS {
         for failing in 1..input.len() + 2 {
-            let mut feed = Feed::new(input, 1);
-            feed.failing = failing;
-            let mut sink = Sink::new(rt.alloc(), 1);
-            let ending = run(rt.alloc(), tool, &mut feed, &mut sink);
-            assert!(rt; ending == Err(ToolFault::Read), "{tool:?}, read {failing}");
-            assert_eq!(rt; sink.calls, 0, "{tool:?}, read {failing}");
-            assert_eq!(rt; feed.calls, failing);
+            assert!(rt;
+                ends_at_read(rt.alloc(), tool, input, failing),
+                "{tool:?}, read {failing}"
+            );
         }
     }
+}
+
+/// Whether the tool ends at this write, which fails or takes nothing, with the octets above it written.
+fn ends_at_write(
+    alloc: Global,
+    (tool, input, text, _): Row,
+    failing: usize,
+    takes_none: bool,
+) -> bool {
+    let mut sink = Sink::new(alloc, 1);
+    sink.failing = failing;
+    sink.takes_none = takes_none;
+    run(alloc, tool, &mut Feed::new(input, 100), &mut sink) == Err(ToolFault::Write)
+        && sink.calls == failing
+        && text.get(..failing.saturating_sub(1)) == Some(sink.octets.as_slice())
 }
 
 /// Each error is final, although it is that of an interrupted call.
 #[test]
 fn each_write_may_fail(rt: HostRuntime) {
-    for (tool, input, text, _) in ROWS {
-        for failing in 1..text.len() + 1 {
+    for row in ROWS {
+        for failing in 1..row.2.len() + 1 {
             for takes_none in [false, true] {
-                let mut sink = Sink::new(rt.alloc(), 1);
-                sink.failing = failing;
-                sink.takes_none = takes_none;
-                let ending = run(rt.alloc(), tool, &mut Feed::new(input, 100), &mut sink);
                 assert!(rt;
-                    ending == Err(ToolFault::Write),
-                    "{tool:?}, write {failing}"
+                    ends_at_write(rt.alloc(), row, failing, takes_none),
+                    "{:?}, write {failing}",
+                    row.0
                 );
-                assert_eq!(rt; sink.calls, failing);
-                assert_eq!(rt; Some(sink.octets.as_slice()), text.get(..failing - 1));
             }
         }
     }
 }
 
+/// Whether the tool ends at the flush, which fails, with the whole text written.
+fn ends_at_flush(alloc: Global, tool: Tool, input: &[u8], text: &[u8]) -> bool {
+    let mut sink = Sink::new(alloc, 100);
+    sink.is_flush_failing = true;
+    run(alloc, tool, &mut Feed::new(input, 100), &mut sink) == Err(ToolFault::Write)
+        && sink.octets.as_slice() == text
+        && sink.flushes == 1
+}
+
 #[test]
 fn the_flush_may_fail(rt: HostRuntime) {
     for (tool, input, text, _) in ROWS {
-        let mut sink = Sink::new(rt.alloc(), 100);
-        sink.is_flush_failing = true;
-        let ending = run(rt.alloc(), tool, &mut Feed::new(input, 100), &mut sink);
-        assert!(rt; ending == Err(ToolFault::Write), "{tool:?}");
-        assert_eq!(rt; sink.octets.as_slice(), text);
-        assert_eq!(rt; sink.flushes, 1);
+        assert!(rt; ends_at_flush(rt.alloc(), tool, input, text), "{tool:?}");
     }
 }
 
+/// Whether the tool reads one octet more than an input may have, and then reports that it is too long.
+fn ends_at_limit(alloc: Global, tool: Tool) -> bool {
+    let mut feed = Endless { calls: 0 };
+    let mut sink = Sink::new(alloc, 100);
+    run(alloc, tool, &mut feed, &mut sink) == Ok(Ending::Bad)
+        && sink.octets.as_slice() == b"input too long\n".as_slice()
+        && feed.calls == 1_048_577
+}
+
 #[test]
-fn endless_inputs_end_at_the_limit(rt: HostRuntime) -> Result<(), Fail> {
+fn endless_inputs_end_at_the_limit(rt: HostRuntime) {
     for (tool, _, _, _) in ROWS {
-        let mut feed = Endless { calls: 0 };
-        let mut sink = Sink::new(rt.alloc(), 100);
-        let ending = run(rt.alloc(), tool, &mut feed, &mut sink)?;
-        assert!(rt; ending == Ending::Bad, "{tool:?}");
-        assert_eq!(rt; sink.octets.as_slice(), b"input too long\n".as_slice());
-        assert_eq!(rt; feed.calls, 1_048_577);
+        assert!(rt; ends_at_limit(rt.alloc(), tool), "{tool:?}");
     }
-    Ok(())
-}
-
-/// So many line feeds. No contract tells the proofs of tests what it makes, which would be long.
-fn line_feeds(alloc: Global, count: usize) -> Result<Vec<u8>, AllocError> {
-    vec![in alloc; b'\n'; count]
-}
-
-#[test]
-fn texts_end_at_the_limit(rt: HostRuntime) -> Result<(), Fail> {
-    for (count, good, text) in [
-        (1_048_576, true, ""),
-        (1_048_577, false, "input too long\n"),
-    ] {
-        let feeds = line_feeds(rt.alloc(), count)?;
-        let report = show_text(rt.alloc(), feeds.as_slice())?;
-        assert_eq!(rt; report.good, good, "{count}");
-        assert_eq!(rt; report.text.as_slice(), text.as_bytes(), "{count}");
-    }
-    Ok(())
 }

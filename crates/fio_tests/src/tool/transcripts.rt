@@ -3,9 +3,19 @@ use fio_tool::{Line, Rule, TraceError, Verdict, check_trace, read_trace};
 use std::alloc::{AllocError, Global};
 use std::test::*;
 
+/// The lines of a text. Like the next function it has no contract, so that no proof of a test has to do with
+/// what lines and verdicts are.
+fn lines_of(alloc: Global, text: &[u8]) -> Result<Vec<Line>, TraceError> {
+    read_trace(alloc, text)
+}
+
+fn verdict_on(lines: &[Line]) -> Verdict {
+    check_trace(lines)
+}
+
 #[test]
 fn lines_that_are_read(rt: HostRuntime) -> Result<(), Fail> {
-    let lines = read_trace(rt.alloc(), b"> 3605\n# a remark\n< B605")?;
+    let lines = lines_of(rt.alloc(), b"> 3605\n# a remark\n< B605")?;
     let read = [
         (1, true, [0x36, 5].as_slice()),
         (3, false, [0xb6, 5].as_slice()),
@@ -16,7 +26,7 @@ fn lines_that_are_read(rt: HostRuntime) -> Result<(), Fail> {
         assert_eq!(rt; line.from_cpu, from_cpu);
         assert_eq!(rt; line.octets.as_slice(), octets);
     }
-    let faulty = read_trace(rt.alloc(), b"> 3605\n\n3605\n?");
+    let faulty = lines_of(rt.alloc(), b"> 3605\n\n3605\n?");
     assert!(rt; matches!(faulty, Err(TraceError::BadLine { line: 3 })));
     Ok(())
 }
@@ -38,9 +48,9 @@ fn lines_that_are_checked(rt: HostRuntime) -> Result<(), Fail> {
         number: 3,
         rule: Rule::Number,
     };
-    assert_eq!(rt; check_trace(&lines), verdict);
-    assert_eq!(rt; check_trace(&lines[..1]), Verdict::Good { frames: 1 });
-    assert_eq!(rt; check_trace(&[]), Verdict::Good { frames: 0 });
+    assert_eq!(rt; verdict_on(&lines), verdict);
+    assert_eq!(rt; verdict_on(&lines[..1]), Verdict::Good { frames: 1 });
+    assert_eq!(rt; verdict_on(&[]), Verdict::Good { frames: 0 });
     Ok(())
 }
 
@@ -58,10 +68,10 @@ fn frames(alloc: Global, count: usize) -> Result<Vec<u8>, AllocError> {
 fn more_lines_than_sixteen_bits_count(rt: HostRuntime) -> Result<(), Fail> {
     for count in [65_536, 65_537] {
         let text = frames(rt.alloc(), count)?;
-        let lines = read_trace(rt.alloc(), text.as_slice())?;
+        let lines = lines_of(rt.alloc(), text.as_slice())?;
         assert_eq!(rt; lines.len(), count);
         assert_eq!(rt;
-            check_trace(lines.as_slice()),
+            verdict_on(lines.as_slice()),
             Verdict::Good { frames: count }
         );
     }

@@ -1,7 +1,6 @@
 //! Examples as rows, an event and its outcome, and their three runs: at once, in two parts, event by event.
 use fio_cpu::{Heard, Item};
 use fio_message::{Frame, InputNumber, decode_command};
-use fio_module::Limits;
 use fio_world::{Event, Outcome, RunError, World};
 use std::alloc::{AllocError, Global};
 use std::process::Abort;
@@ -56,31 +55,11 @@ pub(super) fn both(rt: &impl Abort, alloc: Global, first: u8, rows: &[Row]) -> R
     Ok(ran)
 }
 
-/// The same with these limits.
-pub(super) fn both_with_limits(
-    rt: &impl Abort,
-    alloc: Global,
-    first: u8,
-    limits: Limits,
-    rows: &[Row],
-) -> Result<World, Fail> {
-    let stepped = one_by_one(rt, World::with_limits(alloc, ID, first, limits)?, rows);
-    let events = events_of(alloc, rows)?;
-    let ran = World::run_with_limits(alloc, ID, first, limits, events.as_slice())?;
-    are_same(rt, &ran, &stepped);
-    let parted = in_two_parts(
-        World::with_limits(alloc, ID, first, limits)?,
-        events.as_slice(),
-    )?;
-    are_same(rt, &ran, &parted);
-    Ok(ran)
-}
-
 /// Each event is done and has the outcome of its row.
 fn one_by_one(rt: &impl Abort, mut world: World, rows: &[Row]) -> World {
     for (event, outcome) in rows {
-        let brought = world.step(event).expect(rt, "an event that is done");
-        assert_eq!(rt; &brought, outcome);
+        let found = world.step(event).expect(rt, "an event that is done");
+        assert_eq!(rt; &found, outcome);
     }
     world
 }

@@ -38,38 +38,3 @@ fn a_lost_and_a_repeated_answer(rt: HostRuntime) -> Result<(), Fail> {
     assert_eq!(rt; world.poller().items(), entries.as_slice());
     Ok(())
 }
-
-/// The first poll is lost, so the block is new when the second one is received.
-#[test]
-fn a_lost_poll(rt: HostRuntime) -> Result<(), Fail> {
-    let empty = [0xb6, 0, 0, 0, 0, 0, 0, 0];
-    let rows = [
-        (Event::Poll, sent(&rt, 1, &[0x36, 0])),
-        (Event::Poll, sent(&rt, 2, &[0x36, 0])),
-        (Event::ToModule(2), sent(&rt, 1, &empty)),
-        (Event::ToCpu(1), taken(0, 0)),
-    ];
-    let world = both(&rt, rt.alloc(), 0, &rows)?;
-    assert_eq!(rt; world.poller().number(), 1);
-    assert_eq!(rt; world.poller().items().len(), 0);
-    Ok(())
-}
-
-/// Two polls of one number are under way: the second one gets the block of the first again.
-#[test]
-fn two_polls_under_way(rt: HostRuntime) -> Result<(), Fail> {
-    let new = [0xb6, 0, 0, 0, 0, 0, 0, 0];
-    let again = [0xb6, 0, 0, 2, 0, 0, 0, 0];
-    let rows = [
-        (Event::Poll, sent(&rt, 1, &[0x36, 0])),
-        (Event::Poll, sent(&rt, 2, &[0x36, 0])),
-        (Event::ToModule(1), sent(&rt, 1, &new)),
-        (Event::ToModule(2), sent(&rt, 2, &again)),
-        (Event::ToCpu(1), taken(0, 0)),
-        (Event::ToCpu(2), stale(0)),
-    ];
-    let world = both(&rt, rt.alloc(), 0, &rows)?;
-    assert_eq!(rt; world.poller().number(), 1);
-    assert_eq!(rt; world.poller().items().len(), 0);
-    Ok(())
-}
