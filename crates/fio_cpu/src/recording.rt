@@ -1,22 +1,11 @@
 //! Blocks as items of the record.
 ghost use Rattle.std.specs.Prelude.{◌≡◌, ◌≢◌, ◌+◌, ◌≤◌, [], ◌++◌, length, map, vec_len, OnOk, OnErr};
 ghost use Rattle.std.specs.Vec.{vec_capacity};
-ghost use Rattle.fio_message.specs.Status.{says_lost};
 ghost use Rattle.fio_cpu.specs.Record.{item_of, recorded};
 
 use crate::Item;
 use fio_input::widen;
-use fio_message::{BlockView, Entry, Memory};
-
-/// F in the status of a block answer.
-const LOST: u8 = 4;
-
-/// Whether F is set: entries that waited directly before the block were pushed out.
-fn says_lost(status: u8) -> bool
-    ensures { result ≡ says_lost status }
-{
-    status & LOST == LOST
-}
+use fio_message::{BlockStatus, BlockView, Entry, Memory};
 
 /// An entry of an answer with this stamp, as an item of the record.
 fn item_of(stamp: u32, entry: Entry) -> Item
@@ -50,7 +39,7 @@ pub(crate) fn record_block(items: &mut Vec<Item>, block: &BlockView<'_>) -> Resu
     ensures unchanged { OnErr result (items.new.items ≡ items.old.items) }
     ensures wanted { OnErr result (recorded block.now ≢ []) }
 {
-    let lost = says_lost(block.status());
+    let lost = BlockStatus::from_octet(block.status()).lost();
     items.reserve(usize::from(lost) + block.len())?;
     if lost {
         items.push(Item::Gap).unwrap();
