@@ -3,10 +3,10 @@ use Rattle.std.specs.Prelude.{◌≡◌, ℕ, ◌<◌, ◌≤◌, List, [], ◌+
 use Rattle.fio_message.specs.Bits.{bit_of}
 use Rattle.fio_message.specs.Blocks.{Block}
 use Rattle.fio_message.specs.Decoding.{decoded_answer, block_in}
-use Rattle.fio_cpu.specs.declared.hearing.Heard.{Heard as HeardOf}
-use Rattle.fio_cpu.specs.declared.hearing.Heard.TheVariants as outcomes
-use Rattle.fio_cpu.specs.declared.items.Item.{Item}
-use Rattle.fio_cpu.specs.declared.items.Item.TheVariants as items
+use Rattle.fio_cpu.specs.declared.poller.Heard.{Heard as HeardOf}
+use Rattle.fio_cpu.specs.declared.poller.Heard.TheVariants as outcomes
+use Rattle.fio_cpu.specs.declared.record.Item.{Item}
+use Rattle.fio_cpu.specs.declared.record.Item.TheVariants as items
 use Rattle.fio_cpu.specs.Hearing.{heard_as, after_hearing}
 use Rattle.fio_c.specs.Faults.{no_fault, fault_of}
 use Rattle.fio_c.specs.declared.poller.Heard.{Heard}

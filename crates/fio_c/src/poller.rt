@@ -2,7 +2,6 @@
 ghost use Rattle.std.specs.Prelude.{◌≡◌, ◌≤◌, ◌++◌, ℕ, [], Some, None, length, map, drop};
 ghost use Rattle.fio_message.specs.Commands.{command_octets};
 ghost use Rattle.fio_message.specs.Decoding.{block_in, decoded_answer};
-ghost use Rattle.fio_message.specs.Status.{says_lost};
 ghost use Rattle.fio_message.specs.Blocks.{block_answer};
 ghost use Rattle.fio_message.specs.declared.commands.Command.TheVariants as commands;
 ghost use Rattle.fio_cpu.specs.Record.{item_of, recorded};
@@ -13,10 +12,7 @@ ghost use Rattle.fio_c.specs.Written.{Writes};
 use crate::command_frames::fio2070_encode_poll;
 use crate::faults::{Fault, NO_FAULT, fault_from};
 use fio_input::widen;
-use fio_message::{BlockView, Entry, decode_answer, read_block};
-
-/// F in the status of a block: entries that waited directly before it were pushed out.
-const LOST: u8 = 4;
+use fio_message::{BlockStatus, BlockView, Entry, decode_answer, read_block};
 
 /// The CPU's end of the link. Its record is kept by the caller.
 #[derive(Clone, Copy)]
@@ -168,14 +164,7 @@ fn item_count(view: &BlockView) -> usize
     ensures count { result ≡ length (recorded view.now) }
     ensures fits { result ≤ 256 }
 {
-    usize::from(says_lost(view.status())) + view.len()
-}
-
-/// Whether F is set.
-fn says_lost(status: u8) -> bool
-    ensures { result ≡ says_lost status }
-{
-    status & LOST == LOST
+    usize::from(BlockStatus::from_octet(view.status()).lost()) + view.len()
 }
 
 /// Writes what a block adds to the record, for which there is room.
@@ -184,7 +173,7 @@ fn record_block(view: &BlockView, items: &mut [RecordItem])
     ensures { items.new ≡ map flat_record_item (recorded view.now)
         ++ drop (length (recorded view.now)) items.old }
 {
-    if says_lost(view.status()) {
+    if BlockStatus::from_octet(view.status()).lost() {
         match items.split_first_mut() {
             Some((first, rest)) => {
                 *first = GAP;

@@ -8,7 +8,7 @@ use Rattle.fio_message.specs.Octets.{IsOctets}
 use Rattle.fio_message.specs.Blocks.{Block, block_answer, SpellsBlock}
 use Rattle.fio_message.specs.Decoding.{answered_block, answer_type_of, decoded_answer, block_in}
 use Rattle.fio_message.proofs.MessageLaws.{answer_decoded, block_back, block_spelled}
-use Rattle.fio_cpu.specs.declared.hearing.Heard.TheVariants.{Unreadable, Other}
+use Rattle.fio_cpu.specs.declared.poller.Heard.TheVariants.{Unreadable, Other}
 use Rattle.fio_cpu.specs.Hearing.{heard_answer, heard_as}
 
 -- an option that is no block is none

@@ -5,8 +5,8 @@ use Rattle.fio_message.specs.declared.answers.Answer.TheVariants as answers
 use Rattle.fio_message.specs.declared.faults.DecodeError.{DecodeError}
 use Rattle.fio_message.specs.Answers.{answer_code}
 use Rattle.fio_message.specs.Blocks.{Block as BlockOf}
-use Rattle.fio_cpu.specs.declared.hearing.Heard.{Heard}
-use Rattle.fio_cpu.specs.declared.hearing.Heard.TheVariants.{Unreadable, Other, Stale, Block}
+use Rattle.fio_cpu.specs.declared.poller.Heard.{Heard}
+use Rattle.fio_cpu.specs.declared.poller.Heard.TheVariants.{Unreadable, Other, Stale, Block}
 use Rattle.fio_cpu.specs.Poller.{Polling}
 use Rattle.fio_cpu.specs.Record.{recorded}
 

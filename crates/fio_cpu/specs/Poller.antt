@@ -1,6 +1,6 @@
 -- What a contract sees of the CPU's end.
 use Rattle.std.specs.Prelude.{ℕ, List}
-use Rattle.fio_cpu.specs.declared.items.Item.{Item}
+use Rattle.fio_cpu.specs.declared.record.Item.{Item}
 
 -- its block number, and the record: what it has taken, in order
 pub record Polling : Type 0 where

@@ -4,8 +4,8 @@ use Rattle.fio_message.specs.declared.fields.Entry.{Entry as EntryOf}
 use Rattle.fio_message.specs.Blocks.{Block}
 use Rattle.fio_message.specs.Status.{says_lost}
 use Rattle.fio_input.specs.Widening.{widened}
-use Rattle.fio_cpu.specs.declared.items.Item.{Item}
-use Rattle.fio_cpu.specs.declared.items.Item.TheVariants.{Entry, Gap}
+use Rattle.fio_cpu.specs.declared.record.Item.{Item}
+use Rattle.fio_cpu.specs.declared.record.Item.TheVariants.{Entry, Gap}
 
 -- an entry as an item of the record, in an answer with this stamp: its wide time is the widened
 -- number of that stamp

@@ -9,11 +9,8 @@
 //! block is in the record (`Record`), and what the CPU makes of octets (`Hearing`).
 #![tactic(auto)]
 
-mod hearing;
-mod items;
 mod poller;
-mod recording;
+mod record;
 
-pub use hearing::Heard;
-pub use items::Item;
-pub use poller::Poller;
+pub use poller::{Heard, Poller};
+pub use record::Item;

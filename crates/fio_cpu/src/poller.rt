@@ -1,4 +1,4 @@
-//! The poller: the CPU's number and its record.
+//! The poller: the CPU's number and its record, and what it makes of octets that it hears.
 ghost use Rattle.std.specs.Prelude.{◌≡◌, ℕ, [], OnOk, OnErr, IfOk, Some, None};
 ghost use Rattle.fio_message.specs.Commands.{SpellsCommand};
 ghost use Rattle.fio_message.specs.Blocks.{block_answer};
@@ -6,11 +6,36 @@ ghost use Rattle.fio_message.specs.Decoding.{decoded_answer, block_in};
 ghost use Rattle.fio_message.specs.declared.commands.Command.TheVariants as commands;
 ghost use Rattle.fio_cpu.specs.Hearing.{heard_answer, heard_as, after_block, after_hearing, AddsItems};
 
-use crate::recording::record_block;
-use crate::{Heard, Item};
-use fio_message::{BlockView, Command, Frame, Memory, answer_type, encode_command, read_block};
+use crate::record::{Item, record_block};
+use fio_message::{
+    BlockView, Command, DecodeError, Frame, Memory, answer_type, encode_command, read_block,
+};
 use std::alloc::Global;
 use std::marker::Model;
+
+/// What the octets were: the first of these that applies (own profile).
+#[derive(Clone, Copy, Debug, PartialEq, Eq, Hash)]
+pub enum Heard {
+    /// They spell no answer, for this reason.
+    Unreadable(DecodeError),
+    /// They spell an answer that is no block.
+    Other {
+        /// The type of the answer: its first octet.
+        code: u8,
+    },
+    /// A block answer whose number is not the CPU's present one, ignored.
+    Stale {
+        /// The block number that it carries.
+        block: u8,
+    },
+    /// A block answer with the present number, taken whole.
+    Block {
+        /// How many entries it has, at most 255.
+        entries: usize,
+        /// Its status, with C, F, E and G in bits 3 to 0.
+        status: u8,
+    },
+}
 
 /// The CPU's end: the block number that its next poll carries, and the record of all that it has
 /// taken.

@@ -14,5 +14,7 @@ pub mod KnownTypes
 pub mod StatusBits
 pub mod InputsLayout
 pub mod MessageLaws
+pub mod Fronts
+pub mod Marks
 pub mod Bits
 mod Examples

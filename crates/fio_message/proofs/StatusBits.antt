@@ -1,9 +1,11 @@
 -- The named bits of the statuses.
-use Rattle.std.proofs.Common.{◌≡◌, ℕ, ◌≤◌, ◌==◌, Bool, true, false, refl, ap, ◌∙◌, arith}
+use Rattle.std.proofs.Common.{◌≡◌, ℕ, ◌≤◌, ◌==◌, Bool, true, false, refl, ap, ◌∙◌, arith, bit_or}
+use Rattle.std.proofs.lemmas.Nat.{and_le_r}
 use Rattle.std.specs.Int.{bit_at}
 use Rattle.fio_message.specs.Bits.{is_set, bit_of}
-use Rattle.fio_message.specs.Status.{error_status, set_before_status, block_status}
-use Rattle.fio_message.specs.Laws.{ErrorReadsBack, SetBeforeReadsBack, StatusReadsBack}
+use Rattle.fio_message.specs.Octets.{IsOctet}
+use Rattle.fio_message.specs.Status.{error_status, set_before_status, block_status, again_status}
+use Rattle.fio_message.specs.Laws.{ErrorReadsBack, SetBeforeReadsBack, StatusReadsBack, SetsAgainAlone}
 
 -- a flag as a bit is 0 or 1
 bit_of_small : (flag : Bool) → bit_of flag ≤ 1
@@ -41,3 +43,31 @@ status_back more lost again out_of_sequence =
       says_again = set_by status 1 again (omega (arith, m, l, a, o));
       says_out_of_sequence = set_by status 0 out_of_sequence (omega (arith, m, l, a, o));
     }
+
+-- the status of a block is an octet
+pub block_status-fits : (more lost again out_of_sequence : Bool) → IsOctet (block_status more lost again out_of_sequence)
+block_status-fits more lost again out_of_sequence =
+    omega (arith, bit_of_small more, bit_of_small lost, bit_of_small again, bit_of_small out_of_sequence)
+
+-- and so is any status that is marked as sent again
+pub again_status-fits : (status : ℕ) → IsOctet (again_status status)
+again_status-fits status = omega (arith, and_le_r (bit_or status 2) 254)
+
+-- a status that is marked has E, and no G
+pub status_again : SetsAgainAlone
+status_again true true true true = refl
+status_again true true true false = refl
+status_again true true false true = refl
+status_again true true false false = refl
+status_again true false true true = refl
+status_again true false true false = refl
+status_again true false false true = refl
+status_again true false false false = refl
+status_again false true true true = refl
+status_again false true true false = refl
+status_again false true false true = refl
+status_again false true false false = refl
+status_again false false true true = refl
+status_again false false true false = refl
+status_again false false false true = refl
+status_again false false false false = refl

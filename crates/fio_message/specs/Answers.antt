@@ -8,6 +8,7 @@ use Rattle.fio_message.specs.declared.answers.Answer.{Answer}
 use Rattle.fio_message.specs.declared.answers.Answer.TheVariants.{Status, LoadCounter, ConfigureInputs, RawInputs, FilteredInputs, Block, Watchdog, Other}
 use Rattle.fio_message.specs.declared.answers.OtherAnswer.{OtherAnswer}
 use Rattle.fio_message.specs.declared.answers.OtherAnswer.TheVariants.{SetOutputs, TrackInputs, ComplexOutputs, ControllerId, Identify}
+use Rattle.fio_message.specs.declared.limits.TheConstants.{BLOCK_ENTRIES, BODY_OCTETS}
 
 -- the type of the command that is answered, where the answer has a body only
 abbrev pub answered_by_other : OtherAnswer → ℕ
@@ -67,10 +68,10 @@ IsAnswer (ConfigureInputs status) = IsOctet status
 IsAnswer (RawInputs inputs stamp) = (inputs < 2 ^ 64) × (stamp < 2 ^ 32)
 IsAnswer (FilteredInputs inputs stamp) = (inputs < 2 ^ 64) × (stamp < 2 ^ 32)
 IsAnswer (Block block entries status stamp) =
-    IsOctet block × (length entries.items ≤ 255) × AllByRecursion IsEntry entries.items
+    IsOctet block × (length entries.items ≤ BLOCK_ENTRIES) × AllByRecursion IsEntry entries.items
     × IsOctet status × (stamp < 2 ^ 32)
 IsAnswer (Watchdog status) = IsOctet status
-IsAnswer (Other _ body) = (length body.items ≤ 772) × IsOctets body.items
+IsAnswer (Other _ body) = (length body.items ≤ BODY_OCTETS) × IsOctets body.items
 
 -- The answer spells the octets: it is within its ranges, and they are its type and its fields.
 pub record SpellsAnswer (answer : Answer) (octets : List ℕ) : Type 0 where

@@ -8,6 +8,7 @@ use Rattle.fio_message.specs.declared.commands.Command.{Command}
 use Rattle.fio_message.specs.declared.commands.Command.TheVariants.{Status, LoadCounter, ConfigureInputs, RawInputs, FilteredInputs, Poll, SetOutputs, Watchdog, Identify, Other}
 use Rattle.fio_message.specs.declared.commands.OtherCommand.{OtherCommand}
 use Rattle.fio_message.specs.declared.commands.OtherCommand.TheVariants.{TrackInputs, ComplexOutputs, ControllerId}
+use Rattle.fio_message.specs.declared.limits.TheConstants.{BODY_OCTETS, CONFIGURATION_ITEMS}
 
 -- the type of a command that has a body only
 abbrev pub other_command_code : OtherCommand → ℕ
@@ -52,14 +53,14 @@ command_octets command = command_code command ∷ command_fields command
 abbrev pub IsCommand : Command → Type 0
 IsCommand (Status clear) = IsOctet clear
 IsCommand (LoadCounter load) = load < 2 ^ 32
-IsCommand (ConfigureInputs items) = (length items.items ≤ 255) × AllByRecursion IsItem items.items
+IsCommand (ConfigureInputs items) = (length items.items ≤ CONFIGURATION_ITEMS) × AllByRecursion IsItem items.items
 IsCommand RawInputs = Unit {0}
 IsCommand FilteredInputs = Unit {0}
 IsCommand (Poll block) = IsOctet block
 IsCommand (SetOutputs levels controls) = IsEight levels × IsEight controls
 IsCommand (Watchdog timeout) = IsOctet timeout
 IsCommand Identify = Unit {0}
-IsCommand (Other _ body) = (length body.items ≤ 772) × IsOctets body.items
+IsCommand (Other _ body) = (length body.items ≤ BODY_OCTETS) × IsOctets body.items
 
 -- The command spells the octets: it is within its ranges, and they are its type and its fields.
 pub record SpellsCommand (command : Command) (octets : List ℕ) : Type 0 where

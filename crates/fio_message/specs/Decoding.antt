@@ -12,6 +12,7 @@ use Rattle.fio_message.specs.Commands.{command_length}
 use Rattle.fio_message.specs.Answers.{answer_code, answer_length}
 use Rattle.fio_message.specs.Blocks.{Block}
 use Rattle.fio_message.specs.Reading.{command_at, answer_at}
+use Rattle.fio_message.specs.declared.limits.TheConstants.{BODY_OCTETS, FRAME_OCTETS}
 
 -- whether so many octets are as many as needed; None says that no message has their type
 abbrev pub is_length : Option ℕ → ℕ → Bool
@@ -19,12 +20,12 @@ is_length None count = false
 is_length (Some needed) count = needed == count
 
 -- The message that octets spell: what is read of them, where they are as many as needed and fit in
--- a frame (the type and at most 772 more).
+-- a frame.
 unfoldable pub message_in :
     {V : Type 0} → (List ℕ → Option ℕ) → (ℕ → List ℕ → V) → List ℕ → Option V
 message_in length_of read [] = None
 message_in length_of read (code ∷ fields) =
-    if nat_le (length fields) 772 && is_length (length_of (code ∷ fields)) (1 + length fields)
+    if nat_le (length fields) BODY_OCTETS && is_length (length_of (code ∷ fields)) (1 + length fields)
     then Some (read code fields)
     else None
 
@@ -64,7 +65,7 @@ block_in octets = answered_block (answer_in octets)
 abbrev pub fault_in : Option ℕ → List ℕ → DecodeError
 fault_in needed [] = Empty
 fault_in needed (code ∷ fields) =
-    if nat_lt 773 (1 + length fields)
+    if nat_lt FRAME_OCTETS (1 + length fields)
     then TooLong (1 + length fields)
     else mismatch needed code (1 + length fields)
 

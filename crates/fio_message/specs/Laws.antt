@@ -1,16 +1,19 @@
 -- Laws of messages and their octets, as words: each function of the module `laws` promises one of
 -- them.
-use Rattle.std.specs.Prelude.{◌≡◌, ◌↔◌, ℕ, ◌+◌, ◌*◌, ◌<◌, ◌≤◌, Bool, List, ◌∷◌, length, slice_index_or, Option, Some, None, Result, Ok, Err}
+use Rattle.std.specs.Prelude.{◌≡◌, ◌↔◌, ℕ, ◌+◌, ◌*◌, ◌<◌, ◌≤◌, Bool, true, false, List, ◌∷◌, length, map, slice_index_or, Option, Some, None, Result, Ok, Err}
 use Rattle.std.specs.Int.{IsBitSet}
-use Rattle.fio_message.specs.Octets.{IsOctets, IsFrameLength, inputs_octets}
+use Rattle.fio_message.specs.Octets.{IsOctets, IsFrameLength, entry_octets, inputs_octets}
 use Rattle.fio_message.specs.Commands.{SpellsCommand}
-use Rattle.fio_message.specs.Answers.{SpellsAnswer, answer_length, block_length}
+use Rattle.fio_message.specs.Answers.{SpellsAnswer, answer_octets, answer_length, block_length}
 use Rattle.fio_message.specs.Status as status
-use Rattle.fio_message.specs.Status.{error_status, set_before_status, block_status}
+use Rattle.fio_message.specs.Status.{error_status, set_before_status, block_status, again_status}
+use Rattle.fio_message.specs.KeptBlock.{block_octets}
 use Rattle.fio_message.specs.Refusals.{Refuses}
 use Rattle.fio_message.specs.declared.faults.DecodeError.{DecodeError}
 use Rattle.fio_message.specs.declared.commands.Command.{Command}
 use Rattle.fio_message.specs.declared.answers.Answer.{Answer}
+use Rattle.fio_message.specs.declared.answers.Answer.TheVariants as answers
+use Rattle.fio_message.specs.declared.fields.Entry.{Entry}
 
 -- of commands, or of answers, by which octets they spell
 module _ {V : Type 0} (Spells : V → List ℕ → Type 0) where
@@ -84,6 +87,20 @@ ErrorReadsBack = (error : Bool) → status.says_error (error_status error) ≡ e
 
 abbrev pub SetBeforeReadsBack : Type 0
 SetBeforeReadsBack = (before : Bool) → status.says_set_before (set_before_status before) ≡ before
+
+-- the status of a block that is sent again has E and no G, and C and F as before
+abbrev pub SetsAgainAlone : Type 0
+SetsAgainAlone =
+    (more lost again out_of_sequence : Bool)
+    → again_status (block_status more lost again out_of_sequence)
+    ≡ block_status more lost true false
+
+-- the octets of a block of entries by their octets are those of the block answer
+abbrev pub KeepsBlockAnswers : Type 0
+KeepsBlockAnswers =
+    (number : ℕ) (entries : List Entry) (status stamp : ℕ)
+    → block_octets number (map entry_octets entries) status stamp
+    ≡ answer_octets (answers.Block number (record { items = entries }) status stamp)
 
 -- no list is both a command and an answer
 abbrev pub IsNeverBoth : Type 0

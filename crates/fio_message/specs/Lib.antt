@@ -7,5 +7,6 @@ pub mod Refusals
 pub mod Reading
 pub mod Decoding
 pub mod Blocks
+pub mod KeptBlock
 pub mod Texts
 pub mod Laws

@@ -6,6 +6,7 @@ use Rattle.std.specs.Int.{w16, w64, to_be_bytes, to_le_bytes}
 use Rattle.fio_message.specs.Bits.{bit_of}
 use Rattle.fio_message.specs.declared.fields.InputItem.{InputItem}
 use Rattle.fio_message.specs.declared.fields.Entry.{Entry}
+use Rattle.fio_message.specs.declared.limits.TheConstants.{FRAME_OCTETS}
 
 -- a number from 0 to 255
 abbrev pub IsOctet : ℕ → Type 0
@@ -17,7 +18,7 @@ IsOctets octets = AllByRecursion IsOctet octets
 
 -- how many octets a frame holds (own profile: 773 is the length of a block answer with 255 entries)
 abbrev pub IsFrameLength : ℕ → Type 0
-IsFrameLength n = (1 ≤ n) × (n ≤ 773)
+IsFrameLength n = (1 ≤ n) × (n ≤ FRAME_OCTETS)
 
 -- exactly eight octets, as each half of the outputs has
 abbrev pub IsEight : List ℕ → Type 0

@@ -2,6 +2,7 @@
 -- length (own profile).
 use Rattle.std.specs.Prelude.{◌≡◌, ◌≢◌, ℕ, ◌<◌, ◌≤◌, List, [], ◌∷◌, length, Option, Some, None, slice_index_or}
 use Rattle.fio_message.specs.Octets.{IsFrameLength}
+use Rattle.fio_message.specs.declared.limits.TheConstants.{FRAME_OCTETS}
 use Rattle.fio_message.specs.declared.faults.DecodeError.{DecodeError}
 use Rattle.fio_message.specs.declared.faults.DecodeError.TheVariants.{Empty, TooLong, UnknownType, WrongLength}
 
@@ -9,7 +10,7 @@ use Rattle.fio_message.specs.declared.faults.DecodeError.TheVariants.{Empty, Too
 -- and count has, and None says that no message has their type.
 abbrev pub Refuses : Option ℕ → List ℕ → DecodeError → Type 0
 Refuses needed octets Empty = octets ≡ []
-Refuses needed octets (TooLong got) = (got ≡ length octets) × (773 < got)
+Refuses needed octets (TooLong got) = (got ≡ length octets) × (FRAME_OCTETS < got)
 Refuses needed octets (UnknownType code) =
     IsFrameLength (length octets) × (code ≡ slice_index_or octets 0 0) × (needed ≡ None)
 Refuses needed octets (WrongLength right got) =
@@ -19,5 +20,5 @@ Refuses needed octets (WrongLength right got) =
 -- left where no fault applies. The private first step of all decoders cites it.
 pub record IsWhole (needed : Option ℕ) (octets : List ℕ) (code : ℕ) (fields : List ℕ) : Type 0 where
   pub parts : octets ≡ code ∷ fields
-  pub frame : length octets ≤ 773
+  pub frame : length octets ≤ FRAME_OCTETS
   pub needs : needed ≡ Some (length octets)

@@ -1,7 +1,7 @@
 -- The status octets of answers. Named are: of a load's and of a configuration's S, bit 0; of a
 -- watchdog's Y, bit 0; of a block's C, F, E and G, from bit 3 down. The letters are those of TEES
 -- 2009, the places are own profile. The other bits have no name: they are kept as they come.
-use Rattle.std.specs.Prelude.{ℕ, ◌+◌, ◌*◌, Bool}
+use Rattle.std.specs.Prelude.{ℕ, ◌+◌, ◌*◌, Bool, bit_and, bit_or}
 use Rattle.fio_message.specs.Bits.{bit_of, is_set}
 
 -- S, bit 0 of the status of a load or a configuration: 0 done, 1 error
@@ -41,3 +41,8 @@ says_out_of_sequence status = is_set status 0
 abbrev pub block_status : Bool → Bool → Bool → Bool → ℕ
 block_status more lost again out_of_sequence =
     8 * bit_of more + (4 * bit_of lost + (2 * bit_of again + bit_of out_of_sequence))
+
+-- the status of the same block where it is sent again: bit 1, E, is set, bit 0, G, is clear, and
+-- the other bits are as they were
+abbrev pub again_status : ℕ → ℕ
+again_status status = bit_and (bit_or status 2) 254

@@ -1,22 +1,22 @@
 //! Encoding: messages as the octets that they spell.
-ghost use Rattle.std.specs.Prelude.{◌≡◌, ◌<◌, ◌≤◌, ◌+◌, ◌*◌, ◌++◌, length};
+ghost use Rattle.std.specs.Prelude.{◌≡◌, ◌≤◌, ◌+◌, ◌*◌, ◌++◌, length};
 ghost use Rattle.std.specs.Int.{w32, to_be_bytes};
 ghost use Rattle.std.specs.List.{AllByRecursion, flat_map};
 ghost use Rattle.fio_message.specs.Octets.{IsOctets, IsItem, IsEntry, item_octets, entry_octets, inputs_octets};
-ghost use Rattle.fio_message.specs.Bits.{bit_of};
 ghost use Rattle.fio_message.specs.Commands.{IsCommand, SpellsCommand, command_fields};
 ghost use Rattle.fio_message.specs.Answers.{IsAnswer, SpellsAnswer, answer_fields};
 
 use crate::answers::Answer;
 use crate::commands::Command;
-use crate::fields::{Entry, InputItem, InputNumber};
+use crate::fields::{Entry, InputItem, flagged};
 use crate::frames::Frame;
 use crate::inputs::inputs_to_octets;
+use crate::limits::FRAME_OCTETS;
 use byteorder::{BigEndian, ByteOrder};
 
 /// Appends octets, for which there is room.
 fn append(frame: &mut Frame, octets: &[u8])
-    requires { length frame.old.items + length octets.now ≤ 773 }
+    requires { length frame.old.items + length octets.now ≤ FRAME_OCTETS }
     ensures appended { frame.new.items ≡ frame.old.items ++ octets.now }
     ensures within { IsOctets octets.now }
 {
@@ -28,7 +28,7 @@ fn append(frame: &mut Frame, octets: &[u8])
 
 /// Appends a number in four octets, the most significant first.
 fn append_u32(frame: &mut Frame, number: u32)
-    requires { length frame.old.items + 4 ≤ 773 }
+    requires { length frame.old.items + 4 ≤ FRAME_OCTETS }
     ensures { frame.new.items ≡ frame.old.items ++ to_be_bytes w32 number }
 {
     let mut octets = [0; 4];
@@ -36,17 +36,9 @@ fn append_u32(frame: &mut Frame, number: u32)
     append(frame, &octets);
 }
 
-/// A flag in bit 7, and an input number below it.
-fn flagged(flag: bool, input: InputNumber) -> u8
-    ensures octet { result ≡ 128 * bit_of flag + input }
-    ensures number { input < 128 }
-{
-    if flag { 128 + input.get() } else { input.get() }
-}
-
 /// Appends an item of a configuration, in three octets at once.
 fn append_item(frame: &mut Frame, item: &InputItem)
-    requires { length frame.old.items + 3 ≤ 773 }
+    requires { length frame.old.items + 3 ≤ FRAME_OCTETS }
     ensures appended { frame.new.items ≡ frame.old.items ++ item_octets item.now }
     ensures within { IsItem item.now }
 {
@@ -62,22 +54,16 @@ fn append_item(frame: &mut Frame, item: &InputItem)
 
 /// Appends an entry of a block, in three octets at once.
 fn append_entry(frame: &mut Frame, entry: &Entry)
-    requires { length frame.old.items + 3 ≤ 773 }
+    requires { length frame.old.items + 3 ≤ FRAME_OCTETS }
     ensures appended { frame.new.items ≡ frame.old.items ++ entry_octets entry.now }
     ensures within { IsEntry entry.now }
 {
-    let number = entry.stamp;
-    let mut stamp = [0; 2];
-    BigEndian::write_u16(&mut stamp, number);
-    append(
-        frame,
-        &[flagged(entry.level, entry.input), stamp[0], stamp[1]],
-    );
+    append(frame, &entry.octets());
 }
 
 /// Appends all items, three octets each.
 fn append_items(frame: &mut Frame, items: &[InputItem])
-    requires { length frame.old.items + 3 * length items.now ≤ 773 }
+    requires { length frame.old.items + 3 * length items.now ≤ FRAME_OCTETS }
     ensures appended { frame.new.items ≡ frame.old.items ++ flat_map item_octets items.now }
     ensures within { AllByRecursion IsItem items.now }
     ensures len { length frame.new.items ≡ length frame.old.items + 3 * length items.now }
@@ -89,7 +75,7 @@ fn append_items(frame: &mut Frame, items: &[InputItem])
 
 /// Appends all entries, three octets each.
 fn append_entries(frame: &mut Frame, entries: &[Entry])
-    requires { length frame.old.items + 3 * length entries.now ≤ 773 }
+    requires { length frame.old.items + 3 * length entries.now ≤ FRAME_OCTETS }
     ensures appended { frame.new.items ≡ frame.old.items ++ flat_map entry_octets entries.now }
     ensures within { AllByRecursion IsEntry entries.now }
     ensures len { length frame.new.items ≡ length frame.old.items + 3 * length entries.now }
@@ -149,7 +135,7 @@ pub fn encode_command(command: &Command) -> Frame
 /// Appends the levels of the inputs in eight octets, then the stamp.
 #[inline(always)]
 fn append_inputs(frame: &mut Frame, inputs: u64, stamp: u32)
-    requires { length frame.old.items + 12 ≤ 773 }
+    requires { length frame.old.items + 12 ≤ FRAME_OCTETS }
     ensures { frame.new.items ≡ frame.old.items ++ (inputs_octets inputs ++ to_be_bytes w32 stamp) }
 {
     append(frame, &inputs_to_octets(inputs));

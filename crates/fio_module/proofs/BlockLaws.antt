@@ -7,12 +7,12 @@ use Rattle.fio_message.specs.declared.commands.Command.TheVariants.{Poll}
 use Rattle.fio_module.specs.Settings.{Settings}
 use Rattle.fio_module.specs.Life.{Life, Scanned, Commanded}
 use Rattle.fio_module.specs.Log.{Transition, log_of, transitions_below}
-use Rattle.fio_module.specs.Blocks.{MadeBlock, latest_poll, is_new, blocks_of, newest_end, next_block, last_end, end_of, start_after, count_from}
+use Rattle.fio_module.specs.Blocks.{MadeBlock, latest_poll, is_new, blocks_of, newest_end, next_block, last_end, end_of_blocks, start_after, count_from}
 use Rattle.fio_module.specs.Laws.{BlocksEndWithin, IsPartOf, FollowOneAnother, BlocksFollow, LossesLeaveMore}
 use Rattle.fio_module.proofs.Ends.{last_end-append, end-within}
 
 end_within-if : (new : Bool) (len : ℕ) (blocks : List MadeBlock) (block : MadeBlock)
-    → end_of blocks ≤ len → block.end ≤ len → end_of (if new then blocks ++ block ∷ [] else blocks) ≤ len
+    → end_of_blocks blocks ≤ len → block.end ≤ len → end_of_blocks (if new then blocks ++ block ∷ [] else blocks) ≤ len
 end_within-if true len blocks block before within = rw last_end-append within
 end_within-if false len blocks block before within = before
 
@@ -63,7 +63,7 @@ follow-append log per_block before (first ∷ blocks) block follow begins part =
     (follow.0, follow.1, follow-append log per_block first.end blocks block follow.2 begins part)
 
 follow-if : (new : Bool) (log : List Transition) (per_block : ℕ) (blocks : List MadeBlock) (block : MadeBlock)
-    → FollowOneAnother log per_block 0 blocks → block.before ≡ end_of blocks → IsPartOf log per_block block
+    → FollowOneAnother log per_block 0 blocks → block.before ≡ end_of_blocks blocks → IsPartOf log per_block block
     → FollowOneAnother log per_block 0 (if new then blocks ++ block ∷ [] else blocks)
 follow-if true log per_block blocks block follow begins part = follow-append log per_block 0 blocks block follow begins part
 follow-if false log per_block blocks block follow begins part = follow

@@ -65,8 +65,8 @@ last_end place [] = place
 last_end place (block ∷ blocks) = last_end block.end blocks
 
 -- where the last of these blocks ends, 0 if there is none
-abbrev pub end_of : List MadeBlock → ℕ
-end_of blocks = last_end 0 blocks
+abbrev pub end_of_blocks : List MadeBlock → ℕ
+end_of_blocks blocks = last_end 0 blocks
 
 -- the blocks of a life, oldest first: each new poll makes one, from the transition log before it
 abbrev pub blocks_of : Settings → Life → List MadeBlock
@@ -74,13 +74,13 @@ blocks_of settings [] = []
 blocks_of settings (Commanded (Poll number) ∷ life) =
     let made = blocks_of settings life in
     if is_new (latest_poll life) number
-    then made ++ block_after settings life (end_of made) ∷ []
+    then made ++ block_after settings life (end_of_blocks made) ∷ []
     else made
 blocks_of settings (other ∷ life) = blocks_of settings life
 
 -- where the newest block ends
 abbrev pub newest_end : Settings → Life → ℕ
-newest_end settings life = end_of (blocks_of settings life)
+newest_end settings life = end_of_blocks (blocks_of settings life)
 
 -- the block that a new poll makes next
 abbrev pub next_block : Settings → Life → MadeBlock

@@ -8,6 +8,7 @@ use Rattle.fio_module.specs.Life.{Life, Scanned, Commanded, scans_of, filter_eve
 use Rattle.fio_module.specs.Log.{Transition}
 use Rattle.fio_module.specs.Blocks.{latest_poll, is_new, waiting_of}
 use Rattle.fio_module.specs.Delivery.{AtEachTime, FewBeyond}
+use Rattle.fio_message.specs.declared.limits.TheConstants.{INPUTS}
 
 -- By how many scans the blocks are behind, of what happened after a life: each scan adds one, and
 -- each new block makes up for so many, or for all where there are fewer.
@@ -58,12 +59,12 @@ KeptUpKeepsUp =
     AreInRange settings → IsKeptUp settings filter scans most life later →
     AtEachTime (KeepsUp settings filter scans life) later
 
--- Where a block takes 64 entries or more, one takes what the open inputs can report in the scans of a
+-- Where a block takes as many entries as there are inputs, or more, one takes what the open inputs can report in the scans of a
 -- filter but one, and two what they can report in the scans that a block makes up for besides.
 abbrev pub BlocksTakeTheRest : Type 0
 BlocksTakeTheRest =
     (settings : Settings) (filter scans : ℕ) (life : Life) →
-    64 ≤ settings.per_block → 1 ≤ filter →
+    INPUTS ≤ settings.per_block → 1 ≤ filter →
     open_inputs (filter_events life) * scans ≤ settings.per_block * filter →
     (open_inputs (filter_events life) * (0 + (filter - 1)) ≤ 1 * (settings.per_block * filter))
     × (open_inputs (filter_events life) * (scans + (filter - 1))

@@ -6,6 +6,7 @@ use Rattle.fio_module.specs.Life.{History, Life, Occurrence, Scanned, Commanded,
 use Rattle.fio_module.specs.Log.{Transition, entry_of, log_of, whole_log, transitions_below}
 use Rattle.fio_module.specs.Blocks.{MadeBlock, is_new, latest_poll, blocks_of, newest_end, next_block, waiting_of}
 use Rattle.fio_module.specs.Sendings.{Sending, latest_sending}
+use Rattle.fio_message.specs.declared.limits.TheConstants.{INPUTS}
 
 -- one more entry waits, and the first goes exactly if as many waited as may
 abbrev pub with_waiting : ℕ → List Transition → Transition → List Transition
@@ -18,7 +19,7 @@ with_waiting limit waiting transition =
 abbrev pub ScansAddWaiting : Type 0
 ScansAddWaiting =
     (settings : Settings) (life : Life) (raw : ℕ) →
-    let joining = transitions_below 64 raw life in
+    let joining = transitions_below INPUTS raw life in
     waiting_of settings (Scanned raw ∷ life)
     ≡ fold (with_waiting settings.waiting) (waiting_of settings life) joining
 

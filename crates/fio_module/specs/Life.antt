@@ -30,9 +30,9 @@ abbrev pub Life : Type 0
 Life = List Occurrence
 
 -- octets that spell no command change nothing
-abbrev pub with_command : Option Command → Life → Life
-with_command None life = life
-with_command (Some command) life = Commanded command ∷ life
+abbrev pub life_after_command : Option Command → Life → Life
+life_after_command None life = life
+life_after_command (Some command) life = Commanded command ∷ life
 
 -- a restart begins a new life
 abbrev pub life_of : History → Life
@@ -40,7 +40,7 @@ life_of [] = []
 life_of (Scan raw ∷ history) = Scanned raw ∷ life_of history
 life_of (LineSync ∷ history) = LineSynced ∷ life_of history
 life_of (Raise mask ∷ history) = Raised mask ∷ life_of history
-life_of (Received octets ∷ history) = with_command (command_in octets) (life_of history)
+life_of (Received octets ∷ history) = life_after_command (command_in octets) (life_of history)
 life_of (Restart ∷ history) = []
 
 -- what of a life reaches the counter: each scan ticks it

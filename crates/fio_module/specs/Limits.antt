@@ -1,5 +1,7 @@
 -- The limits of a module.
 use Rattle.std.specs.Prelude.{ℕ, ◌&&◌, Bool, nat_le}
+use Rattle.fio_message.specs.declared.limits.TheConstants.{BLOCK_ENTRIES}
+use Rattle.fio_module.specs.declared.limits.TheConstants.{STANDARD_WAITING, MOST_WAITING}
 
 -- the most entries of one block, and the most that wait
 pub record Limits : Type 0 where
@@ -8,9 +10,10 @@ pub record Limits : Type 0 where
 
 -- those of TEES 2009
 abbrev pub standard_limits : Limits
-standard_limits = record { per_block = 255; waiting = 1024 }
+standard_limits = record { per_block = BLOCK_ENTRIES; waiting = STANDARD_WAITING }
 
 -- a block takes 1 to 255 entries, and 1,024 to 8,192 may wait
 abbrev pub are_limits : ℕ → ℕ → Bool
 are_limits per_block waiting =
-    nat_le 1 per_block && (nat_le per_block 255 && (nat_le 1024 waiting && nat_le waiting 8192))
+    nat_le 1 per_block && (nat_le per_block BLOCK_ENTRIES
+    && (nat_le STANDARD_WAITING waiting && nat_le waiting MOST_WAITING))

@@ -3,6 +3,7 @@ use Rattle.std.specs.Prelude.{ℕ, zero, suc, ◌%◌, ◌^◌, Bool, List, [], 
 use Rattle.fio_message.specs.declared.fields.Entry.{Entry}
 use Rattle.fio_input.specs.FilterHistory.{is_reported, input_state}
 use Rattle.fio_module.specs.Life.{Scan, History, Scanned, Life, life_of, counter_of, scans_of, loads_of, filter_events}
+use Rattle.fio_message.specs.declared.limits.TheConstants.{INPUTS}
 
 -- a change of an input's filtered state: the state after it, the counter at its scan, already
 -- stepped, and how many scans, this one among them, and loads of the counter there had been
@@ -45,11 +46,11 @@ transitions_below (suc input) raw life =
 -- the transition log of a life
 abbrev pub log_of : Life → List Transition
 log_of [] = []
-log_of (Scanned raw ∷ life) = log_of life ++ transitions_below 64 raw life
+log_of (Scanned raw ∷ life) = log_of life ++ transitions_below INPUTS raw life
 log_of (other ∷ life) = log_of life
 
 -- the transition logs of all lives of a history, joined
 abbrev pub whole_log : History → List Transition
 whole_log [] = []
-whole_log (Scan raw ∷ history) = whole_log history ++ transitions_below 64 raw (life_of history)
+whole_log (Scan raw ∷ history) = whole_log history ++ transitions_below INPUTS raw (life_of history)
 whole_log (other ∷ history) = whole_log history

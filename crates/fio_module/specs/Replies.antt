@@ -15,6 +15,7 @@ use Rattle.fio_module.specs.Settings.{Settings}
 use Rattle.fio_module.specs.Life.{History, Commanded, Life, life_of, counter_of, filter_events}
 use Rattle.fio_module.specs.Sendings.{answer_of, latest_sending}
 use Rattle.fio_module.specs.Flags.{flags_of, watchdog_of, word_of}
+use Rattle.fio_message.specs.declared.limits.TheConstants.{INPUTS}
 
 -- the answer to a command after a life. Where a stamp stands it is the counter after that life
 abbrev pub answer_to : Settings → Life → Command → Option Answer
@@ -29,7 +30,7 @@ answer_to settings life (ConfigureInputs items) =
 answer_to settings life RawInputs =
     Some (answers.RawInputs (raw_levels (filter_events life)) (counter_of life))
 answer_to settings life FilteredInputs =
-    let inputs = word_of 64 (λ input. input_state input (filter_events life)) in
+    let inputs = word_of INPUTS (λ input. input_state input (filter_events life)) in
     Some (answers.FilteredInputs inputs (counter_of life))
 answer_to settings life (Poll number) =
     option_map answer_of (latest_sending settings (Commanded (Poll number) ∷ life))

@@ -1,6 +1,8 @@
 -- What a module is made with.
 use Rattle.std.specs.Prelude.{ℕ, ◌≤◌}
 use Rattle.fio_module.specs.Limits.{Limits, standard_limits}
+use Rattle.fio_message.specs.declared.limits.TheConstants.{BLOCK_ENTRIES}
+use Rattle.fio_module.specs.declared.limits.TheConstants.{STANDARD_WAITING}
 
 -- its identification octet, the most entries of one block, and the most that wait
 pub record Settings : Type 0 where
@@ -20,5 +22,5 @@ standard_settings id = settings_with id standard_limits
 pub record AreInRange (settings : Settings) : Type 0 where
   pub id_fits : settings.id ≤ 255
   pub some_per_block : 1 ≤ settings.per_block
-  pub few_per_block : settings.per_block ≤ 255
-  pub many_waiting : 1024 ≤ settings.waiting
+  pub few_per_block : settings.per_block ≤ BLOCK_ENTRIES
+  pub many_waiting : STANDARD_WAITING ≤ settings.waiting

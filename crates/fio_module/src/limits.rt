@@ -1,5 +1,13 @@
 //! How many entries a block has, and how many may wait.
+use fio_message::BLOCK_ENTRIES;
 use std::marker::Model;
+
+/// How many entries wait at most where the caller gives no limits (TEES 2009), and the least that a
+/// caller may give (own profile).
+pub const STANDARD_WAITING: u16 = 1024;
+
+/// The most that a caller may give (own profile).
+pub const MOST_WAITING: u16 = 8192;
 
 /// The limits of a module: the most entries of one block, 1 to 255, and the most entries that wait
 /// for a poll, 1,024 to 8,192 (own profile; TEES 2009 has 255 and 1,024).
@@ -12,13 +20,15 @@ pub struct Limits {
 impl Model for Limits {
     ghost use Rattle.std.specs.Prelude.{◌≤◌};
     ghost use Rattle.fio_module.specs.Limits.{Limits as Values};
+    ghost use Rattle.fio_module.specs.declared.limits.TheConstants.{STANDARD_WAITING, MOST_WAITING};
 
     ghost Value = { Values };
 
     ghost view = { λ limits. record { per_block = limits.per_block; waiting = limits.waiting } };
 
     ghost invariant = { λ limits.
-        (1 ≤ limits.per_block) × (1024 ≤ limits.waiting) × (limits.waiting ≤ 8192) };
+        (1 ≤ limits.per_block) × (STANDARD_WAITING ≤ limits.waiting)
+        × (limits.waiting ≤ MOST_WAITING) };
 
     ghost inverse = { λ values. record { per_block = values.per_block; waiting = values.waiting } };
 }
@@ -41,8 +51,8 @@ impl Limits {
 
     /// Those of TEES 2009, which a module has where the caller gives none.
     pub const STANDARD: Limits = Limits {
-        per_block: 255,
-        waiting: 1024,
+        per_block: BLOCK_ENTRIES as u8,
+        waiting: STANDARD_WAITING,
     };
 
     /// The limits with these numbers, or `None` where one is out of its range: `per_block` 1 to
@@ -53,7 +63,7 @@ impl Limits {
             then Some (record { per_block = per_block; waiting = waiting })
             else None) }
     {
-        if per_block >= 1 && waiting >= 1024 && waiting <= 8192 {
+        if per_block >= 1 && waiting >= STANDARD_WAITING && waiting <= MOST_WAITING {
             Some(Limits { per_block, waiting })
         } else {
             None

@@ -3,14 +3,14 @@ ghost use Rattle.std.specs.Prelude.{◌≤◌, length};
 ghost use Rattle.fio_message.specs.Answers.{SpellsAnswer};
 
 use crate::limits::Limits;
-use crate::numbers::{is_new, is_out_of_sequence, polled_number};
+use crate::numbers::{is_new, is_out_of_sequence};
 use crate::outputs::Outputs;
 use crate::ring::EntryRing;
-use crate::sent::{SentBlock, first_status};
-use crate::waiting::{front, push_changed};
+use crate::waiting::push_changed;
 use fio_input::{Counter, Filters};
 use fio_message::{
-    Answer, Body, Command, Frame, InputItem, OtherAnswer, decode_command, write_answer,
+    Answer, BODY_OCTETS, BlockStatus, Body, Command, Frame, InputItem, KeptBlock, OtherAnswer,
+    decode_command, error_status, read_poll, set_before_status, write_answer,
 };
 
 /// P in the status flags: the module was reset.
@@ -32,20 +32,21 @@ pub struct ModuleState {
     outputs: Outputs,
     counter: Counter,
     filters: Filters,
-    sent: SentBlock,
+    sent: KeptBlock,
 }
 
 impl ModuleState {
     ghost use Rattle.std.specs.Prelude.{◌≡◌, ◌<◌, ◌-◌, ℕ, List, ◌∷◌, [], Some, true, false, length, min};
     ghost use Rattle.circular_buffer.specs.Buffer.{Buffer, buffer};
     ghost use Rattle.fio_message.specs.Bits.{is_set};
+    ghost use Rattle.fio_message.specs.KeptBlock.{kept_octets};
+    ghost use Rattle.fio_message.specs.declared.limits.TheConstants.{INPUTS};
     ghost use Rattle.fio_input.specs.FilterHistory.{input_state};
     ghost use Rattle.fio_module.specs.Settings.{Settings, settings_with};
     ghost use Rattle.fio_module.specs.Life.{History, Life, Scan, LineSync, Raise, Received, Restart, Commanded, life_of, counter_of, filter_events};
     ghost use Rattle.fio_module.specs.Blocks.{is_new, latest_poll};
     ghost use Rattle.fio_module.specs.Flags.{watchdog_of, outputs_of};
     ghost use Rattle.fio_module.specs.Replies.{reply_to, Encodes};
-    ghost use Rattle.fio_module.specs.Sent.{kept_octets};
     ghost use Rattle.fio_module.specs.State.{IsAfter, IsAfterHistory, Obeys, frame_if};
 
     /// A module with these limits whose ring is empty.
@@ -62,7 +63,7 @@ impl ModuleState {
             outputs: Outputs::OFF,
             counter: Counter::new(),
             filters: Filters::new(),
-            sent: SentBlock::new(),
+            sent: KeptBlock::new(),
         }
     }
 
@@ -82,7 +83,7 @@ impl ModuleState {
         self.outputs = Outputs::OFF;
         ring.clear();
         self.pushed_out = 0;
-        self.sent = SentBlock::new();
+        self.sent = KeptBlock::new();
     }
 
     /// Steps the counter by one millisecond, then takes a sample of each input (own profile: one
@@ -136,7 +137,7 @@ impl ModuleState {
             → IsAfterHistory settings self.old (R.held ring.old) history
             → Encodes (reply_to settings history octets.now) (frame_if result frame.new) }
     {
-        match polled_number(octets) {
+        match read_poll(octets) {
             Some(number) => {
                 self.poll(ring, number, frame);
                 true
@@ -233,7 +234,12 @@ impl ModuleState {
             → Obeys self.old ring self.new ring (Command.LoadCounter load) (Some frame.new) }
     {
         self.counter.ask_load(load);
-        write_answer(&Answer::LoadCounter { status: 0 }, frame);
+        write_answer(
+            &Answer::LoadCounter {
+                status: error_status(false),
+            },
+            frame,
+        );
     }
 
     #[inline(never)]
@@ -241,10 +247,7 @@ impl ModuleState {
         ensures { (ring : Buffer (List ℕ)) → Obeys self.old ring self.new ring
             (Command.ConfigureInputs (record { items = items.now })) (Some frame.new) }
     {
-        let status = match self.filters.configure(items) {
-            Ok(()) => 0,
-            Err(_) => 1,
-        };
+        let status = error_status(self.filters.configure(items).is_err());
         write_answer(&Answer::ConfigureInputs { status }, frame);
     }
 
@@ -300,10 +303,11 @@ impl ModuleState {
         let per_block = usize::from(self.per_block);
         let more = ring.len() > per_block;
         let lost = self.pushed_out != 0;
-        let status = first_status(more, lost, out_of_sequence);
-        let (first, second) = front(ring, self.per_block);
+        let status = BlockStatus::new(more, lost, false, out_of_sequence);
+        let (first, second) = ring.parts();
+        let stamp = self.counter.now();
         self.sent
-            .keep(number, first, second, status, self.counter.now());
+            .write(number, first, second, self.per_block, status, stamp);
         ring.remove_front(per_block);
         self.pushed_out = 0;
         self.sent.copy_to(frame);
@@ -335,7 +339,7 @@ impl ModuleState {
         ensures { (ring : Buffer (List ℕ))
             → Obeys self.old ring self.new ring (Command.Watchdog timeout) (Some frame.new) }
     {
-        let status = if self.watchdog != 0 { 1 } else { 0 };
+        let status = set_before_status(self.watchdog != 0);
         self.watchdog = timeout.max(10).min(100);
         write_answer(&Answer::Watchdog { status }, frame);
     }
@@ -384,7 +388,7 @@ impl ModuleState {
     pub fn filtered(&self) -> u64
         ensures { (settings : Settings) (ring : Buffer (List ℕ)) (history : History)
             → IsAfterHistory settings self.now ring history
-            → (input : ℕ) → input < 64
+            → (input : ℕ) → input < INPUTS
             → is_set result input ≡ input_state input (filter_events (life_of history)) }
     {
         self.filters.filtered()
@@ -393,7 +397,7 @@ impl ModuleState {
 
 /// Writes the answer with these octets after its type.
 fn write_other_answer(kind: OtherAnswer, octets: &[u8], frame: &mut Frame)
-    requires { length octets.now ≤ 772 }
+    requires { length octets.now ≤ BODY_OCTETS }
     ensures { SpellsAnswer (Answer.Other kind (record { items = octets.now })) frame.new.items }
 {
     match Body::try_from(octets) {

@@ -5,7 +5,6 @@ mod lines;
 mod one_pass;
 mod rules;
 mod said;
-mod status_bits;
 mod verdict;
 
 pub use lines::{Line, TraceError, read_trace};

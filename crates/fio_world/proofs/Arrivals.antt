@@ -13,7 +13,7 @@ use Rattle.fio_input.specs.Delivery.{open_inputs}
 use Rattle.fio_module.specs.Settings.{Settings, AreInRange}
 use Rattle.fio_module.specs.Life.{Life, Scanned, LineSynced, Commanded, life_of, counter_events, loads_of, filter_events}
 use Rattle.fio_module.specs.Log.{Transition, entry_of, log_of, transition_at, transitions_below}
-use Rattle.fio_module.specs.Blocks.{MadeBlock, latest_poll, is_new, blocks_of, next_block, end_of, newest_end, waiting_from, waiting_of}
+use Rattle.fio_module.specs.Blocks.{MadeBlock, latest_poll, is_new, blocks_of, next_block, end_of_blocks, newest_end, waiting_from, waiting_of}
 use Rattle.fio_module.specs.Delivery.{AtEachTime, FewBeyond}
 use Rattle.fio_module.specs.KeepingUp.{scans_behind, IsKeptUp, IsYoung, KeepsUp}
 use Rattle.fio_module.proofs.Losses.{holds_now}
@@ -22,7 +22,7 @@ use Rattle.fio_module.proofs.ListParts.{each-front, each-back}
 use Rattle.fio_module.proofs.Pace.{nothing_left}
 use Rattle.fio_module.proofs.Polling.{kept_up_keeps_up}
 use Rattle.fio_module.proofs.Stretches.{log-grown, transitions_in, IsPunctual, HasMade, has_made, each-push}
-use Rattle.fio_cpu.specs.declared.items.Item.TheVariants as items
+use Rattle.fio_cpu.specs.declared.record.Item.TheVariants as items
 use Rattle.fio_cpu.specs.Record.{item_of}
 use Rattle.fio_world.specs.Link.{Machine}
 use Rattle.fio_world.specs.Claims.{blocks_in, IsInTime}
@@ -172,7 +172,7 @@ pub taken_end : (settings : Settings) (machine : Machine) → machine.round ≡ 
     → end_taken settings machine ≡ newest_end settings (life_of machine.history)
 taken_end settings machine taken =
     let blocks = blocks_in settings machine in
-    ap end_of (ap (λ n. take n blocks) taken ∙ take_all (length blocks) blocks (omega arith))
+    ap end_of_blocks (ap (λ n. take n blocks) taken ∙ take_all (length blocks) blocks (omega arith))
 
 module _ (settings : Settings) (range : AreInRange settings) (first filter scans most behind : ℕ) (machine last : Machine) (later : Life)
     (b : IsBetween settings first machine) (taken : machine.round ≡ length (blocks_in settings machine))

@@ -6,8 +6,8 @@ use Rattle.fio_message.specs.Decoding.{message_in}
 use Rattle.fio_input.specs.Widening.{widened}
 use Rattle.fio_module.specs.Settings.{Settings, standard_settings}
 use Rattle.fio_module.specs.Log.{transitions_below}
-use Rattle.fio_cpu.specs.declared.items.Item.{Item}
-use Rattle.fio_cpu.specs.declared.items.Item.TheVariants.{Entry, Gap}
+use Rattle.fio_cpu.specs.declared.record.Item.{Item}
+use Rattle.fio_cpu.specs.declared.record.Item.TheVariants.{Entry, Gap}
 use Rattle.fio_world.specs.declared.event.Event.{Event}
 use Rattle.fio_world.specs.declared.event.Event.TheVariants.{Scan, Poll, Send, ToModule, ToCpu, Restart}
 use Rattle.fio_world.specs.Link.{Machine, NotSent, OutOfOrder, PollIsOurs, start, refusal, after}

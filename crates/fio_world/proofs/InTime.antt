@@ -7,7 +7,7 @@ use Rattle.fio_message.specs.Blocks.{Block}
 use Rattle.fio_message.specs.Decoding.{command_in, block_in}
 use Rattle.fio_input.specs.Delivery.{scans_in}
 use Rattle.fio_module.specs.Settings.{Settings, AreInRange}
-use Rattle.fio_module.specs.Life.{Life, Scanned, LineSynced, Raised, Commanded, life_of, with_command, filter_events}
+use Rattle.fio_module.specs.Life.{Life, Scanned, LineSynced, Raised, Commanded, life_of, life_after_command, filter_events}
 use Rattle.fio_module.specs.Blocks.{latest_poll, is_new, blocks_of}
 use Rattle.fio_module.specs.Delivery.{AtEachTime}
 use Rattle.fio_module.specs.KeepingUp.{scans_behind}
@@ -35,7 +35,7 @@ pub record Grows (machine last : Machine) (scans : ℕ) : Type 0 where
 
 -- a frame that is delivered to the module
 grows-command : (life : Life) (found : Option Command)
-    → (stretch : Life) × (with_command found life ≡ stretch ++ life) × (scans_in (filter_events stretch) ≤ 0)
+    → (stretch : Life) × (life_after_command found life ≡ stretch ++ life) × (scans_in (filter_events stretch) ≤ 0)
 grows-command life None = ([], refl, omega arith)
 grows-command life (Some (ConfigureInputs items)) = (Commanded (ConfigureInputs items) ∷ [], refl, omega arith)
 grows-command life (Some command) = (Commanded command ∷ [], refl, omega arith)

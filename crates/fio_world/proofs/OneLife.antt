@@ -13,8 +13,8 @@ use Rattle.fio_module.specs.Settings.{Settings}
 use Rattle.fio_module.specs.Life.{History, life_of}
 use Rattle.fio_module.specs.Log.{Transition, entry_of}
 use Rattle.fio_module.specs.Blocks.{MadeBlock, is_new, blocks_of}
-use Rattle.fio_cpu.specs.declared.items.Item.{Item}
-use Rattle.fio_cpu.specs.declared.items.Item.TheVariants as items
+use Rattle.fio_cpu.specs.declared.record.Item.{Item}
+use Rattle.fio_cpu.specs.declared.record.Item.TheVariants as items
 use Rattle.fio_cpu.specs.Record.{item_of, recorded}
 use Rattle.fio_world.specs.Link.{Sent, Machine, number_of, answered}
 use Rattle.fio_world.specs.Frames.{is_repeated, repeats, answer_before, block_answers}

@@ -6,9 +6,9 @@ use Rattle.std.proofs.lemmas.List.{map-append, take_all}
 use Rattle.fio_module.specs.Settings.{Settings, AreInRange}
 use Rattle.fio_module.specs.Life.{Life, life_of}
 use Rattle.fio_module.specs.Log.{Transition, entry_of, log_of}
-use Rattle.fio_module.specs.Blocks.{MadeBlock, blocks_of, end_of, newest_end, waiting_from}
+use Rattle.fio_module.specs.Blocks.{MadeBlock, blocks_of, end_of_blocks, newest_end, waiting_from}
 use Rattle.fio_module.proofs.BlockLaws.{blocks_end_within}
-use Rattle.fio_cpu.specs.declared.items.Item.TheVariants as items
+use Rattle.fio_cpu.specs.declared.record.Item.TheVariants as items
 use Rattle.fio_cpu.specs.Record.{item_of}
 use Rattle.fio_world.specs.Link.{Machine}
 use Rattle.fio_world.specs.Pieces.{Gap, Got, piece_of, pieces_of, taken, ArePieces}
@@ -64,7 +64,7 @@ rest_is_told settings life =
     let all : take (length blocks) blocks ≡ blocks = take_all (length blocks) blocks (omega arith) in
     let waiting = length-drop (waiting_from settings life) (log_of life) in
     record {
-      in_blocks = subst (λ bs. ArePieces settings life 0 (taken (length blocks) blocks) (end_of bs)) all
+      in_blocks = subst (λ bs. ArePieces settings life 0 (taken (length blocks) blocks) (end_of_blocks bs)) all
           (taken_are_pieces settings life (length blocks) (omega arith));
       pushed_out = omega arith;
       only_when_full = λ pushed. omega (arith, waiting);
@@ -85,7 +85,7 @@ module _ (settings : Settings) (range : AreInRange settings) (first : ℕ) (mach
   record_is_log : RecordIsLog settings machine
   record_is_log =
       let life = life_of machine.history in
-      let pieces = subst (λ ps. ArePieces settings life 0 ps (end_of (take machine.round (blocks_in settings machine)))) (sym taken_items)
+      let pieces = subst (λ ps. ArePieces settings life 0 ps (end_of_blocks (take machine.round (blocks_in settings machine)))) (sym taken_items)
       (taken_are_pieces settings life machine.round behind) in
       record { pieces = pieces; prefix = pieces_begin_log settings life (map piece_of machine.items) _ pieces }
 

@@ -14,7 +14,7 @@ use Rattle.fio_message.specs.Status.{says_again, says_out_of_sequence}
 use Rattle.fio_message.specs.Decoding.{command_in, polled_number, answered_block, block_in}
 use Rattle.fio_message.proofs.StatusBits.{status_back}
 use Rattle.fio_module.specs.Settings.{Settings}
-use Rattle.fio_module.specs.Life.{Received, Restart, History, Life, life_of, with_command}
+use Rattle.fio_module.specs.Life.{Received, Restart, History, Life, life_of, life_after_command}
 use Rattle.fio_module.specs.Log.{entry_of}
 use Rattle.fio_module.specs.Blocks.{MadeBlock, latest_poll, is_new, blocks_of, next_block}
 use Rattle.fio_module.specs.Sendings.{Sending, answer_of, first_sending, sent_again, latest_sending}
@@ -59,7 +59,7 @@ same_number (Some before) number old = let same : before ≡ number = grind (ari
 -- after one more command, or none
 number_after : (command : Option Command) (life : Life) (numbers : List ℕ) (number : ℕ)
     → (latest_poll life ≡ Some number → (older : List ℕ) × (numbers ≡ number ∷ older))
-    → latest_poll (with_command command life) ≡ Some number
+    → latest_poll (life_after_command command life) ≡ Some number
     → (older : List ℕ) × (number_with (polled_number command) numbers ≡ number ∷ older)
 number_after None life numbers number before is = before is
 number_after (Some (commands.Poll n)) life numbers number before is =

@@ -7,9 +7,9 @@ use Rattle.fio_message.specs.declared.commands.Command.TheVariants as commands
 use Rattle.fio_message.specs.Answers.{answer_octets}
 use Rattle.fio_message.specs.Decoding.{command_in, polled_number}
 use Rattle.fio_module.specs.Settings.{Settings, AreInRange}
-use Rattle.fio_module.specs.Life.{Received, History, Life, life_of, with_command}
+use Rattle.fio_module.specs.Life.{Received, History, Life, life_of, life_after_command}
 use Rattle.fio_module.specs.Log.{Transition, whole_log}
-use Rattle.fio_module.specs.Blocks.{MadeBlock, latest_poll, is_new, blocks_of, end_of, newest_end, next_block}
+use Rattle.fio_module.specs.Blocks.{MadeBlock, latest_poll, is_new, blocks_of, end_of_blocks, newest_end, next_block}
 use Rattle.fio_module.specs.Sendings.{Sending, answer_of, is_out_of_sequence, first_sending, sent_again}
 use Rattle.fio_module.specs.Replies.{answer_if}
 use Rattle.fio_module.proofs.Ends.{last_end-append}
@@ -51,7 +51,7 @@ module _ (settings : Settings) (range : AreInRange settings) (first : ℕ) (mach
       → HasPoll machine.to_module place number frame.round
       → is_new (latest_poll life) number ≡ true
       → Invariant first log (past_blocks settings h ++ map (behind past) (blocks_if settings life true))
-      (past + end_of (blocks_if settings life true)) (Some number) (number ∷ received_numbers h)
+      (past + end_of_blocks (blocks_if settings life true)) (Some number) (number ∷ received_numbers h)
       (makers ++ frame.round ∷ [])
       (after_poll machine place frame (answered (option_map answer_of (sending_if settings life number true)) frame.round))
   new_poll place number frame le poll is =
@@ -70,8 +70,8 @@ module _ (settings : Settings) (range : AreInRange settings) (first : ℕ) (mach
       let grown : past_blocks settings h ++ map (behind past) (bs ++ block ∷ []) ≡ all ++ behind past block ∷ [] =
       ap (λ made. past_blocks settings h ++ made) (map-append (behind past) bs (block ∷ []))
       ∙ sym (append_assoc (past_blocks settings h) (map (behind past) bs) (behind past block ∷ [])) in
-      let end : end_of (bs ++ block ∷ []) ≡ block.end = last_end-append 0 bs block in
-      let limit = past + end_of (bs ++ block ∷ []) in
+      let end : end_of_blocks (bs ++ block ∷ []) ≡ block.end = last_end-append 0 bs block in
+      let limit = past + end_of_blocks (bs ++ block ∷ []) in
       let carries = carried_says sending block (first_carries settings life number) in
       subst (λ made. Invariant first log made limit (Some number) (number ∷ received_numbers h) (makers ++ round ∷ [])
       (after_poll machine place frame (answered (Some (answer_of sending)) round))) (sym grown)
@@ -161,7 +161,7 @@ module _ (settings : Settings) (range : AreInRange settings) (first : ℕ) (mach
       → HasPoll machine.to_module place number frame.round
       → (new : Bool) → is_new (latest_poll life) number ≡ new
       → Invariant first log (past_blocks settings h ++ map (behind past) (blocks_if settings life new))
-      (past + end_of (blocks_if settings life new)) (Some number) (number ∷ received_numbers h)
+      (past + end_of_blocks (blocks_if settings life new)) (Some number) (number ∷ received_numbers h)
       (makers_if makers frame.round new)
       (after_poll machine place frame (answered (option_map answer_of (sending_if settings life number new)) frame.round))
   received_poll place number frame le poll true is = new_poll place number frame le poll is
@@ -171,9 +171,9 @@ module _ (settings : Settings) (range : AreInRange settings) (first : ℕ) (mach
   received_frame : (place : ℕ) (frame : Sent) → machine.last_to_module ≤ place + 1
       → slice_get machine.to_module place ≡ Some frame
       → (command : Option Command) → command_in frame.octets ≡ command
-      → Invariant first log (joined settings (past_blocks settings h) past (with_command command life))
-      (past + newest_end settings (with_command command life))
-      (latest_poll (with_command command life)) (number_with (polled_number command) (received_numbers h))
+      → Invariant first log (joined settings (past_blocks settings h) past (life_after_command command life))
+      (past + newest_end settings (life_after_command command life))
+      (latest_poll (life_after_command command life)) (number_with (polled_number command) (received_numbers h))
       (makers_after (polled_number command) (latest_poll life) (makers_of h)
       (polls_with (polled_number command) frame.round machine.polls))
       (record machine {

@@ -10,8 +10,8 @@ use Rattle.fio_message.specs.Blocks.{Block}
 use Rattle.fio_message.specs.Status.{says_lost}
 use Rattle.fio_module.specs.Log.{Transition, entry_of}
 use Rattle.fio_module.specs.Blocks.{MadeBlock}
-use Rattle.fio_cpu.specs.declared.items.Item.{Item}
-use Rattle.fio_cpu.specs.declared.items.Item.TheVariants as items
+use Rattle.fio_cpu.specs.declared.record.Item.{Item}
+use Rattle.fio_cpu.specs.declared.record.Item.TheVariants as items
 use Rattle.fio_cpu.specs.Record.{item_of, recorded}
 use Rattle.fio_world.specs.Pieces.{Piece, Gap, Got, piece_of}
 use Rattle.fio_world.specs.Rising.{entries_got, Rises}

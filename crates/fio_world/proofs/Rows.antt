@@ -8,7 +8,7 @@ use Rattle.fio_message.specs.Commands.{command_octets}
 use Rattle.fio_message.specs.Decoding.{poll_in}
 use Rattle.fio_message.proofs.MessageLaws.{poll_back}
 use Rattle.fio_module.specs.Settings.{Settings, AreInRange}
-use Rattle.fio_module.specs.Life.{Received, Restart, History, Life, life_of, with_command}
+use Rattle.fio_module.specs.Life.{Received, Restart, History, Life, life_of, life_after_command}
 use Rattle.fio_module.specs.Life as module_events
 use Rattle.fio_module.specs.Log.{Transition, log_of, whole_log, transitions_below}
 use Rattle.fio_module.specs.Blocks.{MadeBlock, latest_poll, newest_end}

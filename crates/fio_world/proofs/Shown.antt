@@ -17,7 +17,7 @@ use Rattle.fio_module.specs.Life.{Received}
 use Rattle.fio_module.specs.Replies.{reply_to, Encodes}
 use Rattle.fio_module.specs.Module as modules
 use Rattle.fio_cpu.specs.Poller.{Polling}
-use Rattle.fio_cpu.specs.declared.items.Item.{Item}
+use Rattle.fio_cpu.specs.declared.record.Item.{Item}
 use Rattle.fio_cpu.specs.Record.{recorded}
 use Rattle.fio_cpu.specs.Hearing.{heard_as, after_hearing, AddsItems}
 use Rattle.fio_world.specs.declared.event.Event.{Event}
@@ -146,7 +146,7 @@ module _ (settings : Settings) (first : ℕ) (machine : Machine) (world : Ends) 
   pub done_received : (index : ℕ) (octets : List ℕ) (new : Ends)
       → delivery_refusal (length world.to_module) world.last_to_module index ≡ None
       → item_numbered world.to_module index ≡ Some octets
-      → modules.StandsFor settings new.module_end (Received octets ∷ machine.history)
+      → modules.IsModuleAfter settings new.module_end (Received octets ∷ machine.history)
       → new.poller_end ≡ world.poller_end
       → new.to_module ≡ world.to_module
       → new.to_cpu ≡ world.to_cpu ++ reply_octets (reply_to settings machine.history octets)
@@ -166,7 +166,7 @@ module _ (settings : Settings) (first : ℕ) (machine : Machine) (world : Ends) 
             ∙ ap (λ o. replied_after (length machine.to_cpu) (reply_to settings machine.history o)) same
             ∙ ap (received_outcome settings machine) (sym d.1);
         shown = subst (λ found. Shows settings first (received settings machine index found) new) (sym d.1) (record {
-          history = subst (λ o. modules.StandsFor settings new.module_end (Received o ∷ machine.history)) same stands;
+          history = subst (λ o. modules.IsModuleAfter settings new.module_end (Received o ∷ machine.history)) same stands;
           polling = poller ∙ s.polling;
           frames_to_module = to_module ∙ s.frames_to_module;
           frames_to_cpu =
@@ -190,7 +190,7 @@ module _ (settings : Settings) (first : ℕ) (machine : Machine) (world : Ends) 
       shown : (round : ℕ) (items : List Item) → new.poller_end ≡ record { number = number_of first round; items = items }
           → Shows settings first (record machine { last_to_cpu = index; round = round; items = items }) new
       shown round items polling = record {
-        history = subst (λ m. modules.StandsFor settings m machine.history) (sym module_end) s.history;
+        history = subst (λ m. modules.IsModuleAfter settings m machine.history) (sym module_end) s.history;
         polling = polling;
         frames_to_module = to_module ∙ s.frames_to_module;
         frames_to_cpu = to_cpu ∙ s.frames_to_cpu;

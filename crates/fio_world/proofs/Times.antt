@@ -12,7 +12,7 @@ use Rattle.fio_module.specs.Settings.{Settings}
 use Rattle.fio_module.specs.Life.{Life, Scanned, LineSynced, Commanded, counter_events, counter_of, scans_of, loads_of, filter_events}
 use Rattle.fio_module.specs.Log.{Transition, entry_of, log_of, transition_at, transitions_below}
 use Rattle.fio_module.specs.Blocks.{MadeBlock, blocks_of, newest_end, next_block, start_after, count_from}
-use Rattle.fio_cpu.specs.declared.items.Item.TheVariants as items
+use Rattle.fio_cpu.specs.declared.record.Item.TheVariants as items
 use Rattle.fio_cpu.specs.Record.{item_of}
 use Rattle.fio_world.specs.Claims.{Loss, From, sources_of, IsInTime, IsTimed}
 use Rattle.fio_world.proofs.MadeBlocks.{each-append, each-take, each-drop, each-map, each_block}

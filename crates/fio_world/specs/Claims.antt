@@ -8,8 +8,8 @@ use Rattle.fio_module.specs.Settings.{Settings}
 use Rattle.fio_module.specs.Life.{Life, life_of}
 use Rattle.fio_module.specs.Log.{Transition, entry_of, log_of}
 use Rattle.fio_module.specs.Blocks.{MadeBlock, blocks_of, newest_end, waiting_from, waiting_of}
-use Rattle.fio_cpu.specs.declared.items.Item.{Item}
-use Rattle.fio_cpu.specs.declared.items.Item.TheVariants as items
+use Rattle.fio_cpu.specs.declared.record.Item.{Item}
+use Rattle.fio_cpu.specs.declared.record.Item.TheVariants as items
 use Rattle.fio_world.specs.declared.event.Event.TheVariants.{ToCpu}
 use Rattle.fio_world.specs.Link.{Machine, refusal, after}
 use Rattle.fio_world.specs.Frames.{HasBlock, block_answers, repeats}

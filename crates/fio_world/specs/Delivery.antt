@@ -7,7 +7,7 @@ use Rattle.fio_module.specs.Life.{Life, life_of}
 use Rattle.fio_module.specs.Log.{entry_of, log_of}
 use Rattle.fio_module.specs.Blocks.{MadeBlock, waiting_of}
 use Rattle.fio_module.specs.Delivery.{NeverTooMany, HadTooMany, IsPolledOften, IsOutage}
-use Rattle.fio_cpu.specs.declared.items.Item.TheVariants as items
+use Rattle.fio_cpu.specs.declared.record.Item.TheVariants as items
 use Rattle.fio_cpu.specs.Record.{recorded}
 use Rattle.fio_world.specs.declared.event.Event.{Event}
 use Rattle.fio_world.specs.declared.event.Event.TheVariants.{Poll, ToModule, ToCpu}

@@ -7,8 +7,8 @@ use Rattle.std.specs.Prelude.{◌≡◌, ℕ, List, map, take}
 use Rattle.std.specs.List.{AllByRecursion}
 use Rattle.fio_module.specs.Settings.{Settings}
 use Rattle.fio_module.specs.Life.{life_of}
-use Rattle.fio_module.specs.Blocks.{end_of, blocks_of}
-use Rattle.fio_cpu.specs.declared.items.Item.{Item}
+use Rattle.fio_module.specs.Blocks.{end_of_blocks, blocks_of}
+use Rattle.fio_cpu.specs.declared.record.Item.{Item}
 use Rattle.fio_world.specs.declared.event.Event.{Event}
 use Rattle.fio_world.specs.declared.event.Event.TheVariants.{Restart}
 use Rattle.fio_world.specs.Link.{Machine, IsRun}
@@ -24,7 +24,7 @@ HaveNoRestart events = AllByRecursion IsNotRestart events
 -- the place in the log where the last block that the CPU has taken ends, 0 if it has taken none
 abbrev pub end_taken : Settings → Machine → ℕ
 end_taken settings machine =
-    end_of (take machine.round (blocks_of settings (life_of machine.history)))
+    end_of_blocks (take machine.round (blocks_of settings (life_of machine.history)))
 
 -- The record is the log from its start through the last block taken, and until the first gap mark a
 -- prefix of it.

@@ -8,8 +8,8 @@ use Rattle.fio_module.specs.Life.{Life, life_of, loads_of, filter_events}
 use Rattle.fio_module.specs.Log.{Transition, entry_of, log_of}
 use Rattle.fio_module.specs.Blocks.{waiting_of}
 use Rattle.fio_module.specs.KeepingUp.{IsKeptUp, IsYoung}
-use Rattle.fio_cpu.specs.declared.items.Item.{Item}
-use Rattle.fio_cpu.specs.declared.items.Item.TheVariants as items
+use Rattle.fio_cpu.specs.declared.record.Item.{Item}
+use Rattle.fio_cpu.specs.declared.record.Item.TheVariants as items
 use Rattle.fio_world.specs.declared.event.Event.{Event}
 use Rattle.fio_world.specs.declared.event.Event.TheVariants.{Scan, LineSync, Raise, Poll, ToModule, ToCpu}
 use Rattle.fio_world.specs.Link.{Machine, Leads}

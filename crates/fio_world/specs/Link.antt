@@ -11,7 +11,7 @@ use Rattle.fio_module.specs.Settings.{Settings}
 use Rattle.fio_module.specs.Life.{Received, History}
 use Rattle.fio_module.specs.Life as module_events
 use Rattle.fio_module.specs.Replies.{reply_to}
-use Rattle.fio_cpu.specs.declared.items.Item.{Item}
+use Rattle.fio_cpu.specs.declared.record.Item.{Item}
 use Rattle.fio_cpu.specs.Record.{recorded}
 use Rattle.fio_world.specs.declared.event.Event.{Event}
 use Rattle.fio_world.specs.declared.event.Event.TheVariants.{Scan, LineSync, Raise, Poll, Send, ToModule, ToCpu, Restart}

@@ -5,9 +5,9 @@ use Rattle.fio_message.specs.declared.fields.Entry.{Entry}
 use Rattle.fio_module.specs.Settings.{Settings}
 use Rattle.fio_module.specs.Life.{Life}
 use Rattle.fio_module.specs.Log.{entry_of, log_of}
-use Rattle.fio_module.specs.Blocks.{MadeBlock, end_of, blocks_of}
-use Rattle.fio_cpu.specs.declared.items.Item.{Item}
-use Rattle.fio_cpu.specs.declared.items.Item.TheVariants as items
+use Rattle.fio_module.specs.Blocks.{MadeBlock, end_of_blocks, blocks_of}
+use Rattle.fio_cpu.specs.declared.record.Item.{Item}
+use Rattle.fio_cpu.specs.declared.record.Item.TheVariants as items
 
 -- an item of the record without its wide time: a gap mark, or the entry that was got
 pub data Piece : Type 0 where
@@ -57,7 +57,7 @@ ArePieces settings life from (Gap ∷ pieces) to =
 abbrev pub TakenArePieces : Type 0
 TakenArePieces = (settings : Settings) (life : Life) (m : ℕ) →
     let blocks = blocks_of settings life in
-    m ≤ length blocks → ArePieces settings life 0 (taken m blocks) (end_of (take m blocks))
+    m ≤ length blocks → ArePieces settings life 0 (taken m blocks) (end_of_blocks (take m blocks))
 
 -- the entries before the first gap mark
 abbrev pub until_gap : List Piece → List Entry

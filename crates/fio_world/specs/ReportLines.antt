@@ -3,10 +3,10 @@ use Rattle.std.specs.Prelude.{ℕ, Bool, List, ◌++◌, length, codes, decimal,
 use Rattle.std.specs.List.{flat_map}
 use Rattle.fio_message.specs.Bits.{bit_of}
 use Rattle.fio_message.specs.Texts.{fault_text}
-use Rattle.fio_cpu.specs.declared.hearing.Heard.{Heard}
-use Rattle.fio_cpu.specs.declared.hearing.Heard.TheVariants.{Unreadable, Other, Stale, Block}
-use Rattle.fio_cpu.specs.declared.items.Item.{Item}
-use Rattle.fio_cpu.specs.declared.items.Item.TheVariants.{Entry, Gap}
+use Rattle.fio_cpu.specs.declared.poller.Heard.{Heard}
+use Rattle.fio_cpu.specs.declared.poller.Heard.TheVariants.{Unreadable, Other, Stale, Block}
+use Rattle.fio_cpu.specs.declared.record.Item.{Item}
+use Rattle.fio_cpu.specs.declared.record.Item.TheVariants.{Entry, Gap}
 use Rattle.fio_module.specs.Blocks.{waiting_of}
 use Rattle.fio_module.specs.Life.{life_of, counter_of}
 use Rattle.fio_module.specs.Settings.{Settings}

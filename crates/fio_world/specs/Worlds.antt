@@ -32,7 +32,7 @@ polling_of first machine = record { number = number_of first machine.round; item
 
 -- the world shows what the machine has, but for the rounds
 pub record Shows (settings : Settings) (first : ℕ) (machine : Machine) (world : Ends) : Type 0 where
-  pub history : modules.StandsFor settings world.module_end machine.history
+  pub history : modules.IsModuleAfter settings world.module_end machine.history
   pub polling : world.poller_end ≡ polling_of first machine
   pub frames_to_module : world.to_module ≡ map octets_of machine.to_module
   pub frames_to_cpu : world.to_cpu ≡ map octets_of machine.to_cpu

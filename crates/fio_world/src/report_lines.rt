@@ -5,7 +5,7 @@ ghost use Rattle.fio_world.specs.Link.{Machine};
 ghost use Rattle.fio_world.specs.ReportLines.{ending_lines, ending_text, heard_line, item_line, outcome_line, refusal_in, refused_line, sent_line};
 ghost use Rattle.fio_world.specs.Worlds.{Shows};
 ghost use Rattle.fio_world.specs.declared.outcome.Outcome.TheVariants as outcomes;
-ghost use Rattle.fio_cpu.specs.declared.hearing.Heard.TheVariants as heards;
+ghost use Rattle.fio_cpu.specs.declared.poller.Heard.TheVariants as heards;
 
 use crate::outcome::WorldError;
 use crate::push_line;

@@ -5,7 +5,7 @@ ghost use Rattle.fio_tool.specs.TranscriptFacts.{rule_broken_by, with_line};
 
 use super::rules::Rule;
 use super::said::Said;
-use super::status_bits::{MORE, is_set};
+use fio_message::BlockStatus;
 
 /// What the rules read of the lines above.
 #[derive(Clone, Copy, Debug, Default)]
@@ -42,7 +42,7 @@ impl Facts {
             } => self.keep_command(answer, names_absent),
             Said::Block { status, .. } => {
                 self.answered = true;
-                self.more = Some(is_set(status, MORE));
+                self.more = Some(BlockStatus::from_octet(status).more());
                 self.keep_answer();
             }
             Said::Answer { .. } => self.keep_answer(),

@@ -5,7 +5,7 @@ ghost use Rattle.fio_tool.specs.TranscriptFacts.{is_broken_by, number_due_by, ru
 
 use super::facts::Facts;
 use super::said::Said;
-use super::status_bits::{AGAIN, LOST, MORE, OUT_OF_SEQUENCE, is_set};
+use fio_message::{BLOCK_ENTRIES, BlockStatus};
 
 /// What a line of a transcript may break, in the order in which the rules are tried (own profile).
 #[derive(Clone, Copy, Debug, PartialEq, Eq, PartialOrd, Ord, Hash)]
@@ -104,7 +104,7 @@ impl Facts {
         ensures { result ≡ is_broken_by self.now said Rule.Same }
     {
         match said {
-            Said::Block { status, .. } => is_set(status, AGAIN) && self.advanced,
+            Said::Block { status, .. } => BlockStatus::from_octet(status).again() && self.advanced,
             _ => false,
         }
     }
@@ -114,7 +114,8 @@ impl Facts {
     {
         match said {
             Said::Block { status, .. } => {
-                is_set(status, OUT_OF_SEQUENCE) && (is_set(status, AGAIN) || self.more.is_some())
+                let status = BlockStatus::from_octet(status);
+                status.out_of_sequence() && (status.again() || self.more.is_some())
             }
             _ => false,
         }
@@ -155,8 +156,10 @@ fn breaks_limits(said: Said) -> bool
             names_absent,
             ..
         } => {
-            let more = is_set(status, MORE);
-            is_set(status, LOST) && !more || more && entries != 255 || names_absent
+            let status = BlockStatus::from_octet(status);
+            status.lost() && !status.more()
+                || status.more() && entries != BLOCK_ENTRIES
+                || names_absent
         }
         _ => false,
     }

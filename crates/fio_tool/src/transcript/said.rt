@@ -7,10 +7,9 @@ ghost use Rattle.fio_tool.specs.TranscriptFacts.{said_by, said_by_answer, said_b
 ghost use Rattle.fio_tool.specs.TranscriptRules.{accepts, is_absent, names_absent};
 
 use super::lines::Line;
-use super::status_bits::{REFUSED, is_set};
 use fio_message::{
     Answer, BlockView, Command, Entry, InputItem, InputNumber, decode_answer, decode_command,
-    read_block,
+    read_block, says_error,
 };
 
 /// What a line says. An input is absent if no module of this profile has it.
@@ -140,7 +139,7 @@ impl Said {
             },
             [179, status] => Said::Answer {
                 code: 179,
-                accepts: !is_set(*status, REFUSED),
+                accepts: !says_error(*status),
             },
             [180, _, _, _, _, _, _, _, _, _, _, _, _] => Said::Answer {
                 code: 180,
@@ -232,7 +231,7 @@ fn is_acceptance(answer: &Answer) -> bool
     ensures { result ≡ accepts answer.now }
 {
     match answer {
-        Answer::ConfigureInputs { status } => !is_set(*status, REFUSED),
+        Answer::ConfigureInputs { status } => !says_error(*status),
         _ => false,
     }
 }

@@ -1,21 +1,28 @@
-//! Blocks as items of the record.
+//! The record: its items, and what a block adds to it.
 ghost use Rattle.std.specs.Prelude.{◌≡◌, ◌≢◌, ◌+◌, ◌≤◌, [], ◌++◌, length, map, vec_len, OnOk, OnErr};
 ghost use Rattle.std.specs.Vec.{vec_capacity};
-ghost use Rattle.fio_message.specs.Status.{says_lost};
 ghost use Rattle.fio_cpu.specs.Record.{item_of, recorded};
 
-use crate::Item;
 use fio_input::widen;
-use fio_message::{BlockView, Entry, Memory};
+use fio_message::{BlockStatus, BlockView, Entry, InputNumber, Memory};
 
-/// F in the status of a block answer.
-const LOST: u8 = 4;
-
-/// Whether F is set: entries that waited directly before the block were pushed out.
-fn says_lost(status: u8) -> bool
-    ensures { result ≡ says_lost status }
-{
-    status & LOST == LOST
+/// An item of the record.
+#[derive(Clone, Copy, Debug, PartialEq, Eq, Hash)]
+pub enum Item {
+    /// A transition that a block carried.
+    Entry {
+        /// The input that changed.
+        input: InputNumber,
+        /// The filtered state after the transition.
+        level: bool,
+        /// The low 16 bits of the module's millisecond counter at the transition.
+        stamp: u16,
+        /// The time in milliseconds, in 32 bits: the one number at or before the answer's stamp,
+        /// less than 65,536 steps back modulo 2^32, with these low 16 bits (own profile).
+        wide: u32,
+    },
+    /// Some transitions are missing here: the module pushed out entries before the next block.
+    Gap,
 }
 
 /// An entry of an answer with this stamp, as an item of the record.
@@ -50,7 +57,7 @@ pub(crate) fn record_block(items: &mut Vec<Item>, block: &BlockView<'_>) -> Resu
     ensures unchanged { OnErr result (items.new.items ≡ items.old.items) }
     ensures wanted { OnErr result (recorded block.now ≢ []) }
 {
-    let lost = says_lost(block.status());
+    let lost = BlockStatus::from_octet(block.status()).lost();
     items.reserve(usize::from(lost) + block.len())?;
     if lost {
         items.push(Item::Gap).unwrap();

@@ -1,7 +1,7 @@
 use Rattle.std.proofs.Common.{◌≡◌, ◌+◌, ◌≤◌, ◌++◌, length, map, vec_len}
 use Rattle.std.specs.Vec.{vec_capacity}
 use Rattle.fio_cpu.specs.Record.{item_of}
-use Rattle.fio_cpu.proofs.recording.record_entries.Given as goal
+use Rattle.fio_cpu.proofs.record.record_entries.Given as goal
 
 -- the iterator is the list of the entries that are left: there is room for them, and with them the
 -- record is as it will be

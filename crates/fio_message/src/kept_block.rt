@@ -1,0 +1,156 @@
+//! The octets of a block answer that are kept, so that they can be sent again.
+ghost use Rattle.std.specs.Prelude.{◌≡◌, ◌≤◌, ◌+◌, ◌++◌, [], length, take, Some, None};
+ghost use Rattle.fio_message.specs.Blocks.{Block, SpellsBlock};
+ghost use Rattle.fio_message.specs.KeptBlock.{kept_octets, block_octets, sent_again, marked_octets};
+
+use crate::fields::EntryOctets;
+use crate::frames::Frame;
+use crate::limits::{BLOCK_ENTRIES, FRAME_OCTETS};
+use crate::status::BlockStatus;
+
+/// The type of a block answer.
+const BLOCK: u8 = 182;
+
+/// The octets of one block answer, or none. It takes no memory of its own, so C may hold one.
+#[derive(Debug, Drop)]
+#[repr(C)]
+pub struct KeptBlock {
+    octets: [u8; FRAME_OCTETS],
+    length: u16,
+}
+
+impl KeptBlock {
+    /// No block.
+    pub fn new() -> KeptBlock
+        ensures { kept_octets result ≡ [] }
+    {
+        KeptBlock {
+            octets: [0; FRAME_OCTETS],
+            length: 0,
+        }
+    }
+
+    /// Its octets, none where there is no block.
+    pub fn as_slice(&self) -> &[u8]
+        ensures { result.now ≡ kept_octets self.now }
+    {
+        let length = usize::from(self.length).min(FRAME_OCTETS);
+        &self.octets[..length]
+    }
+
+    /// Keeps a block in place of what is there. Its entries are those of the first part and then of
+    /// the second, no more than `most`.
+    pub fn write(
+        &mut self,
+        number: u8,
+        first: &[EntryOctets],
+        second: &[EntryOctets],
+        most: u8,
+        status: BlockStatus,
+        stamp: u32,
+    )
+        ensures { kept_octets self.new
+            ≡ block_octets number (take most (first.now ++ second.now)) status stamp }
+    {
+        let (first, second) = front(first, second, most);
+        self.write_parts(number, first, second, status, stamp);
+    }
+
+    fn write_parts(
+        &mut self,
+        number: u8,
+        first: &[EntryOctets],
+        second: &[EntryOctets],
+        status: BlockStatus,
+        stamp: u32,
+    )
+        requires { length first.now + length second.now ≤ BLOCK_ENTRIES }
+        ensures { kept_octets self.new
+            ≡ block_octets number (first.now ++ second.now) status stamp }
+    {
+        let count = (first.len() + second.len()) as u8;
+        let [a, b, c, d] = stamp.to_be_bytes();
+        self.length = 0;
+        self.append(&[BLOCK, number, count]);
+        self.append(first.as_flattened());
+        self.append(second.as_flattened());
+        self.append(&[status.octet(), a, b, c, d]);
+    }
+
+    /// Appends octets, for which there is room.
+    fn append(&mut self, octets: &[u8])
+        requires { self.old.length + length octets.now ≤ FRAME_OCTETS }
+        ensures length { self.new.length ≡ self.old.length + length octets.now }
+        ensures octets { kept_octets self.new ≡ kept_octets self.old ++ octets.now }
+    {
+        let from = usize::from(self.length);
+        let to = from + octets.len();
+        self.octets[from..to].copy_from_slice(octets);
+        self.length = to as u16;
+    }
+
+    /// The number of the block, `None` where there is no block.
+    pub fn number(&self) -> Option<u8>
+        ensures block { (block : Block)
+            → SpellsBlock block (kept_octets self.now) → result ≡ Some block.number }
+        ensures none { kept_octets self.now ≡ [] → result ≡ None }
+    {
+        self.as_slice().get(1).copied()
+    }
+
+    /// Marks the block as sent again: E is set, G is clear, and all else is as it was. Where there
+    /// is no block nothing changes.
+    pub fn mark_again(&mut self)
+        ensures block { (block : Block)
+            → SpellsBlock block (kept_octets self.old)
+            → SpellsBlock (sent_again block) (kept_octets self.new) }
+        ensures none { kept_octets self.old ≡ [] → kept_octets self.new ≡ [] }
+    {
+        let length = usize::from(self.length).min(FRAME_OCTETS);
+        let (kept, _) = self.octets.split_at_mut(length);
+        mark_again(kept);
+    }
+
+    /// Writes the octets in place of what the frame holds.
+    pub fn copy_to(&self, frame: &mut Frame)
+        ensures { frame.new.items ≡ kept_octets self.now }
+    {
+        frame.clear();
+        let _ = frame.try_extend_from_slice(self.as_slice());
+    }
+}
+
+impl Default for KeptBlock {
+    ghost is_default = { λ kept. kept_octets kept ≡ [] };
+
+    fn default() -> Self {
+        Self::new()
+    }
+}
+
+/// The first entries, no more than `most`, in two parts.
+fn front<'a>(
+    first: &'a [EntryOctets],
+    second: &'a [EntryOctets],
+    most: u8,
+) -> (&'a [EntryOctets], &'a [EntryOctets])
+    ensures value { result.0.now ++ result.1.now ≡ take most (first.now ++ second.now) }
+    ensures few { length result.0.now + length result.1.now ≤ most }
+{
+    let most = usize::from(most);
+    let from_first = first.len().min(most);
+    let from_second = second.len().min(most - from_first);
+    (&first[..from_first], &second[..from_second])
+}
+
+/// Marks the octets of a block as sent again.
+fn mark_again(octets: &mut [u8])
+    ensures { octets.new ≡ marked_octets octets.old }
+{
+    let count = octets.get(2).copied().unwrap_or(0);
+    let place = 3 + 3 * usize::from(count);
+    if place < octets.len() {
+        let status = BlockStatus::from_octet(octets[place]);
+        octets[place] = status.sent_again().octet();
+    }
+}
