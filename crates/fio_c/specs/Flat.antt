@@ -5,6 +5,7 @@ use Rattle.fio_message.specs.Bits.{bit_of}
 use Rattle.fio_message.specs.Blocks.{Block as BlockOf}
 use Rattle.fio_message.specs.Commands.{command_code}
 use Rattle.fio_message.specs.Answers.{answer_code}
+use Rattle.fio_message.specs.declared.limits.TheConstants.{BLOCK_ENTRIES, CONFIGURATION_ITEMS, INPUTS}
 use Rattle.fio_message.specs.declared.fields.Entry.{Entry as EntryOf}
 use Rattle.fio_message.specs.declared.fields.InputItem.{InputItem}
 use Rattle.fio_message.specs.declared.commands.Command.{Command as CommandOf}
@@ -103,11 +104,11 @@ names_input item = nat_lt item.input 128
 
 -- the items of a configuration: at most 255, each of them of an input below 128
 abbrev pub are_items : List ConfigurationItem → Bool
-are_items items = nat_le (length items) 255 && list_all names_input items
+are_items items = nat_le (length items) CONFIGURATION_ITEMS && list_all names_input items
 
 -- the place of the first item that names an input above 63, which the module does not have
 abbrev pub first_absent : List ConfigurationItem → Option ℕ
-first_absent items = position (λ item. nat_le 64 item.input) items
+first_absent items = position (λ item. nat_le INPUTS item.input) items
 
 -- which command of this type has a body only
 abbrev pub kind_of_command : ℕ → Option OtherCommand
@@ -171,7 +172,7 @@ entry_names_input entry = nat_lt entry.input 128
 
 -- the entries of a block: at most 255, each of them of an input below 128
 abbrev pub are_entries : List Entry → Bool
-are_entries entries = nat_le (length entries) 255 && list_all entry_names_input entries
+are_entries entries = nat_le (length entries) BLOCK_ENTRIES && list_all entry_names_input entries
 
 -- which answer of this type has a body only
 abbrev pub kind_of_answer : ℕ → Option OtherAnswer

@@ -9,7 +9,7 @@ ghost use Rattle.fio_c.specs.Written.{Writes, WritesNothing};
 use crate::blocks::Entry;
 use crate::written::{LONGEST_BODY, write_front, write_with_body};
 use arrayvec::ArrayVec;
-use fio_message::{Answer, InputNumber, OtherAnswer, encode_answer};
+use fio_message::{Answer, BLOCK_ENTRIES, InputNumber, OtherAnswer, encode_answer};
 
 /// Writes an answer, and returns how many octets it has: 0 where there is no room. Inlined, so that no
 /// answer and no frame is made where the type is known.
@@ -116,7 +116,7 @@ fn read_entries(entries: &[Entry]) -> Option<ArrayVec<fio_message::Entry, 255>>
         ≡ (if are_entries entries.now
         then Some (record { items = read_entries entries.now }) else None) }
 {
-    if entries.len() > 255 {
+    if entries.len() > BLOCK_ENTRIES {
         return None;
     }
     let mut read = ArrayVec::new();

@@ -9,7 +9,7 @@ ghost use Rattle.fio_c.specs.Written.{Writes, WritesNothing};
 use crate::commands::ConfigurationItem;
 use crate::written::{LONGEST_BODY, write_front, write_with_body};
 use arrayvec::ArrayVec;
-use fio_message::{Command, InputItem, InputNumber, OtherCommand, encode_command};
+use fio_message::{CONFIGURATION_ITEMS, Command, InputItem, InputNumber, OtherCommand, encode_command};
 
 /// Writes a command, and returns how many octets it has: 0 where there is no room. Inlined, so that no
 /// command and no frame is made where the type is known.
@@ -62,7 +62,7 @@ pub(crate) fn read_items(items: &[ConfigurationItem]) -> Option<ArrayVec<InputIt
     ensures { result
         ≡ (if are_items items.now then Some (record { items = read_items items.now }) else None) }
 {
-    if items.len() > 255 {
+    if items.len() > CONFIGURATION_ITEMS {
         return None;
     }
     let mut read = ArrayVec::new();

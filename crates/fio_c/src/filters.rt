@@ -1,5 +1,6 @@
 //! The filters of the 64 inputs in memory of the caller.
 ghost use Rattle.std.specs.Prelude.{◌≡◌, ◌<◌, ◌≤◌, ℕ, List, [], ◌∷◌, Some, None, length};
+ghost use Rattle.fio_message.specs.declared.limits.TheConstants.{CONFIGURATION_ITEMS, INPUTS};
 ghost use Rattle.fio_message.specs.Bits.{is_set};
 ghost use Rattle.fio_input.specs.FilterHistory.{FilterEvent, Configure, Scan, is_reported, input_state, raw_levels};
 ghost use Rattle.fio_input.specs.Filters.{AreFiltersAfter};
@@ -8,6 +9,7 @@ ghost use Rattle.fio_c.specs.Flat.{read_items, first_absent};
 use crate::command_frames::read_items;
 use crate::commands::ConfigurationItem;
 use fio_input::Filters;
+use fio_message::{CONFIGURATION_ITEMS, INPUTS};
 
 /// Filters before any scan: each input is ignored, both its filters are 5, and its raw level and
 /// filtered state are 1 (own profile).
@@ -25,7 +27,7 @@ pub extern "C" fn fio2070_filters_scan(filters: &mut Filters, raw: u64) -> u64
     ensures carried { (history : List FilterEvent) → AreFiltersAfter filters.old history
         → AreFiltersAfter filters.new (Scan raw ∷ history) }
     ensures reported { (history : List FilterEvent) → AreFiltersAfter filters.old history
-        → (input : ℕ) → input < 64 → is_set result input ≡ is_reported input raw history }
+        → (input : ℕ) → input < INPUTS → is_set result input ≡ is_reported input raw history }
 {
     filters.scan(raw)
 }
@@ -34,7 +36,7 @@ pub extern "C" fn fio2070_filters_scan(filters: &mut Filters, raw: u64) -> u64
 #[unsafe(no_mangle)]
 pub extern "C" fn fio2070_filters_filtered(filters: &Filters) -> u64
     ensures { (history : List FilterEvent) → AreFiltersAfter filters.now history
-        → (input : ℕ) → input < 64 → is_set result input ≡ input_state input history }
+        → (input : ℕ) → input < INPUTS → is_set result input ≡ input_state input history }
 {
     filters.filtered()
 }
@@ -66,16 +68,16 @@ pub extern "C" fn fio2070_filters_configure(
     filters: &mut Filters,
     items: &[ConfigurationItem],
 ) -> Configured
-    ensures applied { length items.now ≤ 255 → first_absent items.now ≡ None
+    ensures applied { length items.now ≤ CONFIGURATION_ITEMS → first_absent items.now ≡ None
         → (result ≡ record { kind = 0; place = 0 })
         × ((history : List FilterEvent) → AreFiltersAfter filters.old history
         → AreFiltersAfter filters.new (Configure (read_items items.now) ∷ history)) }
-    ensures absent { (place : ℕ) → length items.now ≤ 255 → first_absent items.now ≡ Some place
+    ensures absent { (place : ℕ) → length items.now ≤ CONFIGURATION_ITEMS → first_absent items.now ≡ Some place
         → (result ≡ record { kind = 1; place = place }) × (filters.new ≡ filters.old) }
-    ensures many { 255 < length items.now
+    ensures many { CONFIGURATION_ITEMS < length items.now
         → (result ≡ record { kind = 2; place = 0 }) × (filters.new ≡ filters.old) }
 {
-    if items.len() > 255 {
+    if items.len() > CONFIGURATION_ITEMS {
         return Configured { kind: 2, place: 0 };
     }
     if let Some(place) = first_absent(items) {
@@ -94,5 +96,5 @@ pub extern "C" fn fio2070_filters_configure(
 fn first_absent(items: &[ConfigurationItem]) -> Option<usize>
     ensures { result ≡ first_absent items.now }
 {
-    items.iter().position(|item| item.input >= 64)
+    items.iter().position(|item| usize::from(item.input) >= INPUTS)
 }

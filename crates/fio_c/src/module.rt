@@ -1,5 +1,6 @@
 //! The module, in memory of the caller.
 ghost use Rattle.std.specs.Prelude.{◌≡◌, ◌≢◌, ◌<◌, ◌-◌, ℕ, List, ◌∷◌, [], length, min, unwrap_or};
+ghost use Rattle.fio_message.specs.declared.limits.TheConstants.{INPUTS};
 ghost use Rattle.fio_message.specs.Bits.{is_set};
 ghost use Rattle.fio_input.specs.FilterHistory.{input_state};
 ghost use Rattle.fio_module.specs.Settings.{Settings};
@@ -12,7 +13,7 @@ ghost use Rattle.fio_c.specs.Module.{StandsFor, settings_of};
 ghost use Rattle.fio_c.specs.Written.{WritesAnswer};
 
 use crate::written::write_front;
-use fio_message::Frame;
+use fio_message::{FRAME_OCTETS, Frame};
 use fio_module::{ArrayRing, EntryRing, Limits, ModuleState, Outputs};
 
 /// How many entries may wait.
@@ -97,7 +98,7 @@ pub extern "C" fn fio2070_module_raise(device: &mut Module, mask: u8)
 pub extern "C" fn fio2070_module_receive(
     device: &mut Module,
     octets: &[u8],
-    out: &mut [u8; 773],
+    out: &mut [u8; FRAME_OCTETS],
 ) -> usize
     ensures stands { (settings : Settings) (history : History)
         → StandsFor settings device.old history
@@ -150,7 +151,7 @@ pub extern "C" fn fio2070_module_counter(device: &Module) -> u32
 pub extern "C" fn fio2070_module_filtered(device: &Module) -> u64
     ensures { (settings : Settings) (history : History)
         → StandsFor settings device.now history
-        → (input : ℕ) → input < 64
+        → (input : ℕ) → input < INPUTS
         → is_set result input ≡ input_state input (filter_events (life_of history)) }
 {
     device.state.filtered()

@@ -5,6 +5,7 @@ use Rattle.std.specs.Option.{option_or}
 use Rattle.std.specs.List.{list_all}
 use Rattle.fio_message.specs.declared.fields.InputItem.{InputItem}
 use Rattle.fio_message.specs.Bits.{is_set}
+use Rattle.fio_message.specs.declared.limits.TheConstants.{INPUTS}
 use Rattle.fio_input.specs.FilterRule.{Setting, filtered_state}
 
 -- what happens to the filters: a configuration that is received, applied or not, and a scan, whose
@@ -15,7 +16,7 @@ pub data FilterEvent : Type 0 where
 
 -- each item names an input that the module has
 abbrev pub all_present : List InputItem → Bool
-all_present items = list_all (λ item. nat_lt item.input 64) items
+all_present items = list_all (λ item. nat_lt item.input INPUTS) items
 
 -- the items that a configuration applies: all of them, or none if some names an input above 63
 abbrev pub applied_items : List InputItem → List InputItem
@@ -70,7 +71,7 @@ input_state input history =
 
 -- the raw levels of the latest scan, all ones before any
 abbrev pub raw_levels : List FilterEvent → ℕ
-raw_levels [] = 2 ^ 64 - 1
+raw_levels [] = 2 ^ INPUTS - 1
 raw_levels (Configure items ∷ history) = raw_levels history
 raw_levels (Scan raw ∷ history) = raw
 

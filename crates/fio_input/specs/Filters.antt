@@ -1,6 +1,7 @@
 -- The filters of all inputs after a history.
 use Rattle.std.specs.Prelude.{ℕ, ◌≡◌, ◌<◌, ◌≤◌, ◌⊎◌, min, Bool, slice_index, List}
 use Rattle.fio_message.specs.Bits.{is_set}
+use Rattle.fio_message.specs.declared.limits.TheConstants.{INPUTS}
 use Rattle.fio_input.specs.declared.filters.Filters.{Filters}
 use Rattle.fio_input.specs.FilterRule.{Setting}
 use Rattle.fio_input.specs.Runs.{run_length}
@@ -22,5 +23,5 @@ pub record KeepsInput (filters : Filters) (input : ℕ)
 -- the filters have been through this history
 pub record AreFiltersAfter (filters : Filters) (history : List FilterEvent) : Type 0 where
   pub raw : filters.raw ≡ raw_levels history
-  pub inputs : (input : ℕ) → input < 64
+  pub inputs : (input : ℕ) → input < INPUTS
       → KeepsInput filters input (input_setting input history) (input_samples input history) (input_state input history)

@@ -1,10 +1,11 @@
 //! The lengths of the inputs' latest runs of equal samples, stepped 16 inputs at a time.
 ghost use Rattle.std.specs.Prelude.{◌≡◌, ◌<◌, ◌≤◌, ℕ, ◌+◌, ◌==◌, min, length, slice_index, if◌then◌else◌, nat_le};
 ghost use Rattle.fio_message.specs.Bits.{is_set, bit_of};
+ghost use Rattle.fio_message.specs.declared.limits.TheConstants.{INPUTS};
 ghost use Rattle.fio_input.specs.FilterRule.{in_force};
 ghost use Rattle.fio_input.specs.Runs.{next_length, meets_filter};
 
-use crate::filters::INPUTS;
+use fio_message::INPUTS;
 use std::simd::prelude::*;
 
 /// How many inputs are stepped at a time.
@@ -20,10 +21,10 @@ pub(crate) fn step_runs(
     raw: u64,
 ) -> u64
     // A run goes on where the sample has its level, and its length stays at 255: it never wraps.
-    ensures lengths { (input : ℕ) → input < 64
+    ensures lengths { (input : ℕ) → input < INPUTS
         → slice_index run_lengths.new input
         ≡ next_length (slice_index run_lengths.old input) (is_set levels input) (is_set raw input) }
-    ensures met { (input : ℕ) → input < 64
+    ensures met { (input : ℕ) → input < INPUTS
         → is_set result input
         ≡ meets_filter (slice_index leading.now input) (slice_index trailing.now input)
         (is_set raw input) (slice_index run_lengths.new input) }
@@ -77,7 +78,7 @@ fn runs_met(filters: u8x16, lengths: u8x16) -> u64
 
 /// The levels of the 16 inputs from the first one on.
 fn levels_from(levels: u64, first: usize) -> u64
-    requires { first < 64 }
+    requires { first < INPUTS }
     ensures range { result < 65536 }
     ensures bits { (lane : ℕ) → lane < 16 → is_set result lane ≡ is_set levels (first + lane) }
 {

@@ -5,12 +5,13 @@
 -- Here each rule is stated by places in the whole list, and these statements decide. They are stated
 -- again in `TranscriptFacts`, by what is kept while a transcript is checked; by the law
 -- `transcript_laws::facts_decide_the_rules` both agree.
-use Rattle.std.specs.Prelude.{◌≡◌, ℕ, suc, ◌+◌, ◌%◌, ◌<◌, Bool, false, List, [], ◌∷◌, Option, Some, None, length, find, Result, Ok, Err, slice_get, option_map, option_and_then, unwrap_or, ◌==◌, ◌&&◌, ◌||◌, nat_lt, not, is_some, if◌then◌else◌}
+use Rattle.std.specs.Prelude.{◌≡◌, ℕ, suc, ◌+◌, ◌%◌, ◌<◌, Bool, false, List, [], ◌∷◌, Option, Some, None, length, find, Result, Ok, Err, slice_get, option_map, option_and_then, unwrap_or, ◌==◌, ◌&&◌, ◌||◌, nat_le, not, is_some, if◌then◌else◌}
 use Rattle.std.specs.List.{list_any}
 use Rattle.fio_message.specs.Answers.{answer_code}
 use Rattle.fio_message.specs.Blocks.{Block}
 use Rattle.fio_message.specs.Commands.{command_code}
 use Rattle.fio_message.specs.Status.{says_more, says_lost, says_again, says_out_of_sequence, says_error}
+use Rattle.fio_message.specs.declared.limits.TheConstants.{INPUTS}
 use Rattle.fio_message.specs.declared.answers.Answer.{Answer}
 use Rattle.fio_message.specs.declared.answers.Answer.TheVariants as answers
 use Rattle.fio_message.specs.declared.commands.Command.{Command}
@@ -65,7 +66,7 @@ breaks_sequence lines place = is_some_and (block_heard lines place) (λ block.
 
 -- an input above 63, which no module of this profile has
 abbrev pub is_absent : ℕ → Bool
-is_absent input = nat_lt 63 input
+is_absent input = nat_le INPUTS input
 
 -- F without C, or C with other than 255 entries, or an input above 63
 abbrev pub is_beyond_limits : Block → Bool

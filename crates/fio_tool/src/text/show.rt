@@ -15,7 +15,7 @@ mod short;
 use super::{is_too_long, report_too_long};
 use answers::{push_answer, push_block_view};
 use commands::push_command;
-use fio_message::{DecodeError, Memory, decode_answer, decode_command, read_block};
+use fio_message::{DecodeError, FRAME_OCTETS, Memory, decode_answer, decode_command, read_block};
 use fio_world::Report;
 use fio_world::text::{numbered_lines, read_octets_to};
 use short::{push_short, short_message};
@@ -43,7 +43,7 @@ pub fn show_text(alloc: Global, input: &[u8]) -> Result<Report, Memory>
         return report_too_long(alloc);
     }
     let mut text = Vec::new(alloc);
-    let mut room = [0; 773];
+    let mut room = [0; FRAME_OCTETS];
     let mut good = true;
     'lines: for (number, line) in numbered_lines(input, 1) {
         if text.capacity() == 0 {
@@ -59,7 +59,7 @@ pub fn show_text(alloc: Global, input: &[u8]) -> Result<Report, Memory>
 /// returns whether the line has no fault.
 fn push_line(
     text: &mut Vec<u8>,
-    room: &mut [u8; 773],
+    room: &mut [u8; FRAME_OCTETS],
     number: usize,
     line: &[u8],
 ) -> Result<bool, Memory>

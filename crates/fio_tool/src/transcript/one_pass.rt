@@ -9,6 +9,7 @@ use super::facts::Facts;
 use super::lines::{TraceError, frame_word};
 use super::said::Said;
 use super::verdict::Verdict;
+use fio_message::FRAME_OCTETS;
 use fio_world::text::{numbered_lines, read_octets_to};
 
 /// A line of a text that is no frame.
@@ -27,7 +28,7 @@ pub(crate) fn check_lines(text: &[u8]) -> Result<Verdict, BadLine>
     ensures err { IfErr result (λ fault.
         verdict_in text.now ≡ Err (TraceError.BadLine fault.line)) }
 {
-    let mut room = [0; 773];
+    let mut room = [0; FRAME_OCTETS];
     let mut facts = Facts::default();
     let mut breach = None;
     let mut frames = 0;
@@ -43,7 +44,7 @@ pub(crate) fn check_lines(text: &[u8]) -> Result<Verdict, BadLine>
 
 /// What the frame of a line says, whose octets are read into room for the longest; `None` where the
 /// line is no frame.
-fn read_frame(line: &[u8], room: &mut [u8; 773]) -> Option<Said>
+fn read_frame(line: &[u8], room: &mut [u8; FRAME_OCTETS]) -> Option<Said>
     ensures { result ≡ option_map said_by_frame (frame_in line.now) }
 {
     let (from_cpu, word) = frame_word(line)?;
@@ -52,7 +53,7 @@ fn read_frame(line: &[u8], room: &mut [u8; 773]) -> Option<Said>
 
 /// The same of the word that has the octets.
 #[tactic(auto, using(crate::proofs::LongFrames::short_said))]
-fn read_said(from_cpu: bool, word: &[u8], room: &mut [u8; 773]) -> Option<Said>
+fn read_said(from_cpu: bool, word: &[u8], room: &mut [u8; FRAME_OCTETS]) -> Option<Said>
     ensures { result
         ≡ option_map (λ octets. said_by_frame (from_cpu, octets)) (octets_in word.now) }
 {

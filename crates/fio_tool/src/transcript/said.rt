@@ -223,7 +223,7 @@ fn names_absent_item(items: &[InputItem]) -> bool
 fn is_absent(input: InputNumber) -> bool
     ensures { result ≡ is_absent input }
 {
-    input.get() > 63
+    usize::from(input.get()) >= INPUTS
 }
 
 /// Whether an answer says that a configuration was taken.
