@@ -2,7 +2,7 @@
 //! standard streams.
 #![tactic(auto)]
 
-use fio_tool::run_program;
+use fio_tool::{ToolFault, run_program};
 use std::io::ErrorKind;
 use std::process::ExitCode;
 use std::rt::Env;
@@ -18,7 +18,8 @@ fn main(rt: HostRuntime) -> ExitCode {
     match run(&rt) {
         Ok(status) => ExitCode::from(status),
         Err(error) if error.kind() == ErrorKind::OutOfMemory => {
-            let _ = rt.println("fio2070: out of memory");
+            let fault = ToolFault::Memory;
+            let _ = println!(rt; "fio2070: {fault}");
             ExitCode::from(FAILED)
         }
         Err(_) => ExitCode::from(MISUSED),

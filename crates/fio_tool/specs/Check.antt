@@ -1,6 +1,8 @@
 -- What `check` writes of a text.
-use Rattle.std.specs.Prelude.{ℕ, Bool, true, false, List, [], ◌++◌, ◌&&◌, codes, decimal, not, if◌then◌else◌, Result, Ok, Err}
-use Rattle.fio_tool.specs.InputFaults.{is_too_long, too_long_text, line_fault_text}
+use Rattle.std.specs.Prelude.{ℕ, Bool, true, false, List, ◌++◌, ◌&&◌, codes, decimal, not, if◌then◌else◌, Result, Ok, Err}
+use Rattle.fio_message.specs.Texts.{memory_text}
+use Rattle.fio_world.specs.Faults.{bad_line_text}
+use Rattle.fio_tool.specs.InputFaults.{is_too_long, too_long_text}
 use Rattle.fio_tool.specs.TranscriptRules.{verdict_in}
 use Rattle.fio_tool.specs.declared.transcript.lines.TraceError.{TraceError}
 use Rattle.fio_tool.specs.declared.transcript.lines.TraceError.TheVariants.{BadLine, Memory}
@@ -29,15 +31,15 @@ abbrev pub is_good : Verdict → Bool
 is_good (Good frames) = true
 is_good (Broken number rule) = false
 
--- the line for the first line that is no frame; no transcript has the fault `Memory`
-abbrev pub transcript_fault_text : TraceError → List ℕ
-transcript_fault_text (BadLine line) = line_fault_text line (codes "bad line")
-transcript_fault_text Memory = []
+-- why a text is no transcript
+abbrev pub trace_error_text : TraceError → List ℕ
+trace_error_text (BadLine line) = bad_line_text line
+trace_error_text Memory = memory_text
 
 -- the line for the verdict on a transcript, or for its first faulty line
 abbrev pub transcript_text : Result Verdict TraceError → List ℕ
 transcript_text (Ok verdict) = verdict_text verdict
-transcript_text (Err fault) = transcript_fault_text fault
+transcript_text (Err fault) = trace_error_text fault ++ codes "\n"
 
 abbrev pub is_transcript_good : Result Verdict TraceError → Bool
 is_transcript_good (Ok verdict) = is_good verdict

@@ -1,5 +1,6 @@
 -- What each tool writes of an input with a fault.
-use Rattle.std.specs.Prelude.{ℕ, Bool, List, ◌++◌, length, codes, decimal, nat_lt}
+use Rattle.std.specs.Prelude.{ℕ, Bool, List, ◌++◌, length, codes, nat_lt}
+use Rattle.fio_world.specs.Faults.{at_line}
 use Rattle.fio_tool.specs.declared.text.TheConstants.{MAX_INPUT}
 
 -- more octets than an input may have
@@ -12,5 +13,4 @@ too_long_text = codes "input too long\n"
 
 -- the line that reports the fault of the line with this number, by its words
 abbrev pub line_fault_text : ℕ → List ℕ → List ℕ
-line_fault_text number fault =
-    codes "line " ++ (decimal number ++ (codes ": " ++ (fault ++ codes "\n")))
+line_fault_text number fault = at_line number (fault ++ codes "\n")

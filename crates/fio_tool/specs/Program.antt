@@ -1,10 +1,11 @@
 -- What the program writes of an input, and its exit status: for each tool the text, and whether it
 -- reports a fault.
-use Rattle.std.specs.Prelude.{◌≡◌, ◌⊎◌, ℕ, Bool, true, false, List, Option, codes, Result, Ok, Err}
+use Rattle.std.specs.Prelude.{◌≡◌, ◌⊎◌, ℕ, Bool, true, false, List, Option, ◌++◌, codes, Result, Ok, Err}
 use Rattle.std.specs.Io.KnownBytes.{Appends}
 use Rattle.clap.specs.Kinds.{Kinds, IsAmong}
 use Rattle.clap.specs.declared.error.kind.ErrorKind.{ErrorKind}
 use Rattle.clap.specs.declared.error.kind.ErrorKind.TheVariants.{DisplayHelp, DisplayVersion, OutOfMemory}
+use Rattle.fio_message.specs.Texts.{memory_text}
 use Rattle.fio_tool.specs.Show.{show_text, is_show_good}
 use Rattle.fio_tool.specs.Simulate.{simulate_text, is_simulate_good}
 use Rattle.fio_tool.specs.Check.{check_text, is_check_good}
@@ -53,11 +54,15 @@ pub record HasReported
   pub taken : TakesInput left left' input
   pub written : Appends held held' (program_text tool input)
 
--- the line that reports a tool's fault
+-- why a tool ends without its text
+abbrev pub tool_fault_text : ToolFault → List ℕ
+tool_fault_text Read = codes "read fault"
+tool_fault_text Write = codes "write fault"
+tool_fault_text Memory = memory_text
+
+-- the line that reports it
 abbrev pub fault_line : ToolFault → List ℕ
-fault_line Read = codes "fio2070: read fault\n"
-fault_line Write = codes "fio2070: write fault\n"
-fault_line Memory = codes "fio2070: out of memory\n"
+fault_line fault = codes "fio2070: " ++ (tool_fault_text fault ++ codes "\n")
 
 -- ---- command lines that name no tool
 

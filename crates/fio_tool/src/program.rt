@@ -1,10 +1,10 @@
 //! The program, but for what it is given by `main`: how a tool ends, the exit statuses, and the lines
 //! of the program itself.
-ghost use Rattle.std.specs.Prelude.{◌≡◌, ◌≢◌, ◌⊎◌, ◌≤◌, ℕ, List, [], None, map};
+ghost use Rattle.std.specs.Prelude.{◌≡◌, ◌≢◌, ◌⊎◌, ◌≤◌, ℕ, List, [], None, Some, length, map};
 ghost use Rattle.clap.specs.Faults.{fault_of};
 ghost use Rattle.clap.specs.Values.{kind_of};
 ghost use Rattle.fio_tool.specs.CommandLine.{NamesTool, chosen_name, command_line};
-ghost use Rattle.fio_tool.specs.Program.{HasReported, IsRefusalStatus, fault_line, no_subcommand_line, program_status, refusal_status, status_of};
+ghost use Rattle.fio_tool.specs.Program.{HasReported, IsRefusalStatus, fault_line, no_subcommand_line, program_status, refusal_status, status_of, tool_fault_text};
 ghost use Rattle.fio_tool.specs.Streams.{TakesAtMost};
 ghost use Rattle.fio_tool.specs.declared.streams.TheConstants.{MOST_READ};
 ghost use Rattle.fio_tool.specs.declared.tools.Tool.{Tool};
@@ -12,9 +12,12 @@ ghost use Rattle.fio_tool.specs.declared.tools.Tool.{Tool};
 use crate::command_line::choose;
 use crate::streams::write_text;
 use crate::tools::{Tool, run_tool};
+use arrayvec::ArrayString;
 use clap::error::ErrorKind;
 use fio_message::Memory;
 use std::alloc::{AllocError, Global};
+use std::fmt;
+use std::fmt::{Display, Formatter};
 use std::io::{Read, Write};
 use thiserror::Error;
 
@@ -31,15 +34,34 @@ pub enum Ending {
 #[derive(Clone, Copy, Debug, PartialEq, Eq, Hash, Error)]
 pub enum ToolFault {
     /// A read failed; `Interrupted` counts and is not retried. Nothing was written.
-    #[error("read fault")]
     Read,
     /// A write or the flush failed, or a write took no octet; `Interrupted` counts and is not retried.
     /// Some of the text may have been written.
-    #[error("write fault")]
     Write,
     /// An allocation failed, for the input or its text. Nothing was written.
-    #[error("out of memory")]
     Memory,
+}
+
+impl ToolFault {
+    /// `read fault`, `write fault` or `out of memory`.
+    fn words(self) -> &'static str
+        ensures words { result.now ≡ tool_fault_text self }
+        ensures short { length result.now ≤ 13 }
+    {
+        match self {
+            ToolFault::Read => "read fault",
+            ToolFault::Write => "write fault",
+            ToolFault::Memory => Memory.words(),
+        }
+    }
+}
+
+impl Display for ToolFault {
+    ghost output = { λ fault. Some (tool_fault_text fault) };
+
+    fn fmt<W: fmt::Write>(&self, f: &mut Formatter<W>) -> fmt::Result {
+        f.write_str(self.words())
+    }
 }
 
 impl From<Memory> for ToolFault {
@@ -132,7 +154,7 @@ fn report_tool<R: Read, W: Write>(alloc: Global, tool: Tool, reader: &mut R, wri
 {
     let ending = run_tool(alloc, tool, reader, writer);
     if let Err(fault) = ending {
-        say(writer, fault_line(fault));
+        say(writer, fault_line(fault).as_str());
     }
     status_of(ending)
 }
@@ -149,14 +171,14 @@ fn status_of(ending: Result<Ending, ToolFault>) -> u8
 }
 
 /// The line that reports a tool's fault.
-fn fault_line(fault: ToolFault) -> &'static str
-    ensures { result.now ≡ fault_line fault }
+fn fault_line(fault: ToolFault) -> ArrayString<23>
+    ensures { result.bytes ≡ fault_line fault }
 {
-    match fault {
-        ToolFault::Read => "fio2070: read fault\n",
-        ToolFault::Write => "fio2070: write fault\n",
-        ToolFault::Memory => "fio2070: out of memory\n",
-    }
+    let mut line = ArrayString::new();
+    line.push_str("fio2070: ");
+    line.push_str(fault.words());
+    line.push_str("\n");
+    line
 }
 
 /// The line for a command line that names no subcommand.
@@ -178,7 +200,7 @@ fn refuse<W: Write>(alloc: Global, error: &clap::Error, writer: &mut W) -> u8
             return refusal_status(kind);
         }
     }
-    say(writer, fault_line(ToolFault::Memory));
+    say(writer, fault_line(ToolFault::Memory).as_str());
     3
 }
 

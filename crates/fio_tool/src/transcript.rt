@@ -8,6 +8,6 @@ mod said;
 mod verdict;
 
 pub use lines::{Line, TraceError, read_trace};
-pub(crate) use one_pass::{BadLine, check_lines};
+pub(crate) use one_pass::check_lines;
 pub use rules::Rule;
 pub use verdict::{Verdict, check_trace};

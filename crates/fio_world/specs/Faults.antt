@@ -25,10 +25,14 @@ world_error_text errors.Memory = memory_text
 abbrev pub at_line : ℕ → List ℕ → List ℕ
 at_line line fault = codes "line " ++ (decimal line ++ (codes ": " ++ fault))
 
+-- a line has no form that its reader knows
+abbrev pub bad_line_text : ℕ → List ℕ
+bad_line_text line = at_line line (codes "bad line")
+
 -- why a text is no script
 abbrev pub script_error_text : ScriptError → List ℕ
 script_error_text BadHeader = codes "line 1: bad header"
 script_error_text (TooManyEvents line) = at_line line (codes "too many events")
-script_error_text (BadLine line) = at_line line (codes "bad line")
+script_error_text (BadLine line) = bad_line_text line
 script_error_text (BadFrame line fault) = at_line line (codes "bad frame " ++ fault_text fault)
 script_error_text Memory = memory_text

@@ -3,6 +3,7 @@ ghost use Rattle.std.specs.Prelude.{◌≡◌, Some};
 ghost use Rattle.fio_world.specs.Faults.{script_error_text};
 
 use crate::event::Event;
+use crate::text::BadLine;
 use fio_message::{DecodeError, Memory};
 use fio_module::Limits;
 use std::alloc::AllocFailed;
@@ -57,7 +58,7 @@ impl Display for ScriptError {
         match *self {
             ScriptError::BadHeader => f.write_str("line 1: bad header"),
             ScriptError::TooManyEvents { line } => write!(f, "line {line}: too many events"),
-            ScriptError::BadLine { line } => write!(f, "line {line}: bad line"),
+            ScriptError::BadLine { line } => BadLine { line }.fmt(f),
             ScriptError::BadFrame { line, fault } => write!(f, "line {line}: bad frame {fault}"),
             ScriptError::Memory => Memory.fmt(f),
         }

@@ -1,6 +1,7 @@
 //! What the texts of the program share: lines and words, how they are read, and what is printed.
 
 mod entry_lines;
+mod faults;
 mod lines;
 mod numbering;
 mod octets;
@@ -9,6 +10,7 @@ mod words;
 mod writing;
 
 pub use entry_lines::EntryLines;
+pub use faults::BadLine;
 pub use lines::{is_skipped, split_line};
 pub use numbering::{NumberedLines, numbered_lines};
 pub use octets::{is_octets, read_octets_to};

@@ -3,7 +3,7 @@ ghost use Rattle.std.specs.Prelude.{◌≡◌, ◌++◌, IfOk, OnOk, string_byte
 ghost use Rattle.fio_tool.specs.Check.{check_text, is_check_good, rule_name, verdict_text};
 
 use super::{is_too_long, report_too_long};
-use crate::transcript::{BadLine, Rule, Verdict, check_lines};
+use crate::transcript::{Rule, Verdict, check_lines};
 use fio_message::Memory;
 use fio_world::Report;
 use std::alloc::{AllocError, Global};
@@ -32,8 +32,8 @@ pub fn check_text(alloc: Global, input: &[u8]) -> Result<Report, Memory>
             push_verdict(&mut text, verdict)?;
             matches!(verdict, Verdict::Good { .. })
         }
-        Err(BadLine { line }) => {
-            write!(text, "line {line}: bad line\n")?;
+        Err(fault) => {
+            write!(text, "{fault}\n")?;
             false
         }
     };

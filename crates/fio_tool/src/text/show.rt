@@ -17,7 +17,7 @@ use answers::{push_answer, push_block_view};
 use commands::push_command;
 use fio_message::{DecodeError, FRAME_OCTETS, Memory, decode_answer, decode_command, read_block};
 use fio_world::Report;
-use fio_world::text::{numbered_lines, read_octets_to};
+use fio_world::text::{BadLine, numbered_lines, read_octets_to};
 use short::{push_short, short_message};
 use std::alloc::Global;
 
@@ -80,7 +80,8 @@ fn push_bad_line(text: &mut Vec<u8>, number: usize) -> Result<bool, Memory>
         ≡ text.old.items ++ line_fault_text number (codes "bad line")) }
     ensures good { IfOk result (λ good. good ≡ false) }
 {
-    let line = format!(in *text.allocator(); "line {number}: bad line\n")?;
+    let fault = BadLine { line: number };
+    let line = format!(in *text.allocator(); "{fault}\n")?;
     text.extend_from_slice(line.as_bytes())?;
     Ok(false)
 }

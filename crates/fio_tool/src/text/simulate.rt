@@ -1,15 +1,12 @@
 //! The text of a script's run.
-ghost use Rattle.std.specs.Prelude.{◌≡◌, ◌≢◌, IfOk, false};
-ghost use Rattle.fio_tool.specs.Simulate.{is_simulate_good, script_fault_text, simulate_text};
-ghost use Rattle.fio_world.specs.declared.script.ScriptError.TheVariants as errors;
+ghost use Rattle.std.specs.Prelude.{◌≡◌, ◌++◌, IfOk, codes, false};
+ghost use Rattle.fio_tool.specs.Simulate.{is_simulate_good, simulate_text};
+ghost use Rattle.fio_world.specs.Faults.{script_error_text};
 
 use super::{is_too_long, report_too_long};
 use fio_message::Memory;
 use fio_world::{Report, ScriptError, report_text};
-use std::alloc::{AllocError, Global};
-
-/// The number of the line that is a script's header.
-const HEADER: usize = 1;
+use std::alloc::Global;
 
 /// The text of the run of the script in the input: its report, which is good unless an event is
 /// refused. A script with a fault is not run: it gives the one line for its first faulty line, and an
@@ -27,26 +24,16 @@ pub fn simulate_text(alloc: Global, input: &[u8]) -> Result<Report, Memory>
     match report_text(alloc, input) {
         Ok(report) => Ok(report),
         Err(ScriptError::Memory) => Err(Memory),
-        Err(fault) => refused_script(alloc, fault),
+        Err(fault) => report_fault(alloc, fault),
     }
 }
 
 /// The text for a script's first faulty line.
-fn refused_script(alloc: Global, fault: ScriptError) -> Result<Report, Memory>
-    requires { fault ≢ errors.Memory }
-    ensures text { IfOk result (λ report. report.text.items ≡ script_fault_text fault) }
+fn report_fault(alloc: Global, fault: ScriptError) -> Result<Report, Memory>
+    ensures text { IfOk result (λ report. report.text.items ≡ script_error_text fault ++ codes "\n") }
     ensures good { IfOk result (λ report. report.good ≡ false) }
 {
-    let mut text = String::new(alloc);
-    match fault {
-        ScriptError::BadHeader => write!(text, "line {HEADER}: bad header\n")?,
-        ScriptError::TooManyEvents { line } => write!(text, "line {line}: too many events\n")?,
-        ScriptError::BadLine { line } => write!(text, "line {line}: bad line\n")?,
-        ScriptError::BadFrame { line, fault } => {
-            write!(text, "line {line}: bad frame {fault}\n")?;
-        }
-        ScriptError::Memory => unreachable!(),
-    }
+    let text = format!(in alloc; "{fault}\n")?;
     Ok(Report {
         text: text.into_bytes(),
         good: false,

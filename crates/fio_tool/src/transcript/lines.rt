@@ -3,8 +3,10 @@ ghost use Rattle.std.specs.Prelude.{◌≡◌, ◌≢◌, Ok, Err, None, IfOk, I
 ghost use Rattle.fio_tool.specs.Transcript.{HasFrameToKeep, frame_in, frame_with, line_in, transcript_in};
 
 use fio_message::Memory;
-use fio_world::text::{after_prefix, is_octets, numbered_lines, read_octets};
+use fio_world::text::{BadLine, after_prefix, is_octets, numbered_lines, read_octets};
 use std::alloc::{AllocFailed, Global};
+use std::fmt;
+use std::fmt::{Display, Formatter};
 use std::marker::Model;
 use thiserror::Error;
 
@@ -35,14 +37,26 @@ impl Model for Line {
 #[derive(Clone, Copy, Debug, PartialEq, Eq, Hash, Error)]
 pub enum TraceError {
     /// A line that says something is no frame. It is the first one.
-    #[error("line {line}: bad line")]
     BadLine {
         /// The number of the line in the text, from 1.
         line: usize,
     },
     /// An allocation failed, for a line. Each line above it is a frame.
-    #[error("out of memory")]
     Memory,
+}
+
+impl Display for TraceError {
+    ghost use Rattle.std.specs.Prelude.{Some};
+    ghost use Rattle.fio_tool.specs.Check.{trace_error_text};
+
+    ghost output = { λ fault. Some (trace_error_text fault) };
+
+    fn fmt<W: fmt::Write>(&self, f: &mut Formatter<W>) -> fmt::Result {
+        match *self {
+            TraceError::BadLine { line } => BadLine { line }.fmt(f),
+            TraceError::Memory => Memory.fmt(f),
+        }
+    }
 }
 
 impl From<Memory> for TraceError {

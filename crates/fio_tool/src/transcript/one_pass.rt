@@ -10,14 +10,7 @@ use super::lines::{TraceError, frame_word};
 use super::said::Said;
 use super::verdict::Verdict;
 use fio_message::FRAME_OCTETS;
-use fio_world::text::{numbered_lines, read_octets_to};
-
-/// A line of a text that is no frame.
-#[derive(Clone, Copy, Debug)]
-pub(crate) struct BadLine {
-    /// The number of the line, from 1.
-    pub(crate) line: usize,
-}
+use fio_world::text::{BadLine, numbered_lines, read_octets_to};
 
 /// The verdict on the transcript that a text is: that of `check_trace` on the lines of `read_trace`.
 ///
