@@ -7,9 +7,11 @@ ghost use Rattle.fio_c.specs.Flat.{are_entries, read_entries, kind_of_answer};
 ghost use Rattle.fio_c.specs.Written.{Writes, WritesNothing};
 
 use crate::blocks::Entry;
-use crate::written::{LONGEST_BODY, write_front, write_with_body};
+use crate::written::{write_front, write_with_body};
 use arrayvec::ArrayVec;
-use fio_message::{Answer, BLOCK_ENTRIES, InputNumber, OtherAnswer, encode_answer};
+use fio_message::{
+    Answer, BLOCK_ENTRIES, BODY_OCTETS, InputNumber, OtherAnswer, encode_answer,
+};
 
 /// Writes an answer, and returns how many octets it has: 0 where there is no room. Inlined, so that no
 /// answer and no frame is made where the type is known.
@@ -153,7 +155,7 @@ pub extern "C" fn fio2070_encode_other_answer(code: u8, body: &[u8], out: &mut [
     let Some(kind) = kind_of(code) else {
         return 0;
     };
-    if body.len() > LONGEST_BODY {
+    if body.len() > BODY_OCTETS {
         return 0;
     }
     write_with_body(kind.code(), body, out)

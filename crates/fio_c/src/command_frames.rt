@@ -7,9 +7,11 @@ ghost use Rattle.fio_c.specs.Flat.{are_items, read_items, kind_of_command};
 ghost use Rattle.fio_c.specs.Written.{Writes, WritesNothing};
 
 use crate::commands::ConfigurationItem;
-use crate::written::{LONGEST_BODY, write_front, write_with_body};
+use crate::written::{write_front, write_with_body};
 use arrayvec::ArrayVec;
-use fio_message::{CONFIGURATION_ITEMS, Command, InputItem, InputNumber, OtherCommand, encode_command};
+use fio_message::{
+    BODY_OCTETS, CONFIGURATION_ITEMS, Command, InputItem, InputNumber, OtherCommand, encode_command,
+};
 
 /// Writes a command, and returns how many octets it has: 0 where there is no room. Inlined, so that no
 /// command and no frame is made where the type is known.
@@ -153,7 +155,7 @@ pub extern "C" fn fio2070_encode_other_command(code: u8, body: &[u8], out: &mut 
     let Some(kind) = kind_of(code) else {
         return 0;
     };
-    if body.len() > LONGEST_BODY {
+    if body.len() > BODY_OCTETS {
         return 0;
     }
     write_with_body(kind.code(), body, out)

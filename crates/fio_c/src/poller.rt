@@ -12,7 +12,7 @@ ghost use Rattle.fio_c.specs.Written.{Writes};
 use crate::command_frames::fio2070_encode_poll;
 use crate::faults::{Fault, NO_FAULT, fault_from};
 use fio_input::widen;
-use fio_message::{BlockStatus, BlockView, Entry, decode_answer, read_block};
+use fio_message::{BlockStatus, BlockView, Entry, answer_type, read_block};
 
 /// The CPU's end of the link. Its record is kept by the caller.
 #[derive(Clone, Copy)]
@@ -145,10 +145,10 @@ fn hear_other(octets: &[u8]) -> Heard
     requires { block_in octets.now ≡ None }
     ensures { (number : ℕ) → result ≡ flat_heard 0 (heard_as number (decoded_answer octets.now)) }
 {
-    match decode_answer(octets) {
-        Ok(answer) => Heard {
+    match answer_type(octets) {
+        Ok(code) => Heard {
             kind: 2,
-            code: answer.code(),
+            code,
             ..HEARD_NOTHING
         },
         Err(error) => Heard {

@@ -2,9 +2,6 @@
 ghost use Rattle.std.specs.Prelude.{◌∷◌};
 ghost use Rattle.fio_c.specs.Written.{Writes};
 
-/// How many octets a body has at most (own profile: a frame holds 773).
-pub(crate) const LONGEST_BODY: usize = 772;
-
 /// Writes octets to the front of the buffer, and returns how many. Where the buffer is shorter
 /// nothing is written, and the result is 0.
 pub(crate) fn write_front(octets: &[u8], out: &mut [u8]) -> usize
