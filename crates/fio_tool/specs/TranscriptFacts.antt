@@ -3,6 +3,7 @@
 -- law `transcript_laws::facts_decide_the_rules` both agree.
 use Rattle.std.specs.Prelude.{ℕ, suc, ◌+◌, ◌%◌, Bool, true, false, List, Option, Some, None, length, find, ◌==◌, ◌&&◌, ◌||◌, nat_lt, not, is_some, option_map, if◌then◌else◌}
 use Rattle.std.specs.List.{list_any}
+use Rattle.fio_message.specs.declared.limits.TheConstants.{BLOCK_ENTRIES}
 use Rattle.fio_message.specs.Answers.{answer_code}
 use Rattle.fio_message.specs.Blocks.{Block}
 use Rattle.fio_message.specs.Commands.{command_code}
@@ -117,7 +118,7 @@ is_broken_by facts (said.Block number status entries absent) Sequence =
     says_out_of_sequence status && (says_again status || is_some facts.more)
 is_broken_by facts (said.Block number status entries absent) Limits =
     (says_lost status && not (says_more status))
-    || ((says_more status && not (entries == 255)) || absent)
+    || ((says_more status && not (entries == BLOCK_ENTRIES)) || absent)
 is_broken_by facts (said.Block number status entries absent) Rest =
     entries == 0 && is_some_and facts.more (λ more. more)
 is_broken_by facts (said.Answer code accepted) Refusal = accepted && facts.absent_named

@@ -11,7 +11,7 @@ use Rattle.fio_message.specs.Answers.{answer_code}
 use Rattle.fio_message.specs.Blocks.{Block}
 use Rattle.fio_message.specs.Commands.{command_code}
 use Rattle.fio_message.specs.Status.{says_more, says_lost, says_again, says_out_of_sequence, says_error}
-use Rattle.fio_message.specs.declared.limits.TheConstants.{INPUTS}
+use Rattle.fio_message.specs.declared.limits.TheConstants.{BLOCK_ENTRIES, INPUTS}
 use Rattle.fio_message.specs.declared.answers.Answer.{Answer}
 use Rattle.fio_message.specs.declared.answers.Answer.TheVariants as answers
 use Rattle.fio_message.specs.declared.commands.Command.{Command}
@@ -72,7 +72,7 @@ is_absent input = nat_le INPUTS input
 abbrev pub is_beyond_limits : Block → Bool
 is_beyond_limits block =
     (says_lost block.status && not (says_more block.status))
-    || ((says_more block.status && not (length block.entries == 255))
+    || ((says_more block.status && not (length block.entries == BLOCK_ENTRIES))
     || list_any (λ entry. is_absent entry.input) block.entries)
 
 -- Limits: a block answer beyond what the module's limits allow.
