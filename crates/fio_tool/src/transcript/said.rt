@@ -8,8 +8,8 @@ ghost use Rattle.fio_tool.specs.TranscriptRules.{accepts, is_absent, names_absen
 
 use super::lines::Line;
 use fio_message::{
-    Answer, BlockView, Command, Entry, InputItem, InputNumber, decode_answer, decode_command,
-    read_block, says_error,
+    Answer, BlockStatus, BlockView, Command, Entry, INPUTS, InputItem, InputNumber, decode_answer,
+    decode_command, read_block, says_error,
 };
 
 /// What a line says. An input is absent if no module of this profile has it.
