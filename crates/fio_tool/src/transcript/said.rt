@@ -8,7 +8,7 @@ ghost use Rattle.fio_tool.specs.TranscriptRules.{accepts, is_absent, names_absen
 
 use super::lines::Line;
 use fio_message::{
-    Answer, BlockStatus, BlockView, Command, Entry, INPUTS, InputItem, InputNumber, decode_answer,
+    Answer, BlockView, Command, Entry, INPUTS, InputItem, InputNumber, decode_answer,
     decode_command, read_block, says_error,
 };
 
