@@ -11,11 +11,10 @@ ghost use Rattle.fio_world.specs.Worlds.{Shows, Steps, IsWorldAfter, IsSoundWorl
 mod done;
 mod frames;
 mod happening;
-mod stored;
 
 pub(crate) use self::done::Done;
+use self::frames::StoredFrames;
 pub(crate) use self::happening::Happens;
-use self::stored::StoredFrames;
 use crate::event::Event;
 use crate::outcome::{Outcome, RunError, WorldError};
 use fio_cpu::Poller;
