@@ -8,7 +8,7 @@ use Rattle.fio_message.specs.declared.answers.Answer.{Answer}
 use Rattle.fio_message.specs.declared.answers.Answer.TheVariants.{Status, LoadCounter, ConfigureInputs, RawInputs, FilteredInputs, Block, Watchdog, Other}
 use Rattle.fio_input.specs.Widening.{widened}
 use Rattle.fio_world.specs.Hexadecimal.{digits_of, octet_digits}
-use Rattle.fio_world.specs.ReportLines.{entry_line}
+use Rattle.fio_world.specs.EntryLines.{entry_line}
 use Rattle.fio_tool.specs.ShowCommands.{other_text}
 
 -- how many errors there were, and when

@@ -7,7 +7,7 @@ use Rattle.fio_message.specs.Decoding.{block_in}
 use Rattle.fio_module.specs.Settings.{Settings, AreInRange}
 use Rattle.fio_module.specs.Log.{whole_log}
 use Rattle.fio_cpu.specs.Record.{recorded}
-use Rattle.fio_world.specs.Link.{Sent, Machine, number_of, with_block, heard}
+use Rattle.fio_world.specs.Link.{Sent, Machine, number_of, heard_block, heard}
 use Rattle.fio_world.specs.Frames.{HasBlock}
 use Rattle.fio_world.specs.Rounds.{next_round}
 use Rattle.fio_world.proofs.RoundNumbers.{rounds_from_numbers}
@@ -102,7 +102,7 @@ module _ (settings : Settings) (range : AreInRange settings) (first : ℕ) (mach
   heard_frame : (place : ℕ) (frame : Sent) → machine.last_to_cpu ≤ place + 1
       → slice_get machine.to_cpu place ≡ Some frame
       → (found : Option Block) → block_in frame.octets ≡ found
-      → HasInvariant settings first (with_block first (record machine { last_to_cpu = place + 1 }) found)
+      → HasInvariant settings first (heard_block first (record machine { last_to_cpu = place + 1 }) found)
   heard_frame place frame le at None spells = keeps_passed (place + 1) le
   heard_frame place frame le at (Some answer) spells =
       taken_or_not place answer frame.round le (record { frame = frame; at_place = at; spells = spells; of_round = refl })

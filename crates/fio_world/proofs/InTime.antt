@@ -16,7 +16,7 @@ use Rattle.fio_module.proofs.Ages.{scans_in-append}
 use Rattle.fio_cpu.specs.Record.{recorded}
 use Rattle.fio_world.specs.declared.event.Event.{Event}
 use Rattle.fio_world.specs.declared.event.Event.TheVariants as events
-use Rattle.fio_world.specs.Link.{Sent, Machine, number_of, item_numbered, received, with_block, heard, after, Leads}
+use Rattle.fio_world.specs.Link.{Sent, Machine, number_of, item_numbered, received, heard_block, heard, after, Leads}
 use Rattle.fio_world.specs.Headline.{IsNotRestart, HaveNoRestart}
 use Rattle.fio_world.specs.Claims.{blocks_in}
 use Rattle.fio_world.specs.Delivery.{clean_round}
@@ -58,7 +58,7 @@ grows-taken machine before block false life round =
     record { stretch = []; life = life; few = omega arith; round = omega arith }
 
 grows-block : (first : ℕ) (machine before : Machine) (found : Option Block) → life_of before.history ≡ life_of machine.history
-    → machine.round ≤ before.round → Grows machine (with_block first before found) 0
+    → machine.round ≤ before.round → Grows machine (heard_block first before found) 0
 grows-block first machine before None life round =
     record { stretch = []; life = life; few = omega arith; round = omega arith }
 grows-block first machine before (Some block) life round =

@@ -12,7 +12,7 @@ use Rattle.fio_module.specs.Life.{History, Received, Life, life_of}
 use Rattle.fio_module.specs.Log.{Transition, whole_log}
 use Rattle.fio_module.specs.Blocks.{MadeBlock, latest_poll, is_new, blocks_of, next_block}
 use Rattle.fio_module.specs.Sendings.{Sending, is_out_of_sequence, first_sending, sent_again, latest_sending}
-use Rattle.fio_world.specs.Link.{Sent, Machine, number_of, answered}
+use Rattle.fio_world.specs.Link.{Sent, Machine, number_of, answer_frames}
 use Rattle.fio_world.specs.Frames.{HasPoll, received_numbers}
 use Rattle.fio_world.specs.Rounds.{PollsAreInOrder, next_round, PollsOf, BlockAnswersOf}
 use Rattle.fio_world.proofs.RoundNumbers.{number_of-next, rounds_from_numbers}
@@ -148,7 +148,7 @@ module _ (first : ℕ) (log : List Transition) (blocks : List MadeBlock) (limit 
   -- a frame that is no poll is received, and what it gets is no block answer
   pub keeps_other : (reply : Option Answer)
       → ((answer : Answer) → reply ≡ Some answer → block_in (answer_octets answer) ≡ None)
-      → Invariant first log blocks limit latest numbers makers (after_other machine place frame (answered reply frame.round))
+      → Invariant first log blocks limit latest numbers makers (after_other machine place frame (answer_frames reply frame.round))
   keeps_other None other =
       subst (λ frames. Invariant first log blocks limit latest numbers makers (record machine {
         last_to_module = place + 1;

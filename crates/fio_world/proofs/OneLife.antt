@@ -16,7 +16,7 @@ use Rattle.fio_module.specs.Blocks.{MadeBlock, is_new, blocks_of}
 use Rattle.fio_cpu.specs.declared.record.Item.{Item}
 use Rattle.fio_cpu.specs.declared.record.Item.TheVariants as items
 use Rattle.fio_cpu.specs.Record.{item_of, recorded}
-use Rattle.fio_world.specs.Link.{Sent, Machine, number_of, answered}
+use Rattle.fio_world.specs.Link.{Sent, Machine, number_of, answer_frames}
 use Rattle.fio_world.specs.Frames.{is_repeated, repeats, answer_before, block_answers}
 use Rattle.fio_world.specs.Claims.{SaysAgainWhereRepeated}
 use Rattle.fio_world.specs.Rounds.{next_round, CarriesBlock}
@@ -135,7 +135,7 @@ module _ (first : ℕ) (blocks : List MadeBlock) (latest : Option ℕ) (makers :
   -- a frame that is no poll is received, and what it gets is no block answer
   pub life-other : (reply : Option Answer)
       → ((answer : Answer) → reply ≡ Some answer → block_in (answer_octets answer) ≡ None)
-      → InOneLife first blocks latest makers (after_other machine place frame (answered reply frame.round))
+      → InOneLife first blocks latest makers (after_other machine place frame (answer_frames reply frame.round))
   life-other None other =
       record { made = o.made; own = o.own; polled = o.polled; kept = o.kept; again = ap block_answers (append-nil machine.to_cpu) ∙ o.again }
   life-other (Some answer) other =

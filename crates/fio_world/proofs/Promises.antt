@@ -13,7 +13,7 @@ use Rattle.fio_cpu.specs.Record.{item_of}
 use Rattle.fio_world.specs.Link.{Machine}
 use Rattle.fio_world.specs.Pieces.{Gap, Got, piece_of, pieces_of, taken, ArePieces}
 use Rattle.fio_world.specs.Headline.{RecordIsLog, Headline}
-use Rattle.fio_world.specs.Claims.{blocks_in, StandsAtTaken, RestIsTold, HasTimes, IsTimed, sources_of}
+use Rattle.fio_world.specs.Claims.{blocks_in, StandsAtTaken, RestIsLostOrWaits, HasTimes, IsTimed, sources_of}
 use Rattle.fio_world.specs.Rounds.{next_round, PollsOf, PollsReceivedHaveRounds, NewestPollMadeNewestBlock, BlockAnswersOf, AnswersCarryBlocks}
 use Rattle.fio_world.specs.Rising.{IsRising}
 use Rattle.fio_world.specs.Delivery.{CleanRoundTakesBlock}
@@ -57,7 +57,7 @@ one_behind m b low high =
     ]
 
 -- what is not recorded, of any life
-pub rest_is_told : (settings : Settings) (life : Life) → RestIsTold settings life
+pub rest_is_told : (settings : Settings) (life : Life) → RestIsLostOrWaits settings life
 rest_is_told settings life =
     let blocks = blocks_of settings life in
     let within : newest_end settings life ≤ length (log_of life) = blocks_end_within settings life in

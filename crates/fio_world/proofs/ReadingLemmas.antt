@@ -15,8 +15,8 @@ use Rattle.fio_world.specs.Scripts.{Scenario, readings, events_of, HasGoodFront,
 use Rattle.fio_world.specs.Steps.{event_of}
 use Rattle.fio_world.specs.Words.{after_prefix}
 use Rattle.fio_world.specs.declared.event.Event.{Event}
-use Rattle.fio_world.specs.declared.headers.Header.{Header}
-use Rattle.fio_world.specs.declared.steps.Form.{Form}
+use Rattle.fio_world.specs.declared.script.header.Header.{Header}
+use Rattle.fio_world.specs.declared.script.steps.Form.{Form}
 use Rattle.fio_world.specs.declared.script.ScriptError.{ScriptError}
 use Rattle.fio_world.specs.declared.script.ScriptError.TheVariants.{BadLine, Memory}
 

@@ -13,7 +13,7 @@ use Rattle.fio_module.specs.Blocks.{MadeBlock, latest_poll, is_new, blocks_of, e
 use Rattle.fio_module.specs.Sendings.{Sending, answer_of, is_out_of_sequence, first_sending, sent_again}
 use Rattle.fio_module.specs.Replies.{answer_if}
 use Rattle.fio_module.proofs.Ends.{last_end-append}
-use Rattle.fio_world.specs.Link.{Sent, Machine, number_of, answered, polls_with, received}
+use Rattle.fio_world.specs.Link.{Sent, Machine, number_of, answer_frames, polls_with, received}
 use Rattle.fio_world.specs.Frames.{HasPoll, number_with, received_numbers}
 use Rattle.fio_world.specs.Rounds.{next_round}
 use Rattle.fio_world.proofs.Places.{get_push}
@@ -53,7 +53,7 @@ module _ (settings : Settings) (range : AreInRange settings) (first : ℕ) (mach
       → Invariant first log (past_blocks settings h ++ map (behind past) (blocks_if settings life true))
       (past + end_of_blocks (blocks_if settings life true)) (Some number) (number ∷ received_numbers h)
       (makers ++ frame.round ∷ [])
-      (after_poll machine place frame (answered (option_map answer_of (sending_if settings life number true)) frame.round))
+      (after_poll machine place frame (answer_frames (option_map answer_of (sending_if settings life number true)) frame.round))
   new_poll place number frame le poll is =
       let bs = blocks_of settings life in
       let block = next_block settings life in
@@ -74,7 +74,7 @@ module _ (settings : Settings) (range : AreInRange settings) (first : ℕ) (mach
       let limit = past + end_of_blocks (bs ++ block ∷ []) in
       let carries = carried_says sending block (first_carries settings life number) in
       subst (λ made. Invariant first log made limit (Some number) (number ∷ received_numbers h) (makers ++ round ∷ [])
-      (after_poll machine place frame (answered (Some (answer_of sending)) round))) (sym grown)
+      (after_poll machine place frame (answer_frames (Some (answer_of sending)) round))) (sym grown)
       (keeps_poll first log all (reached settings h) (latest_poll life) (received_numbers h) makers machine i place frame le
       number limit (all ++ behind past block ∷ []) (makers ++ round ∷ []) (said sending) (answer_octets (answer_of sending)) poll
       (carried_back settings.per_block sending block range.few_per_block fits
@@ -105,7 +105,7 @@ module _ (settings : Settings) (range : AreInRange settings) (first : ℕ) (mach
       → HasPoll machine.to_module place number frame.round
       → is_new (latest_poll life) number ≡ false
       → Invariant first log all (reached settings h) (Some number) (number ∷ received_numbers h) makers
-      (after_poll machine place frame (answered (option_map answer_of (sending_if settings life number false)) frame.round))
+      (after_poll machine place frame (answer_frames (option_map answer_of (sending_if settings life number false)) frame.round))
   repeated_poll place number frame le poll is =
       let round = frame.round in
       let low : round ≤ machine.round = i.polls.sent place number round poll in
@@ -137,7 +137,7 @@ module _ (settings : Settings) (range : AreInRange settings) (first : ℕ) (mach
       let sent_number : again.number ≡ number = l.number in
       let carries = carried_says again block carried in
       subst (λ (latest : Option Sending). Invariant first log all (reached settings h) (Some number) (number ∷ received_numbers h) makers
-      (after_poll machine place frame (answered (option_map answer_of (option_map sent_again latest)) round))) (sym l.is)
+      (after_poll machine place frame (answer_frames (option_map answer_of (option_map sent_again latest)) round))) (sym l.is)
       (keeps_poll first log all (reached settings h) (latest_poll life) (received_numbers h) makers machine i place frame le
       number (reached settings h) all makers (said again) (answer_octets (answer_of again)) poll
       (carried_back settings.per_block again block range.few_per_block (omega arith)
@@ -163,7 +163,7 @@ module _ (settings : Settings) (range : AreInRange settings) (first : ℕ) (mach
       → Invariant first log (past_blocks settings h ++ map (behind past) (blocks_if settings life new))
       (past + end_of_blocks (blocks_if settings life new)) (Some number) (number ∷ received_numbers h)
       (makers_if makers frame.round new)
-      (after_poll machine place frame (answered (option_map answer_of (sending_if settings life number new)) frame.round))
+      (after_poll machine place frame (answer_frames (option_map answer_of (sending_if settings life number new)) frame.round))
   received_poll place number frame le poll true is = new_poll place number frame le poll is
   received_poll place number frame le poll false is = repeated_poll place number frame le poll is
 
@@ -179,7 +179,7 @@ module _ (settings : Settings) (range : AreInRange settings) (first : ℕ) (mach
       (record machine {
         last_to_module = place + 1;
         history = Received frame.octets ∷ h;
-        to_cpu = machine.to_cpu ++ answered (answer_if settings life command) frame.round;
+        to_cpu = machine.to_cpu ++ answer_frames (answer_if settings life command) frame.round;
         polls = polls_with (polled_number command) frame.round machine.polls;
       })
   received_frame place frame le at (Some (commands.Poll number)) spells =

@@ -3,12 +3,12 @@ use Rattle.fio_module.specs.Settings.{Settings}
 use Rattle.fio_world.specs.declared.event.Event.{Event}
 use Rattle.fio_world.specs.Link.{Machine, Refusal, start, refusal, after, Leads}
 use Rattle.fio_world.specs.ReportLines.{ending_text}
-use Rattle.fio_world.specs.Reports.{Telling, told_from, unless_refused, EndsWith, TellsOfRun}
+use Rattle.fio_world.specs.Reports.{Report, report_from, unless_refused, EndsWith, IsReportOfRun}
 use Rattle.fio_world.specs.Scripts.{Scenario}
 
 -- what is reported of events that are all done is good
 good_from : (settings : Settings) (first number : ℕ) (machine : Machine) (events : List Event) (last : Machine)
-    → Leads settings first machine events last → (told_from settings first number machine events).good ≡ true
+    → Leads settings first machine events last → (report_from settings first number machine events).good ≡ true
 good_from settings first number machine [] last leads = refl
 good_from settings first number machine (event ∷ events) last leads =
     rw leads.0 (good_from settings first (number + 1) (after settings first machine event) events last leads.1)
@@ -20,27 +20,27 @@ EndsWith-after front text lines ends = (front ++ ends.0, rw (ends.1, append_asso
 -- and ends with how the run has ended
 ending_from : (settings : Settings) (first number : ℕ) (machine : Machine) (events : List Event) (last : Machine)
     → Leads settings first machine events last
-    → EndsWith (told_from settings first number machine events).text (ending_text settings first last)
+    → EndsWith (report_from settings first number machine events).text (ending_text settings first last)
 ending_from settings first number machine [] last leads = ([], rw leads refl)
 ending_from settings first number machine (event ∷ events) last leads =
     rw leads.0 (EndsWith-after _ _ _ (ending_from settings first (number + 1) (after settings first machine event) events last leads.1))
 
--- what is told is good only where no event is refused
-not_refused : (number : ℕ) (reason : Option Refusal) (line : List ℕ) (rest : Telling)
+-- what is reported is good only where no event is refused
+not_refused : (number : ℕ) (reason : Option Refusal) (line : List ℕ) (rest : Report)
     → (unless_refused number reason line rest).good ≡ true → (reason ≡ None) × (rest.good ≡ true)
 not_refused number None line rest good = (refl, good)
 not_refused number (Some reason) line rest good = absurd (cc)
 
 run_from : (settings : Settings) (first number : ℕ) (machine : Machine) (events : List Event)
-    → (told_from settings first number machine events).good ≡ true → (last : Machine) × Leads settings first machine events last
+    → (report_from settings first number machine events).good ≡ true → (last : Machine) × Leads settings first machine events last
 run_from settings first number machine [] good = (machine, refl)
 run_from settings first number machine (event ∷ events) good =
     let done = not_refused number (refusal machine event) _ _ good in
     let rest = run_from settings first (number + 1) (after settings first machine event) events done.1 in
     (rest.0, (done.0, rest.1))
 
-pub tells_of_run : (scenario : Scenario) → TellsOfRun scenario
-tells_of_run scenario = record {
+pub is_report_of_run : (scenario : Scenario) → IsReportOfRun scenario
+is_report_of_run scenario = record {
   good = good_from scenario.settings scenario.first 1 start scenario.events;
   ending = ending_from scenario.settings scenario.first 1 start scenario.events;
   run = run_from scenario.settings scenario.first 1 start scenario.events;

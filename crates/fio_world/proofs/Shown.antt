@@ -26,16 +26,17 @@ use Rattle.fio_world.specs.declared.outcome.Outcome.{Outcome}
 use Rattle.fio_world.specs.declared.outcome.Outcome.TheVariants as outcomes
 use Rattle.fio_world.specs.declared.outcome.WorldError.{WorldError}
 use Rattle.fio_world.specs.declared.outcome.WorldError.TheVariants as errors
-use Rattle.fio_world.specs.Link.{Machine, Sent, Refusal, start, number_of, item_numbered, delivery_refusal, refusal, sent, answered, received, with_block, heard, after, Leads}
+use Rattle.fio_world.specs.Link.{Machine, Sent, Refusal, start, number_of, item_numbered, delivery_refusal, refusal, sent, answer_frames, received, heard_block, heard, after, Leads}
 use Rattle.fio_world.specs.Done.{octets_numbered}
 use Rattle.fio_world.specs.Ends.{Ends}
 use Rattle.fio_world.proofs.Places.{get_push}
-use Rattle.fio_world.specs.Worlds.{octets_of, polling_of, Shows, sent_after, replied_after, received_outcome, heard_outcome, AddsFrom, TakesMemory, IsFault, IsDone, Steps, StandsFor, events_done}
+use Rattle.fio_world.specs.Worlds.{octets_sent, polling_of, Shows, AddsFrom, TakesMemory, IsFault, IsDone, Steps, IsWorldAfter, events_done}
+use Rattle.fio_world.specs.Outcomes.{sent_after, replied_after, received_outcome, heard_outcome}
 
 -- the frame with a number, and its octets where the octets of all frames are listed
-item_numbered-map : (frames : List Sent) (index : ℕ) → item_numbered (map octets_of frames) index ≡ option_map octets_of (item_numbered frames index)
+item_numbered-map : (frames : List Sent) (index : ℕ) → item_numbered (map octets_sent frames) index ≡ option_map octets_sent (item_numbered frames index)
 item_numbered-map frames zero = refl
-item_numbered-map frames (suc place) = slice_get-map octets_of frames place
+item_numbered-map frames (suc place) = slice_get-map octets_sent frames place
 
 -- the octets with a number, by their place
 pub item_numbered-place : (frames : List (List ℕ)) (index : ℕ) → (index ≡ 0 → ⊥) → slice_get frames (index - 1) ≡ item_numbered frames index
@@ -43,7 +44,7 @@ item_numbered-place frames zero h = absurd (h refl)
 item_numbered-place frames (suc place) h = let same : suc place - 1 ≡ place = omega arith in ap (slice_get frames) same
 
 -- an option whose value is mapped to a value has one
-from_mapped : (found : Option Sent) (octets : List ℕ) → option_map octets_of found ≡ Some octets → (frame : Sent) × (found ≡ Some frame) × (frame.octets ≡ octets)
+from_mapped : (found : Option Sent) (octets : List ℕ) → option_map octets_sent found ≡ Some octets → (frame : Sent) × (found ≡ Some frame) × (frame.octets ≡ octets)
 from_mapped (Some frame) octets e = (frame, refl, cc)
 from_mapped None octets e = absurd cc
 
@@ -55,7 +56,7 @@ may_deliver count last (suc place) fine =
     (λ z. omega (arith, z), omega (arith, high))
 
 -- the CPU after a block, as the machine has it
-polling-next : (first : ℕ) (machine : Machine) (last : ℕ) (found : Option Block) → after_hearing (polling_of first machine) found ≡ polling_of first (with_block first (record machine { last_to_cpu = last }) found)
+polling-next : (first : ℕ) (machine : Machine) (last : ℕ) (found : Option Block) → after_hearing (polling_of first machine) found ≡ polling_of first (heard_block first (record machine { last_to_cpu = last }) found)
 polling-next first machine last None = refl
 polling-next first machine last (Some block) = by_test (block.number == number_of first machine.round)
   where
@@ -74,7 +75,7 @@ reply_octets None = []
 reply_octets (Some answer) = answer_octets answer ∷ []
 
 -- the octets of a reply are those of the frame that it is sent in
-octets-answered : (reply : Option Answer) (round : ℕ) → reply_octets reply ≡ map octets_of (answered reply round)
+octets-answered : (reply : Option Answer) (round : ℕ) → reply_octets reply ≡ map octets_sent (answer_frames reply round)
 octets-answered None round = refl
 octets-answered (Some answer) round = refl
 
@@ -116,12 +117,12 @@ module _ (settings : Settings) (first : ℕ) (machine : Machine) (world : Ends) 
   -- the refusal of a delivery is the machine's
   pub refusal-to_module : (index : ℕ) → delivery_refusal (length world.to_module) world.last_to_module index ≡ refusal machine (events.ToModule index)
   refusal-to_module index =
-      ap (λ n. delivery_refusal n world.last_to_module index) (ap length s.frames_to_module ∙ length-map machine.to_module octets_of)
+      ap (λ n. delivery_refusal n world.last_to_module index) (ap length s.frames_to_module ∙ length-map machine.to_module octets_sent)
       ∙ ap (λ n. delivery_refusal (length machine.to_module) n index) s.last_to_module
 
   pub refusal-to_cpu : (index : ℕ) → delivery_refusal (length world.to_cpu) world.last_to_cpu index ≡ refusal machine (events.ToCpu index)
   refusal-to_cpu index =
-      ap (λ n. delivery_refusal n world.last_to_cpu index) (ap length s.frames_to_cpu ∙ length-map machine.to_cpu octets_of)
+      ap (λ n. delivery_refusal n world.last_to_cpu index) (ap length s.frames_to_cpu ∙ length-map machine.to_cpu octets_sent)
       ∙ ap (λ n. delivery_refusal (length machine.to_cpu) n index) s.last_to_cpu
 
   -- the octets with a number that the world shows are those of the machine's frame with it
@@ -136,7 +137,7 @@ module _ (settings : Settings) (first : ℕ) (machine : Machine) (world : Ends) 
   shown_sent command = record {
     history = s.history;
     polling = s.polling;
-    frames_to_module = ap (λ fs. fs ++ command_octets command ∷ []) s.frames_to_module ∙ sym (map-append octets_of machine.to_module (record { octets = command_octets command; round = machine.round } ∷ []));
+    frames_to_module = ap (λ fs. fs ++ command_octets command ∷ []) s.frames_to_module ∙ sym (map-append octets_sent machine.to_module (record { octets = command_octets command; round = machine.round } ∷ []));
     frames_to_cpu = s.frames_to_cpu;
     last_to_module = s.last_to_module;
     last_to_cpu = s.last_to_cpu;
@@ -158,11 +159,11 @@ module _ (settings : Settings) (first : ℕ) (machine : Machine) (world : Ends) 
       let frame = d.0 in
       let reply = reply_to settings machine.history frame.octets in
       let same : octets ≡ frame.octets = sym d.2 in
-      let replies : reply_octets (reply_to settings machine.history octets) ≡ map octets_of (answered reply frame.round) = ap (λ o. reply_octets (reply_to settings machine.history o)) same ∙ octets-answered reply frame.round in
+      let replies : reply_octets (reply_to settings machine.history octets) ≡ map octets_sent (answer_frames reply frame.round) = ap (λ o. reply_octets (reply_to settings machine.history o)) same ∙ octets-answered reply frame.round in
       record {
         fine = sym (refusal-to_module index) ∙ fine;
-        brought =
-            ap (λ n. replied_after n (reply_to settings machine.history octets)) (ap length s.frames_to_cpu ∙ length-map machine.to_cpu octets_of)
+        outcome =
+            ap (λ n. replied_after n (reply_to settings machine.history octets)) (ap length s.frames_to_cpu ∙ length-map machine.to_cpu octets_sent)
             ∙ ap (λ o. replied_after (length machine.to_cpu) (reply_to settings machine.history o)) same
             ∙ ap (received_outcome settings machine) (sym d.1);
         shown = subst (λ found. Shows settings first (received settings machine index found) new) (sym d.1) (record {
@@ -171,8 +172,8 @@ module _ (settings : Settings) (first : ℕ) (machine : Machine) (world : Ends) 
           frames_to_module = to_module ∙ s.frames_to_module;
           frames_to_cpu =
               to_cpu ∙ ap (λ fs. fs ++ reply_octets (reply_to settings machine.history octets)) s.frames_to_cpu
-              ∙ ap (λ fs. map octets_of machine.to_cpu ++ fs) replies
-              ∙ sym (map-append octets_of machine.to_cpu (answered reply frame.round));
+              ∙ ap (λ fs. map octets_sent machine.to_cpu ++ fs) replies
+              ∙ sym (map-append octets_sent machine.to_cpu (answer_frames reply frame.round));
           last_to_module = last_to_module;
           last_to_cpu = last_to_cpu ∙ s.last_to_cpu;
         });
@@ -183,7 +184,7 @@ module _ (settings : Settings) (first : ℕ) (machine : Machine) (world : Ends) 
       → new.module_end ≡ world.module_end → new.poller_end ≡ after_hearing world.poller_end found
       → new.to_module ≡ world.to_module → new.to_cpu ≡ world.to_cpu
       → new.last_to_module ≡ world.last_to_module → new.last_to_cpu ≡ index
-      → Shows settings first (with_block first (record machine { last_to_cpu = index }) found) new
+      → Shows settings first (heard_block first (record machine { last_to_cpu = index }) found) new
   shown_block index found new module_end poller to_module to_cpu last_to_module last_to_cpu =
       by_case found (poller ∙ ap (λ p. after_hearing p found) s.polling ∙ polling-next first machine index found)
     where
@@ -205,8 +206,8 @@ module _ (settings : Settings) (first : ℕ) (machine : Machine) (world : Ends) 
       by_test block false polling = shown machine.round machine.items polling
 
       by_case : (o : Option Block)
-          → new.poller_end ≡ polling_of first (with_block first (record machine { last_to_cpu = index }) o)
-          → Shows settings first (with_block first (record machine { last_to_cpu = index }) o) new
+          → new.poller_end ≡ polling_of first (heard_block first (record machine { last_to_cpu = index }) o)
+          → Shows settings first (heard_block first (record machine { last_to_cpu = index }) o) new
       by_case None polling = shown machine.round machine.items polling
       by_case (Some block) polling = by_test block (block.number == number_of first machine.round) polling
 
@@ -225,7 +226,7 @@ module _ (settings : Settings) (first : ℕ) (machine : Machine) (world : Ends) 
       let number : world.poller_end.number ≡ number_of first machine.round = ap (λ (p : Polling). p.number) s.polling in
       record {
         fine = sym (refusal-to_cpu index) ∙ fine;
-        brought =
+        outcome =
             ap (λ n. outcomes.Heard (heard_as n (decoded_answer octets))) number
             ∙ ap (λ o. outcomes.Heard (heard_as (number_of first machine.round) (decoded_answer o))) same
             ∙ ap (heard_outcome (number_of first machine.round)) (sym d.1);
@@ -267,10 +268,10 @@ leads-push settings first from to (e ∷ done) event is fine = (is.0, leads-push
 
 -- a world that stands for some events stands, after one more, for these and that one, or for these if it was refused
 pub stands_on : (settings : Settings) (first : ℕ) (done : List Event) (event : Event) (result : Result Outcome WorldError) (old new : Ends)
-    → StandsFor settings first done old
+    → IsWorldAfter settings first done old
     → ((machine : Machine) → Shows settings first machine old → Steps settings first machine event result new)
     → OnErr result (new ≡ old)
-    → StandsFor settings first (events_done done event result) new
+    → IsWorldAfter settings first (events_done done event result) new
 stands_on settings first done event (Ok outcome) old new s steps err =
     let row = steps s.machine s.shown in
     record { in_range = s.in_range; machine = after settings first s.machine event; is_run = leads-push settings first start s.machine done event s.is_run row.fine; shown = row.shown }

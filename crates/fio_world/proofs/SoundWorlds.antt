@@ -5,15 +5,15 @@ use Rattle.fio_cpu.specs.Poller.{Polling}
 use Rattle.fio_world.specs.declared.event.Event.{Event}
 use Rattle.fio_world.specs.Headline.{Headline}
 use Rattle.fio_world.specs.Ends.{Ends}
-use Rattle.fio_world.specs.Worlds.{StandsFor, IsSoundWorld}
+use Rattle.fio_world.specs.Worlds.{IsWorldAfter, IsSoundWorld}
 use Rattle.fio_world.proofs.Promises.{runs_are_sound}
 
 -- all that is promised of runs holds of the machine that a world shows
-pub sound_world : (settings : Settings) (first : ℕ) (events : List Event) (world : Ends) → StandsFor settings first events world → IsSoundWorld settings first events world
+pub sound_world : (settings : Settings) (first : ℕ) (events : List Event) (world : Ends) → IsWorldAfter settings first events world → IsSoundWorld settings first events world
 sound_world settings first events world s = record { in_range = s.in_range; machine = s.machine; sound = runs_are_sound settings first events s.machine s.in_range s.is_run; shown = s.shown }
 
 -- a world that is sound stands for its events
-pub stands_for : (settings : Settings) (first : ℕ) (events : List Event) (world : Ends) → IsSoundWorld settings first events world → StandsFor settings first events world
+pub stands_for : (settings : Settings) (first : ℕ) (events : List Event) (world : Ends) → IsSoundWorld settings first events world → IsWorldAfter settings first events world
 stands_for settings first events world s = record { in_range = s.in_range; machine = s.machine; is_run = s.sound.is_run; shown = s.shown }
 
 -- the headline, for the record that a world shows
@@ -21,5 +21,5 @@ pub sound_headline : (settings : Settings) (first : ℕ) (events : List Event) (
 sound_headline settings first events world s none =
     (s.machine, s.sound.is_run, sym (ap (λ (p : Polling). p.items) s.shown.polling), (s.sound.sound none).headline)
 
-pub headline_of : (settings : Settings) (first : ℕ) (events : List Event) (world : Ends) → StandsFor settings first events world → Headline settings first events world.poller_end.items
+pub headline_of : (settings : Settings) (first : ℕ) (events : List Event) (world : Ends) → IsWorldAfter settings first events world → Headline settings first events world.poller_end.items
 headline_of settings first events world s = sound_headline settings first events world (sound_world settings first events world s)

@@ -28,7 +28,7 @@ pub record StandsAtTaken (settings : Settings) (machine : Machine) : Type 0 wher
   pub items : map piece_of machine.items ≡ taken machine.round (blocks_in settings machine)
 
 -- What of a life is not recorded, besides the block that is not taken if there is one.
-pub record RestIsTold (settings : Settings) (life : Life) : Type 0 where
+pub record RestIsLostOrWaits (settings : Settings) (life : Life) : Type 0 where
   -- all blocks, taken or not, are the log through the end of the newest, but for what was pushed
   -- out before a block that says so
   pub in_blocks :

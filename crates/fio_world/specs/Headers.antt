@@ -1,7 +1,7 @@
 -- A script's first line, in three versions.
 use Rattle.std.specs.Prelude.{ℕ, Bool, true, false, List, Option, Some, None, option_map, option_and_then, codes, if◌then◌else◌}
 use Rattle.fio_module.specs.Limits.{Limits, standard_limits, are_limits}
-use Rattle.fio_world.specs.declared.headers.Header.{Header}
+use Rattle.fio_world.specs.declared.script.header.Header.{Header}
 use Rattle.fio_world.specs.Forms.{begins, both}
 use Rattle.fio_world.specs.Words.{number_in, small_number_in}
 

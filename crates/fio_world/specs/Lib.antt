@@ -1,8 +1,21 @@
+-- what happens
+pub mod Link
+pub mod Outcomes
+-- what is read and written
 pub mod Lines
 pub mod Words
 pub mod Hexadecimal
 pub mod Collected
-pub mod Link
+pub mod Forms
+pub mod Headers
+pub mod EventLines
+pub mod Steps
+pub mod Scripts
+pub mod Faults
+pub mod EntryLines
+pub mod ReportLines
+pub mod Reports
+-- what is claimed of every run
 pub mod Frames
 pub mod Pieces
 pub mod Headline
@@ -12,15 +25,8 @@ pub mod Rising
 pub mod Delivery
 pub mod InTime
 pub mod Sound
+-- what contracts see of a world
 pub mod EndToEnd
 pub mod Ends
 pub mod Done
 pub mod Worlds
-pub mod Forms
-pub mod Headers
-pub mod EventLines
-pub mod Steps
-pub mod Scripts
-pub mod Faults
-pub mod ReportLines
-pub mod Reports

@@ -97,9 +97,9 @@ sent machine command =
     record machine { to_module = machine.to_module ++ frame ∷ [] }
 
 -- the frame that an answer is sent in, where there is one
-abbrev pub answered : Option Answer → ℕ → List Sent
-answered None round = []
-answered (Some answer) round = record { octets = answer_octets answer; round = round } ∷ []
+abbrev pub answer_frames : Option Answer → ℕ → List Sent
+answer_frames None round = []
+answer_frames (Some answer) round = record { octets = answer_octets answer; round = round } ∷ []
 
 -- the rounds of the polls received, with that of a frame which is a poll, newest first
 abbrev pub polls_with : Option ℕ → ℕ → List ℕ → List ℕ
@@ -115,15 +115,15 @@ received settings machine index (Some frame) =
       history = Received frame.octets ∷ machine.history;
       to_cpu =
           machine.to_cpu
-          ++ answered (reply_to settings machine.history frame.octets) frame.round;
+          ++ answer_frames (reply_to settings machine.history frame.octets) frame.round;
       polls = polls_with (poll_in frame.octets) frame.round machine.polls;
     }
 
 -- a block with the CPU's number is taken: it is recorded, and the round is one more. Any other
 -- changes nothing
-abbrev pub with_block : ℕ → Machine → Option Block → Machine
-with_block first machine None = machine
-with_block first machine (Some block) =
+abbrev pub heard_block : ℕ → Machine → Option Block → Machine
+heard_block first machine None = machine
+heard_block first machine (Some block) =
     if block.number == number_of first machine.round
     then record machine { round = machine.round + 1; items = machine.items ++ recorded block }
     else machine
@@ -132,7 +132,7 @@ with_block first machine (Some block) =
 abbrev pub heard : ℕ → Machine → ℕ → Option Sent → Machine
 heard first machine index None = machine
 heard first machine index (Some frame) =
-    with_block first (record machine { last_to_cpu = index }) (block_in frame.octets)
+    heard_block first (record machine { last_to_cpu = index }) (block_in frame.octets)
 
 -- the machine after an event that is not refused, for a CPU whose first number is this one
 abbrev pub after : Settings → ℕ → Machine → Event → Machine

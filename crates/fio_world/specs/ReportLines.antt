@@ -1,7 +1,6 @@
 -- The lines of a report.
-use Rattle.std.specs.Prelude.{ℕ, Bool, List, ◌++◌, length, codes, decimal, Option, Some, None}
+use Rattle.std.specs.Prelude.{ℕ, List, ◌++◌, length, codes, decimal, Option, Some, None}
 use Rattle.std.specs.List.{flat_map}
-use Rattle.fio_message.specs.Bits.{bit_of}
 use Rattle.fio_message.specs.Texts.{fault_text}
 use Rattle.fio_cpu.specs.declared.poller.Heard.{Heard}
 use Rattle.fio_cpu.specs.declared.poller.Heard.TheVariants.{Unreadable, Other, Stale, Block}
@@ -17,6 +16,7 @@ use Rattle.fio_world.specs.declared.outcome.Outcome.TheVariants as outcomes
 use Rattle.fio_world.specs.declared.outcome.WorldError.{WorldError}
 use Rattle.fio_world.specs.declared.outcome.WorldError.TheVariants as errors
 use Rattle.fio_world.specs.Link.{Machine, Refusal, NotSent, OutOfOrder, PollIsOurs, number_of}
+use Rattle.fio_world.specs.EntryLines.{entry_line}
 
 -- ---- one event
 
@@ -57,17 +57,6 @@ refused_line number reason =
     decimal number ++ (codes " refused " ++ (refusal_text reason ++ codes "\n"))
 
 -- ---- the end of a run
-
--- the end of an entry's line: its stamp and its wide time, which are those of its scan
-abbrev pub scan_ending : ℕ → ℕ → List ℕ
-scan_ending stamp wide =
-    codes " stamp " ++ (decimal stamp ++ (codes " wide " ++ (decimal wide ++ codes "\n")))
-
--- an entry, with its wide time
-abbrev pub entry_line : ℕ → Bool → ℕ → ℕ → List ℕ
-entry_line input level stamp wide =
-    codes "input " ++ (decimal input
-    ++ (codes " state " ++ (decimal (bit_of level) ++ scan_ending stamp wide)))
 
 -- an item of the record
 abbrev pub item_line : Item → List ℕ

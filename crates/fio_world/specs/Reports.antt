@@ -3,38 +3,38 @@ use Rattle.std.specs.Prelude.{◌≡◌, ℕ, ◌+◌, Bool, true, false, List, 
 use Rattle.fio_module.specs.Settings.{Settings}
 use Rattle.fio_world.specs.declared.event.Event.{Event}
 use Rattle.fio_world.specs.Link.{Machine, Refusal, start, refusal, after, IsRun}
-use Rattle.fio_world.specs.Worlds.{outcome_of}
+use Rattle.fio_world.specs.Outcomes.{outcome_of}
 use Rattle.fio_world.specs.ReportLines.{outcome_line, refused_line, ending_text}
 use Rattle.fio_world.specs.Scripts.{Scenario}
 use Rattle.fio_world.specs.declared.script.ScriptError.{ScriptError}
 
 -- a text, and whether it reports no fault
-pub record Telling : Type 0 where
+pub record Report : Type 0 where
   pub text : List ℕ
   pub good : Bool
 
 -- the same with this text in front
-abbrev pub told_after : List ℕ → Telling → Telling
-told_after text telling = record { text = text ++ telling.text; good = telling.good }
+abbrev pub after_text : List ℕ → Report → Report
+after_text text rest = record { text = text ++ rest.text; good = rest.good }
 
 -- an event that is refused has the last line; else its line stands above what follows
-abbrev pub unless_refused : ℕ → Option Refusal → List ℕ → Telling → Telling
-unless_refused number None line telling = told_after line telling
-unless_refused number (Some reason) line telling =
+abbrev pub unless_refused : ℕ → Option Refusal → List ℕ → Report → Report
+unless_refused number None line rest = after_text line rest
+unless_refused number (Some reason) line rest =
     record { text = refused_line number reason; good = false }
 
 -- what is reported of these events from a machine on, the first of which has this number
-abbrev pub told_from : Settings → ℕ → ℕ → Machine → List Event → Telling
-told_from settings first number machine [] =
+abbrev pub report_from : Settings → ℕ → ℕ → Machine → List Event → Report
+report_from settings first number machine [] =
     record { text = ending_text settings first machine; good = true }
-told_from settings first number machine (event ∷ events) =
+report_from settings first number machine (event ∷ events) =
     unless_refused number (refusal machine event)
     (outcome_line number (outcome_of settings first machine event))
-    (told_from settings first (number + 1) (after settings first machine event) events)
+    (report_from settings first (number + 1) (after settings first machine event) events)
 
 -- the report of a script
-abbrev pub report_of : Scenario → Telling
-report_of scenario = told_from scenario.settings scenario.first 1 start scenario.events
+abbrev pub report_of : Scenario → Report
+report_of scenario = report_from scenario.settings scenario.first 1 start scenario.events
 
 -- a text spells a script, and this is its report
 abbrev pub Reports : Result Scenario ScriptError → List ℕ → Bool → Type 0
@@ -50,7 +50,7 @@ EndsWith text lines = (before : List ℕ) × (text ≡ before ++ lines)
 
 -- where all events of a script are done, its report is good and ends with how the run has ended;
 -- and a report is good only there
-pub record TellsOfRun (scenario : Scenario) : Type 0 where
+pub record IsReportOfRun (scenario : Scenario) : Type 0 where
   pub good :
       (machine : Machine) → IsRun scenario.settings scenario.first scenario.events machine →
       (report_of scenario).good ≡ true

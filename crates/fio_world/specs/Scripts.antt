@@ -9,7 +9,7 @@ use Rattle.fio_world.specs.declared.script.ScriptError.TheVariants.{BadHeader}
 use Rattle.fio_world.specs.Collected.{collected}
 use Rattle.fio_world.specs.EventLines.{event_at, too_many_at}
 use Rattle.fio_world.specs.Headers.{header_of}
-use Rattle.fio_world.specs.declared.headers.Header.{Header}
+use Rattle.fio_world.specs.declared.script.header.Header.{Header}
 use Rattle.fio_world.specs.Lines.{lines_of, numbered}
 
 -- what a module and a CPU are made with, and what then happens

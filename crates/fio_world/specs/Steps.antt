@@ -7,8 +7,8 @@ use Rattle.fio_message.specs.declared.commands.Command.TheVariants as commands
 use Rattle.fio_world.specs.Hexadecimal.{octets_in}
 use Rattle.fio_world.specs.declared.event.Event.{Event}
 use Rattle.fio_world.specs.declared.event.Event.TheVariants as events
-use Rattle.fio_world.specs.declared.steps.Form.{Form}
-use Rattle.fio_world.specs.declared.steps.Form.TheVariants as forms
+use Rattle.fio_world.specs.declared.script.steps.Form.{Form}
+use Rattle.fio_world.specs.declared.script.steps.Form.TheVariants as forms
 
 -- the command that a word's octets spell; where they spell none, a poll, which is refused
 abbrev pub command_named : List ℕ → Command

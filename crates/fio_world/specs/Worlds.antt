@@ -1,30 +1,25 @@
 -- How a world shows the link machine, and what its calls promise.
-use Rattle.std.specs.Prelude.{◌≡◌, ◌⊎◌, ℕ, ◌+◌, List, [], ◌∷◌, ◌++◌, length, map, take, slice_get, Option, Some, None, Result, Ok, Err, MatchResult}
-use Rattle.fio_message.specs.declared.commands.Command.TheVariants as commands
-use Rattle.fio_message.specs.declared.answers.Answer.{Answer}
-use Rattle.fio_message.specs.Commands.{command_octets}
-use Rattle.fio_message.specs.Answers.{answer_octets}
-use Rattle.fio_message.specs.Decoding.{decoded_answer, block_in}
+use Rattle.std.specs.Prelude.{◌≡◌, ◌⊎◌, ℕ, List, [], ◌∷◌, ◌++◌, map, take, slice_get, Option, Some, None, Result, Ok, Err, MatchResult}
+use Rattle.fio_message.specs.Decoding.{block_in}
 use Rattle.fio_module.specs.Settings.{Settings, AreInRange}
-use Rattle.fio_module.specs.Replies.{reply_to}
 use Rattle.fio_module.specs.Module as modules
 use Rattle.fio_cpu.specs.Poller.{Polling}
-use Rattle.fio_cpu.specs.Hearing.{heard_as, AddsItems}
+use Rattle.fio_cpu.specs.Hearing.{AddsItems}
 use Rattle.fio_world.specs.declared.event.Event.{Event}
 use Rattle.fio_world.specs.declared.event.Event.TheVariants as events
 use Rattle.fio_world.specs.declared.outcome.Outcome.{Outcome}
-use Rattle.fio_world.specs.declared.outcome.Outcome.TheVariants as outcomes
 use Rattle.fio_world.specs.declared.outcome.RunError.{RunError}
 use Rattle.fio_world.specs.declared.outcome.WorldError.{WorldError}
 use Rattle.fio_world.specs.declared.outcome.WorldError.TheVariants as errors
-use Rattle.fio_world.specs.Link.{Machine, Sent, Refusal, NotSent, OutOfOrder, PollIsOurs, refusal, after, number_of, item_numbered, IsRun}
+use Rattle.fio_world.specs.Link.{Machine, Sent, Refusal, refusal, after, number_of, item_numbered, IsRun}
 use Rattle.fio_world.specs.Sound.{IsSoundRun}
 use Rattle.fio_world.specs.Ends.{Ends}
+use Rattle.fio_world.specs.Outcomes.{outcome_of, error_of}
 
 -- ---- what is shown
 
-abbrev pub octets_of : Sent → List ℕ
-octets_of frame = frame.octets
+abbrev pub octets_sent : Sent → List ℕ
+octets_sent frame = frame.octets
 
 -- what the machine has of the CPU
 abbrev pub polling_of : ℕ → Machine → Polling
@@ -34,51 +29,12 @@ polling_of first machine = record { number = number_of first machine.round; item
 pub record Shows (settings : Settings) (first : ℕ) (machine : Machine) (world : Ends) : Type 0 where
   pub history : modules.IsModuleAfter settings world.module_end machine.history
   pub polling : world.poller_end ≡ polling_of first machine
-  pub frames_to_module : world.to_module ≡ map octets_of machine.to_module
-  pub frames_to_cpu : world.to_cpu ≡ map octets_of machine.to_cpu
+  pub frames_to_module : world.to_module ≡ map octets_sent machine.to_module
+  pub frames_to_cpu : world.to_cpu ≡ map octets_sent machine.to_cpu
   pub last_to_module : world.last_to_module ≡ machine.last_to_module
   pub last_to_cpu : world.last_to_cpu ≡ machine.last_to_cpu
 
 -- ---- one event
-
--- a frame was sent after so many others
-abbrev pub sent_after : ℕ → List ℕ → Outcome
-sent_after count octets = outcomes.Sent (count + 1) (record { items = octets })
-
--- what the module's reply brings, after so many answers
-abbrev pub replied_after : ℕ → Option Answer → Outcome
-replied_after count None = outcomes.Quiet
-replied_after count (Some answer) = sent_after count (answer_octets answer)
-
--- what the module's reply to this frame brings
-abbrev pub received_outcome : Settings → Machine → Option Sent → Outcome
-received_outcome settings machine None = outcomes.Quiet
-received_outcome settings machine (Some frame) =
-    replied_after (length machine.to_cpu) (reply_to settings machine.history frame.octets)
-
--- what the CPU makes of this frame, where its number is this one
-abbrev pub heard_outcome : ℕ → Option Sent → Outcome
-heard_outcome number None = outcomes.Quiet
-heard_outcome number (Some frame) = outcomes.Heard (heard_as number (decoded_answer frame.octets))
-
--- the outcome of an event that is not refused
-abbrev pub outcome_of : Settings → ℕ → Machine → Event → Outcome
-outcome_of settings first machine events.Poll =
-    sent_after (length machine.to_module)
-    (command_octets (commands.Poll (number_of first machine.round)))
-outcome_of settings first machine (events.Send command) =
-    sent_after (length machine.to_module) (command_octets command)
-outcome_of settings first machine (events.ToModule index) =
-    received_outcome settings machine (item_numbered machine.to_module index)
-outcome_of settings first machine (events.ToCpu index) =
-    heard_outcome (number_of first machine.round) (item_numbered machine.to_cpu index)
-outcome_of settings first machine other = outcomes.Quiet
-
--- how a refusal of the machine is reported
-abbrev pub error_of : Refusal → WorldError
-error_of (NotSent index) = errors.NotSent index
-error_of (OutOfOrder index last) = errors.OutOfOrder index last
-error_of PollIsOurs = errors.PollIsOurs
 
 -- this frame carries a block that adds to the record
 abbrev pub AddsFrom : Polling → Option Sent → Type 0
@@ -104,9 +60,9 @@ IsFault (Some refusal) takes fault = fault ≡ error_of refusal
 -- what an event that is done gives: the machine does not refuse it, the outcome is exact, and the
 -- world shows the machine after it
 pub record IsDone (settings : Settings) (first : ℕ) (machine : Machine) (event : Event)
-    (outcome : Outcome) (world : Ends) : Type 0 where
+    (seen : Outcome) (world : Ends) : Type 0 where
   pub fine : refusal machine event ≡ None
-  pub brought : outcome ≡ outcome_of settings first machine event
+  pub outcome : seen ≡ outcome_of settings first machine event
   pub shown : Shows settings first (after settings first machine event) world
 
 -- one event on a world that shows a machine: it is done, or it is refused exactly as the machine
@@ -120,7 +76,7 @@ Steps settings first machine event result world =
 -- ---- runs
 
 -- the world shows the machine that these events lead to
-pub record StandsFor (settings : Settings) (first : ℕ) (events : List Event)
+pub record IsWorldAfter (settings : Settings) (first : ℕ) (events : List Event)
     (world : Ends) : Type 0 where
   pub in_range : AreInRange settings
   pub machine : Machine

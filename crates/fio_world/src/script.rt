@@ -1,12 +1,22 @@
-//! Scripts, and why a text is none.
-ghost use Rattle.std.specs.Prelude.{◌≡◌, Some};
+//! Scripts: what they are, why a text is none, and how a text is read as one.
+ghost use Rattle.std.specs.Prelude.{◌≡◌, ◌≢◌, [], Ok, Some, IfOk, IfErr, OnErr};
 ghost use Rattle.fio_world.specs.Faults.{script_error_text};
+ghost use Rattle.fio_world.specs.Lines.{lines_of};
+ghost use Rattle.fio_world.specs.Scripts.{scenario_below, scenario_of, script_in, HasGoodFront};
 
+mod events;
+mod header;
+mod steps;
+
+use self::events::read_steps;
+pub(crate) use self::header::Header;
+use self::header::read_header;
+pub(crate) use self::steps::{Form, Step, command_named};
 use crate::event::Event;
-use crate::text::BadLine;
+use crate::text::{BadLine, split_line};
 use fio_message::{DecodeError, Memory};
 use fio_module::Limits;
-use std::alloc::AllocFailed;
+use std::alloc::{AllocFailed, Global};
 use std::fmt;
 use std::fmt::{Display, Formatter};
 use thiserror::Error;
@@ -83,4 +93,63 @@ impl<T: Drop> From<AllocFailed<T>> for ScriptError {
     fn from(_fault: AllocFailed<T>) -> ScriptError {
         ScriptError::Memory
     }
+}
+
+/// The script that a text spells.
+///
+/// # Errors
+/// The fault of the first faulty line; `Memory` where the list of events had to grow above it and no
+/// room was given. The line at which that was, and all lines above it, are good.
+pub fn read_script(alloc: Global, text: &[u8]) -> Result<Script, ScriptError>
+    ensures ok { IfOk result (λ script. script_in text.now ≡ Ok (scenario_of script)) }
+    ensures err { IfErr result (λ fault. fault ≢ ScriptError.Memory
+        → script_in text.now ≡ Err fault) }
+    ensures memory { result ≡ Err ScriptError.Memory → HasGoodFront (lines_of text.now) }
+{
+    let (header, steps) = read_header_and_steps(alloc, text)?;
+    let events = events_of(alloc, &steps)?;
+    Ok(Script {
+        id: header.id,
+        first: header.first,
+        limits: header.limits,
+        events,
+    })
+}
+
+/// The header of the script that a text spells, and its events, each kept as a step.
+///
+/// # Errors
+/// Those of `read_script`.
+pub(crate) fn read_header_and_steps(
+    alloc: Global,
+    text: &[u8],
+) -> Result<(Header, Vec<Step<'_>>), ScriptError>
+    ensures ok { IfOk result (λ read.
+        script_in text.now ≡ Ok (scenario_below read.0 read.1.items)) }
+    ensures front { IfOk result (λ read.
+        read.1.items ≢ [] → HasGoodFront (lines_of text.now)) }
+    ensures err { IfErr result (λ fault. fault ≢ ScriptError.Memory
+        → script_in text.now ≡ Err fault) }
+    ensures memory { result ≡ Err ScriptError.Memory → HasGoodFront (lines_of text.now) }
+{
+    let Some((line, rest)) = split_line(text) else {
+        return Err(ScriptError::BadHeader);
+    };
+    let Some(header) = read_header(line) else {
+        return Err(ScriptError::BadHeader);
+    };
+    let steps = read_steps(alloc, rest, header.restarts)?;
+    Ok((header, steps))
+}
+
+/// The events that steps are.
+fn events_of(alloc: Global, steps: &[Step<'_>]) -> Result<Vec<Event>, Memory>
+    ensures ok { IfOk result (λ events. events.items ≡ steps.now) }
+    ensures err { OnErr result (steps.now ≢ []) }
+{
+    let mut events = Vec::new(alloc);
+    'steps: for step in steps {
+        events.push(step.event())?;
+    }
+    Ok(events)
 }

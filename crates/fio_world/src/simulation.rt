@@ -6,11 +6,12 @@ ghost use Rattle.fio_world.specs.ReportLines.{outcome_line};
 ghost use Rattle.fio_world.specs.Reports.{report_of, Reports};
 ghost use Rattle.fio_world.specs.Scripts.{scenario_of, scenario_with, script_in, HasGoodFront, IsScript};
 
+mod lines;
+
+use self::lines::{push_ending, push_heard, push_quiet, push_refusal, push_sent};
 use crate::outcome::WorldError;
-use crate::report_lines::{push_ending, push_heard, push_quiet, push_refusal, push_sent};
-use crate::reports::Report;
-use crate::script::{Script, ScriptError};
-use crate::scripts::read_header_and_steps;
+use crate::script::{Script, ScriptError, read_header_and_steps};
+use crate::text::Report;
 use crate::world::{Done, Happens, World};
 use fio_message::Memory;
 use fio_module::Limits;

@@ -6,6 +6,7 @@ mod lines;
 mod numbering;
 mod octets;
 mod printing;
+mod report;
 mod words;
 mod writing;
 
@@ -15,6 +16,7 @@ pub use lines::{is_skipped, split_line};
 pub use numbering::{NumberedLines, numbered_lines};
 pub use octets::{is_octets, read_octets_to};
 pub use printing::Hexadecimal;
+pub use report::{Report, push_fault};
 pub use words::{
     after_prefix, read_inputs, read_number, read_octet, read_octets, read_small_number,
     split_at_blank,

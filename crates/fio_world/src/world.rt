@@ -6,16 +6,15 @@ ghost use Rattle.fio_module.specs.Settings.{Settings, standard_settings, setting
 ghost use Rattle.fio_world.specs.declared.event.Event.{Event as Happening};
 ghost use Rattle.fio_world.specs.Link.{Machine, item_numbered};
 ghost use Rattle.fio_world.specs.Headline.{Headline};
-ghost use Rattle.fio_world.specs.Worlds.{Shows, Steps, StandsFor, IsSoundWorld, HasStopped, HasStoppedAt, all_done, events_done};
+ghost use Rattle.fio_world.specs.Worlds.{Shows, Steps, IsWorldAfter, IsSoundWorld, HasStopped, HasStoppedAt, all_done, events_done};
 
 mod done;
 mod frames;
 mod happening;
-mod stored;
 
 pub(crate) use self::done::Done;
+use self::frames::StoredFrames;
 pub(crate) use self::happening::Happens;
-use self::stored::StoredFrames;
 use crate::event::Event;
 use crate::outcome::{Outcome, RunError, WorldError};
 use fio_cpu::Poller;
@@ -145,10 +144,10 @@ impl World {
             → Steps settings first machine event.now result self.new }
         ensures err { OnErr result (self.new ≡ self.old) }
         ensures stands { (settings : Settings) (first : ℕ) (events : List Happening)
-            → StandsFor settings first events self.old
+            → IsWorldAfter settings first events self.old
             → IsSoundWorld settings first (events_done events event.now result) self.new }
         ensures headline { (settings : Settings) (first : ℕ) (events : List Happening)
-            → StandsFor settings first events self.old
+            → IsWorldAfter settings first events self.old
             → Headline settings first (events_done events event.now result)
             self.new.poller_end.items }
     {
@@ -165,14 +164,14 @@ impl World {
     /// How many of these events were done, and why the next one was not: the errors of `step`.
     pub fn step_all(&mut self, events: &[Event]) -> Result<(), RunError>
         ensures stands { (settings : Settings) (first : ℕ) (before : List Happening)
-            → StandsFor settings first before self.old
+            → IsWorldAfter settings first before self.old
             → IsSoundWorld settings first (all_done before events.now result) self.new }
         ensures headline { (settings : Settings) (first : ℕ) (before : List Happening)
-            → StandsFor settings first before self.old
+            → IsWorldAfter settings first before self.old
             → Headline settings first (all_done before events.now result)
             self.new.poller_end.items }
         ensures err { IfErr result (λ e. (settings : Settings) (first : ℕ)
-            (before : List Happening) → StandsFor settings first before self.old
+            (before : List Happening) → IsWorldAfter settings first before self.old
             → HasStoppedAt settings first before events.now e.place e.fault self.new) }
     {
         for (place, event) in events.iter().enumerate() {

@@ -1,6 +1,6 @@
 //! The lines of entries.
 ghost use Rattle.std.specs.Prelude.{◌≡◌, ◌≤◌, ◌++◌, drop, OnOk};
-ghost use Rattle.fio_world.specs.ReportLines.{entry_line, scan_ending};
+ghost use Rattle.fio_world.specs.EntryLines.{entry_line, scan_ending};
 
 use super::writing::{append_line, line_end};
 use crate::put_pieces;
@@ -20,7 +20,7 @@ pub struct EntryLines {
 
 impl Model for EntryLines {
     ghost use Rattle.std.specs.Prelude.{◌≡◌, ◌≤◌, drop};
-    ghost use Rattle.fio_world.specs.ReportLines.{scan_ending};
+    ghost use Rattle.fio_world.specs.EntryLines.{scan_ending};
 
     // Contracts see nothing of the room.
     ghost Value = { Unit {0} };

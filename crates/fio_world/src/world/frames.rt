@@ -1,25 +1,132 @@
-//! Deliveries that are refused, and copies of frames.
-ghost use Rattle.std.specs.Prelude.{◌≡◌, ◌≤◌, length, MatchResult};
-ghost use Rattle.fio_world.specs.Link.{delivery_refusal};
-ghost use Rattle.fio_world.specs.Worlds.{IsFault};
+//! The frames sent in one direction, end to end.
+ghost use Rattle.std.specs.Prelude.{◌≡◌, ◌≢◌, ◌≤◌, ◌<◌, ◌∷◌, ◌++◌, [], List, ℕ, Some, true, length, IfSome, OnOk, OnErr};
+ghost use Rattle.std.specs.Option.{option_map};
+ghost use Rattle.std.specs.Borrow.{Bor};
+ghost use Rattle.fio_world.specs.Done.{octets_numbered};
+ghost use Rattle.fio_world.specs.Link.{item_numbered};
+ghost use Rattle.fio_world.specs.EndToEnd.{between, start_at};
 
-use crate::outcome::WorldError;
-use fio_message::Frame;
+use fio_message::{Frame, Memory};
+use std::alloc::Global;
+use std::marker::Model;
 
-/// Refuses the delivery of the frame with this number, of so many sent in its direction, where none
-/// has it or where the frame delivered last has a higher one.
-pub(crate) fn check_delivery(sent: usize, last: usize, index: usize) -> Result<(), WorldError>
-    ensures { MatchResult result
-        (λ _. delivery_refusal sent last index ≡ None)
-        (λ fault. IsFault (delivery_refusal sent last index) ⊥ fault) }
+/// The most octets of a frame.
+const LONGEST: usize = 773;
+
+/// Frames, numbered from 1. Their octets stand end to end.
+#[derive(Drop)]
+pub(crate) struct StoredFrames {
+    octets: Vec<u8>,
+    ends: Vec<usize>,
+}
+
+impl Model for StoredFrames {
+    ghost use Rattle.std.specs.Prelude.{◌≡◌, ◌&&◌, ◌+◌, true, nat_le, nat_lt, length, vec_len, vec_capacity};
+    ghost use Rattle.fio_world.specs.EndToEnd.{Stored, frames_in, is_cut, are_short};
+
+    ghost Value = { Stored };
+
+    ghost view = { λ f. record {
+      frames = frames_in f.octets.items 0 f.ends.items;
+      has_room = nat_lt (vec_len f.ends) (vec_capacity f.ends)
+          && nat_le (vec_len f.octets + 773) (vec_capacity f.octets);
+    } };
+
+    ghost invariant = { λ f. record {
+      cut : is_cut 0 f.ends.items (length f.octets.items) ≡ true;
+      short : are_short (frames_in f.octets.items 0 f.ends.items) ≡ true;
+    } };
+}
+
+impl StoredFrames {
+    /// No frames. Takes no memory.
+    pub(crate) fn new(alloc: Global) -> StoredFrames
+        ensures { result.frames ≡ [] }
+    {
+        StoredFrames {
+            octets: Vec::new(alloc),
+            ends: Vec::new(alloc),
+        }
+    }
+
+    /// How many frames there are.
+    pub(crate) fn len(&self) -> usize
+        ensures { result ≡ length self.now.frames }
+    {
+        self.ends.len()
+    }
+
+    /// Asks for room for one more frame.
+    pub(crate) fn reserve(&mut self) -> Result<(), Memory>
+        ensures ok { OnOk result (self.new.has_room ≡ true) }
+        ensures same { self.new.frames ≡ self.old.frames }
+    {
+        self.ends.reserve(1)?;
+        self.octets.reserve(LONGEST)?;
+        Ok(())
+    }
+
+    /// Adds a frame, for which there is room.
+    pub(crate) fn add(&mut self, frame: &[u8])
+        requires room { self.old.has_room ≡ true }
+        requires short { length frame.now ≤ 773 }
+        ensures { self.new.frames ≡ self.old.frames ++ frame.now ∷ [] }
+    {
+        self.octets.extend_from_slice(frame).unwrap();
+        self.ends.push(self.octets.len()).unwrap();
+    }
+
+    /// The octets of the frame with this number.
+    pub(crate) fn octets_of(&self, index: usize) -> &[u8]
+        requires { (index ≢ 0) × (index ≤ length self.now.frames) }
+        ensures is { Some result.now ≡ item_numbered self.now.frames index }
+        ensures short { length result.now ≤ 773 }
+    {
+        let start = start_of(self.ends.as_slice(), index - 1);
+        part(self.octets.as_slice(), start, self.ends[index - 1])
+    }
+
+    /// The octets of the frame with this number, or none where there is no such frame.
+    pub(crate) fn octets_or_none(&self, index: usize) -> &[u8]
+        ensures is { result.now ≡ octets_numbered self.now.frames index }
+        ensures short { length result.now ≤ 773 }
+    {
+        match self.get(index) {
+            Some(octets) => octets,
+            None => &[],
+        }
+    }
+
+    /// The octets of the frame with this number, or `None` where none has it.
+    pub(crate) fn get(&self, index: usize) -> Option<&[u8]>
+        ensures is { option_map (λ (octets : Bor (List ℕ)). octets.now) result
+            ≡ item_numbered self.now.frames index }
+        ensures short { IfSome result (λ octets. length octets.now ≤ 773) }
+    {
+        if index == 0 {
+            return None;
+        }
+        if self.len() < index {
+            return None;
+        }
+        Some(self.octets_of(index))
+    }
+}
+
+/// Where the frame with this place starts.
+fn start_of(ends: &[usize], place: usize) -> usize
+    requires { place < length ends.now }
+    ensures { result ≡ start_at 0 ends.now place }
 {
-    if index == 0 || sent < index {
-        return Err(WorldError::NotSent { index });
-    }
-    if index < last {
-        return Err(WorldError::OutOfOrder { index, last });
-    }
-    Ok(())
+    if place == 0 { 0 } else { ends[place - 1] }
+}
+
+/// The octets between two places.
+fn part(octets: &[u8], start: usize, end: usize) -> &[u8]
+    requires { (start ≤ end) × (end ≤ length octets.now) }
+    ensures { result.now ≡ between octets.now start end }
+{
+    &octets[start..end]
 }
 
 /// A frame of these octets.

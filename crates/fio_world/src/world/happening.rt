@@ -1,19 +1,19 @@
 //! One event on a world.
-ghost use Rattle.std.specs.Prelude.{◌≡◌, ◌≢◌, ◌+◌, ◌≤◌, ◌∷◌, ◌++◌, [], ℕ, IfOk, IfErr, OnOk, OnErr, length};
+ghost use Rattle.std.specs.Prelude.{◌≡◌, ◌≢◌, ◌+◌, ◌≤◌, ◌∷◌, ◌++◌, [], ℕ, IfOk, IfErr, MatchResult, OnOk, OnErr, length};
 ghost use Rattle.fio_module.specs.Settings.{Settings};
 ghost use Rattle.fio_world.specs.declared.event.Event.{Event as Happening};
 ghost use Rattle.fio_world.specs.declared.event.Event.TheVariants as events;
 ghost use Rattle.fio_world.specs.Done.{octets_numbered, outcome_in, result_in};
-ghost use Rattle.fio_world.specs.Link.{Machine};
+ghost use Rattle.fio_world.specs.Link.{delivery_refusal, Machine};
 ghost use Rattle.fio_world.specs.Steps.{command_named, event_of};
-ghost use Rattle.fio_world.specs.Worlds.{Shows, Steps};
+ghost use Rattle.fio_world.specs.Worlds.{IsFault, Shows, Steps};
 
 use super::World;
 use super::done::Done;
-use super::frames::{check_delivery, frame_of};
+use super::frames::frame_of;
 use crate::event::Event;
 use crate::outcome::{Outcome, WorldError};
-use crate::steps::{Form, Step, command_named};
+use crate::script::{Form, Step, command_named};
 use fio_message::{Command, Memory, encode_command};
 
 /// What may happen to a world: an event, or a step of a script.
@@ -220,4 +220,20 @@ impl World {
             Err(Memory) => Err(WorldError::Memory),
         }
     }
+}
+
+/// Refuses the delivery of the frame with this number, of so many sent in its direction, where none
+/// has it or where the frame delivered last has a higher one.
+fn check_delivery(sent: usize, last: usize, index: usize) -> Result<(), WorldError>
+    ensures { MatchResult result
+        (λ _. delivery_refusal sent last index ≡ None)
+        (λ fault. IsFault (delivery_refusal sent last index) ⊥ fault) }
+{
+    if index == 0 || sent < index {
+        return Err(WorldError::NotSent { index });
+    }
+    if index < last {
+        return Err(WorldError::OutOfOrder { index, last });
+    }
+    Ok(())
 }

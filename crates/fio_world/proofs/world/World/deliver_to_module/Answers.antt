@@ -7,7 +7,8 @@ use Rattle.fio_world.specs.Link.{delivery_refusal, item_numbered}
 use Rattle.fio_world.specs.Done.{outcome_in, result_in}
 use Rattle.fio_world.specs.declared.world.done.Done.TheVariants.{ToCpu}
 use Rattle.fio_world.specs.Ends.{Ends}
-use Rattle.fio_world.specs.Worlds.{Shows, Steps, IsFault, IsDone, replied_after}
+use Rattle.fio_world.specs.Worlds.{Shows, Steps, IsFault, IsDone}
+use Rattle.fio_world.specs.Outcomes.{replied_after}
 use Rattle.fio_world.proofs.Shown.{may_deliver, reply_octets, silent, told, told_outcome, newest, done_received, fault_to_module}
 use Rattle.fio_world.proofs.world.World.deliver_to_module.Goals as goal
 

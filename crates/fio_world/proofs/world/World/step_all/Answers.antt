@@ -2,13 +2,13 @@ use Rattle.std.proofs.Common.{◌≡◌, ◌+◌, List, ◌∷◌, ◌++◌, [],
 use Rattle.std.proofs.lemmas.List.{take_all}
 use Rattle.std.proofs.lemmas.Option.{slice_get_read}
 use Rattle.fio_world.specs.declared.event.Event.{Event}
-use Rattle.fio_world.specs.Worlds.{events_done, Shows, StandsFor}
+use Rattle.fio_world.specs.Worlds.{events_done, Shows, IsWorldAfter}
 use Rattle.fio_world.proofs.Places.{take_one_more}
 use Rattle.fio_world.proofs.SoundWorlds.{sound_world, stands_for, headline_of}
 use Rattle.fio_world.proofs.world.World.step_all.Goals as goal
 
 pub loop-place-init : goal.loop-place-init
-loop-place-init c settings first before s = subst (λ (es : List Event). StandsFor settings first es c.args.self.now) (sym (append-nil before)) s
+loop-place-init c settings first before s = subst (λ (es : List Event). IsWorldAfter settings first es c.args.self.now) (sym (append-nil before)) s
 
 pub loop-place-preserved : goal.loop-place-preserved
 loop-place-preserved c settings first before s =
@@ -20,7 +20,7 @@ loop-place-preserved c settings first before s =
     let here : slice_get all k ≡ Some e = slice_get_read all (length all) k e refl c.loop-place-test.true c.index-events-place.is in
     let more : events_done above e c.step.result ≡ before ++ take (k + 1) all =
     ap (events_done above e) c.in_default.is ∙ append_assoc before (take k all) (e ∷ []) ∙ ap (λ es. before ++ es) (sym (take_one_more all k e here)) in
-    subst (λ (es : List Event). StandsFor settings first es c.step.new.self) more next
+    subst (λ (es : List Event). IsWorldAfter settings first es c.step.new.self) more next
 
 pub returns-in-Err-clause-stands : goal.returns-in-Err-clause-stands
 returns-in-Err-clause-stands c settings first before s =
@@ -47,9 +47,9 @@ returns-in-Err-clause-err c settings first before s =
 pub returns-clause-stands : goal.returns-clause-stands
 returns-clause-stands c settings first before s =
     sound_world settings first (before ++ c.args.events.now) c.loop-place.self
-    (subst (λ (es : List Event). StandsFor settings first (before ++ es) c.loop-place.self) (take_all c.loop-place.place c.args.events.now c.loop-place-test.false) (c.loop-place.invariant settings first before s))
+    (subst (λ (es : List Event). IsWorldAfter settings first (before ++ es) c.loop-place.self) (take_all c.loop-place.place c.args.events.now c.loop-place-test.false) (c.loop-place.invariant settings first before s))
 
 pub returns-clause-headline : goal.returns-clause-headline
 returns-clause-headline c settings first before s =
     headline_of settings first (before ++ c.args.events.now) c.loop-place.self
-    (subst (λ (es : List Event). StandsFor settings first (before ++ es) c.loop-place.self) (take_all c.loop-place.place c.args.events.now c.loop-place-test.false) (c.loop-place.invariant settings first before s))
+    (subst (λ (es : List Event). IsWorldAfter settings first (before ++ es) c.loop-place.self) (take_all c.loop-place.place c.args.events.now c.loop-place-test.false) (c.loop-place.invariant settings first before s))

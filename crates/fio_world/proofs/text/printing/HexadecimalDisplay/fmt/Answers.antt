@@ -1,4 +1,4 @@
-use Rattle.std.proofs.Common.{◌≡◌, ◌+◌, ◌<◌, ◌++◌, [], ◌∷◌, take, get_or, refl, sym, true, rules, arith}
+use Rattle.std.proofs.Common.{◌<◌, [], ◌∷◌, get_or, refl, sym, true, rules, arith}
 use Rattle.std.proofs.lemmas.Grind.{put_two, common_steps}
 use Rattle.std.specs.Fmt.{HasWritten}
 use Rattle.hex.specs.Hex.{encode_lower}

@@ -1,8 +1,0 @@
-use Rattle.std.proofs.Common.{length, ap, sym, ◌∙◌}
-use Rattle.fio_world.proofs.EndToEndLemmas.{length-frames}
-use Rattle.fio_world.proofs.world.stored.StoredFrames.len.Goals as goal
-
-pub returns : goal.returns
-returns c =
-    let inside = c.self.inside in
-    c.len.ensures ∙ inside.ends.ok.0 ∙ sym (length-frames inside.octets.items 0 inside.ends.items) ∙ ap (λ s. length s.frames) c.self.view_is

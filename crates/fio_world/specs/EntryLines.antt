@@ -1,0 +1,14 @@
+-- The line of an entry, in reports and in what is shown of a block.
+use Rattle.std.specs.Prelude.{ℕ, Bool, List, ◌++◌, codes, decimal}
+use Rattle.fio_message.specs.Bits.{bit_of}
+
+-- the end of an entry's line: its stamp and its wide time, which are those of its scan
+abbrev pub scan_ending : ℕ → ℕ → List ℕ
+scan_ending stamp wide =
+    codes " stamp " ++ (decimal stamp ++ (codes " wide " ++ (decimal wide ++ codes "\n")))
+
+-- an entry, with its wide time
+abbrev pub entry_line : ℕ → Bool → ℕ → ℕ → List ℕ
+entry_line input level stamp wide =
+    codes "input " ++ (decimal input
+    ++ (codes " state " ++ (decimal (bit_of level) ++ scan_ending stamp wide)))
