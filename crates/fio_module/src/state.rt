@@ -17,7 +17,7 @@ use fio_message::{
 const RESET: u8 = 0x80;
 
 /// All of a module but the ring in which its entries wait, in plain memory: its counter, its
-/// filters and the block that it sent last. The ring is handed to each call that reaches it, and
+/// filters and the block that it sent last. The ring is given to each call that reaches it, and
 /// is always the same one.
 #[derive(Debug, Drop)]
 #[repr(C)]

@@ -116,8 +116,8 @@ fn report_texts(rows: &mut Rows<'_>, alloc: Global) {
         "read_script of a fault below a good line",
         Ok(texts::script_with_a_fault(alloc)),
     );
-    rows.report("report", texts::told(alloc));
-    rows.report("report_text", Ok(texts::told_of_text(alloc)));
+    rows.report("report", texts::reported(alloc));
+    rows.report("report_text", Ok(texts::reported_text(alloc)));
     rows.report("read_trace", Ok(texts::transcript(alloc)));
     rows.report(
         "read_trace of faulty lines",

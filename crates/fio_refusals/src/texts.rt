@@ -42,7 +42,7 @@ pub(crate) fn script(alloc: Global) -> Answer {
 }
 
 /// The report of that script.
-pub(crate) fn told(alloc: Global) -> Result<Answer, Memory> {
+pub(crate) fn reported(alloc: Global) -> Result<Answer, Memory> {
     let Ok(script) = read_script(alloc, LOST_ANSWER.script) else {
         return Err(Memory);
     };
@@ -55,7 +55,7 @@ pub(crate) fn told(alloc: Global) -> Result<Answer, Memory> {
 }
 
 /// The same report from the text of the script.
-pub(crate) fn told_of_text(alloc: Global) -> Answer {
+pub(crate) fn reported_text(alloc: Global) -> Answer {
     match report_text(alloc, LOST_ANSWER.script) {
         Ok(report) => {
             Answer::right_if(report.good && report.text.as_slice() == LOST_ANSWER_REPORT)

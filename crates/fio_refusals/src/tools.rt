@@ -23,12 +23,12 @@ fn sample(tool: Tool) -> (&'static [u8], &'static [u8]) {
 /// The text of what is read.
 pub(crate) fn text(alloc: Global, tool: Tool) -> Answer {
     let (input, wanted) = sample(tool);
-    let told = match tool {
+    let answered = match tool {
         Tool::Show => show_text(alloc, input),
         Tool::Simulate => simulate_text(alloc, input),
         Tool::Check => check_text(alloc, input),
     };
-    match told {
+    match answered {
         Ok(report) => Answer::right_if(report.good && report.text.as_slice() == wanted),
         Err(Memory) => Answer::Refused(0),
     }

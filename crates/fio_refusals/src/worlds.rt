@@ -66,19 +66,19 @@ pub(crate) fn step(alloc: Global, sample: &Sample) -> Result<Answer, Memory> {
     let mut second = World::with_limits(alloc, script.id, script.first, script.limits)?;
     let mut answer = Answer::Right;
     for (place, event) in script.events.iter().enumerate() {
-        let mut brought = first.step(event);
-        if brought == Err(WorldError::Memory) {
+        let mut outcome = first.step(event);
+        if outcome == Err(WorldError::Memory) {
             if !are_alike(&first, &second) {
                 return Ok(Answer::Wrong);
             }
             answer = Answer::Refused(place);
-            brought = first.step(event);
+            outcome = first.step(event);
         }
         let wanted = second.step(event);
         if wanted == Err(WorldError::Memory) {
             return Err(Memory);
         }
-        if brought.is_err() || brought != wanted || !are_alike(&first, &second) {
+        if outcome.is_err() || outcome != wanted || !are_alike(&first, &second) {
             return Ok(Answer::Wrong);
         }
     }
