@@ -9,9 +9,7 @@ ghost use Rattle.fio_c.specs.Written.{Writes, WritesNothing};
 use crate::blocks::Entry;
 use crate::written::{write_front, write_with_body};
 use arrayvec::ArrayVec;
-use fio_message::{
-    Answer, BLOCK_ENTRIES, BODY_OCTETS, InputNumber, OtherAnswer, encode_answer,
-};
+use fio_message::{Answer, BLOCK_ENTRIES, BODY_OCTETS, InputNumber, OtherAnswer, encode_answer};
 
 /// Writes an answer, and returns how many octets it has: 0 where there is no room. Inlined, so that no
 /// answer and no frame is made where the type is known.

@@ -96,5 +96,7 @@ pub extern "C" fn fio2070_filters_configure(
 fn first_absent(items: &[ConfigurationItem]) -> Option<usize>
     ensures { result ≡ first_absent items.now }
 {
-    items.iter().position(|item| usize::from(item.input) >= INPUTS)
+    items
+        .iter()
+        .position(|item| usize::from(item.input) >= INPUTS)
 }

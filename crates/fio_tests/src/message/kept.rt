@@ -48,15 +48,11 @@ fn kept_block_sent_again(rt: HostRuntime) {
     let status = BlockStatus::new(true, false, false, true);
     kept.write(5, &first, &second, 2, status, 1000);
     assert_eq!(rt; kept.number(), Some(5));
-    let octets = [
-        0xb6, 5, 2, 0x8c, 3, 0xe7, 3, 3, 0xe8, 9, 0, 0, 3, 0xe8,
-    ];
+    let octets = [0xb6, 5, 2, 0x8c, 3, 0xe7, 3, 3, 0xe8, 9, 0, 0, 3, 0xe8];
     assert_eq!(rt; kept.as_slice(), octets.as_slice());
     kept.mark_again();
     let mut frame = Frame::new();
     kept.copy_to(&mut frame);
-    let again = [
-        0xb6, 5, 2, 0x8c, 3, 0xe7, 3, 3, 0xe8, 10, 0, 0, 3, 0xe8,
-    ];
+    let again = [0xb6, 5, 2, 0x8c, 3, 0xe7, 3, 3, 0xe8, 10, 0, 0, 3, 0xe8];
     assert_eq!(rt; frame.as_slice(), again.as_slice());
 }
