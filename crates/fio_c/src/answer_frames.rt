@@ -1,5 +1,6 @@
 //! Answers, written into a buffer of the caller.
 ghost use Rattle.std.specs.Prelude.{◌≡◌, ◌<◌, ◌≤◌, length, Some, None, true, false, if◌then◌else◌};
+ghost use Rattle.fio_message.specs.declared.limits.TheConstants.{BODY_OCTETS};
 ghost use Rattle.fio_message.specs.Answers.{answer_octets};
 ghost use Rattle.fio_message.specs.declared.answers.Answer.TheVariants as answers;
 ghost use Rattle.fio_message.specs.declared.answers.OtherAnswer.{OtherAnswer as Kind};
@@ -144,11 +145,11 @@ pub extern "C" fn fio2070_encode_watchdog_answer(status: u8, out: &mut [u8]) -> 
 /// 772 octets.
 #[unsafe(no_mangle)]
 pub extern "C" fn fio2070_encode_other_answer(code: u8, body: &[u8], out: &mut [u8]) -> usize
-    ensures written { (kind : Kind) → kind_of_answer code ≡ Some kind → length body.now ≤ 772
+    ensures written { (kind : Kind) → kind_of_answer code ≡ Some kind → length body.now ≤ BODY_OCTETS
         → Writes (answer_octets (answers.Other kind (record { items = body.now })))
         out.old out.new result }
     ensures unknown { kind_of_answer code ≡ None → WritesNothing out.old out.new result }
-    ensures long { 772 < length body.now → WritesNothing out.old out.new result }
+    ensures long { BODY_OCTETS < length body.now → WritesNothing out.old out.new result }
 {
     let Some(kind) = kind_of(code) else {
         return 0;

@@ -1,5 +1,6 @@
 //! Commands, written into a buffer of the caller.
 ghost use Rattle.std.specs.Prelude.{◌≡◌, ◌<◌, ◌≤◌, length, Some, None, true, false, if◌then◌else◌};
+ghost use Rattle.fio_message.specs.declared.limits.TheConstants.{BODY_OCTETS};
 ghost use Rattle.fio_message.specs.Commands.{command_octets};
 ghost use Rattle.fio_message.specs.declared.commands.OtherCommand.{OtherCommand as Kind};
 ghost use Rattle.fio_message.specs.declared.commands.Command.TheVariants as commands;
@@ -146,11 +147,11 @@ pub extern "C" fn fio2070_encode_identify(out: &mut [u8]) -> usize
 /// many octets it has: 0 where there is no room, for any other type, and for more than 772 octets.
 #[unsafe(no_mangle)]
 pub extern "C" fn fio2070_encode_other_command(code: u8, body: &[u8], out: &mut [u8]) -> usize
-    ensures written { (kind : Kind) → kind_of_command code ≡ Some kind → length body.now ≤ 772
+    ensures written { (kind : Kind) → kind_of_command code ≡ Some kind → length body.now ≤ BODY_OCTETS
         → Writes (command_octets (commands.Other kind (record { items = body.now })))
         out.old out.new result }
     ensures unknown { kind_of_command code ≡ None → WritesNothing out.old out.new result }
-    ensures long { 772 < length body.now → WritesNothing out.old out.new result }
+    ensures long { BODY_OCTETS < length body.now → WritesNothing out.old out.new result }
 {
     let Some(kind) = kind_of(code) else {
         return 0;

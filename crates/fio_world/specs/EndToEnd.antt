@@ -1,5 +1,6 @@
 -- Frames that stand end to end, and where each ends.
 use Rattle.std.specs.Prelude.{◌==◌, ◌&&◌, nat_le, ◌-◌, ℕ, zero, suc, Bool, List, [], ◌∷◌, length, take, drop}
+use Rattle.fio_message.specs.declared.limits.TheConstants.{FRAME_OCTETS}
 use Rattle.std.specs.List.{list_all}
 
 -- the octets between two places
@@ -18,7 +19,7 @@ is_cut start (end ∷ ends) last = nat_le start end && is_cut end ends last
 
 -- frames of at most 773 octets
 abbrev pub are_short : List (List ℕ) → Bool
-are_short frames = list_all (λ frame. nat_le (length frame) 773) frames
+are_short frames = list_all (λ frame. nat_le (length frame) FRAME_OCTETS) frames
 
 -- where the frame with a place starts, from 0
 abbrev pub start_at : ℕ → List ℕ → ℕ → ℕ

@@ -11,6 +11,7 @@ use Rattle.fio_world.specs.EventLines.{event_at, too_many_at}
 use Rattle.fio_world.specs.Headers.{header_of}
 use Rattle.fio_world.specs.declared.script.header.Header.{Header}
 use Rattle.fio_world.specs.Lines.{lines_of, numbered}
+use Rattle.fio_world.specs.declared.script.events.TheConstants.{MAX_EVENTS}
 
 -- what a module and a CPU are made with, and what then happens
 pub record Scenario : Type 0 where
@@ -25,7 +26,7 @@ readings most restarts lines =
 
 -- the events of the lines below a header, 10,000 at most, or the fault of the first faulty line
 abbrev pub events_of : Bool → List (List ℕ) → Result (List Event) ScriptError
-events_of restarts lines = collected (readings 10000 restarts (numbered 2 lines))
+events_of restarts lines = collected (readings MAX_EVENTS restarts (numbered 2 lines))
 
 -- a module with this identification and these limits, a CPU with this first number, and what then
 -- happens

@@ -12,7 +12,7 @@ use super::steps::{Form, Step};
 use crate::text::{
     after_prefix, numbered_lines, read_inputs, read_number, read_octet, read_octets_to,
 };
-use fio_message::{DecodeError, decode_command};
+use fio_message::{DecodeError, FRAME_OCTETS, decode_command};
 use std::alloc::Global;
 
 /// The most events of a script (own profile).
@@ -89,7 +89,7 @@ fn read_step<'a>(number: usize, line: &'a [u8], restarts: bool) -> Result<Step<'
 fn read_sending<'a>(number: usize, word: &'a [u8]) -> Result<Step<'a>, ScriptError>
     ensures { result ≡ frame_at number (octets_in word.now) }
 {
-    let mut room = [0; 773];
+    let mut room = [0; FRAME_OCTETS];
     let Some(count) = read_octets_to(word, &mut room) else {
         return Err(ScriptError::BadLine { line: number });
     };

@@ -4,7 +4,7 @@ ghost use Rattle.fio_world.specs.Steps.{command_named, event_of};
 
 use crate::event::Event;
 use crate::text::read_octets_to;
-use fio_message::{Command, decode_command};
+use fio_message::{Command, FRAME_OCTETS, decode_command};
 use std::marker::Model;
 
 /// An event of a script. The command of a `send` stays a word of the text.
@@ -67,7 +67,7 @@ impl Step<'_> {
 pub(crate) fn command_named(word: &[u8]) -> Command
     ensures { result ≡ command_named word.now }
 {
-    let mut room = [0; 773];
+    let mut room = [0; FRAME_OCTETS];
     let Some(count) = read_octets_to(word, &mut room) else {
         return Command::Poll { block: 0 };
     };

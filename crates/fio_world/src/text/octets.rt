@@ -1,8 +1,11 @@
 //! The octets that hexadecimal digits name, read without memory.
 ghost use Rattle.std.specs.Prelude.{◌≡◌, ◌≤◌, ◌/◌, Some, IfSome, true, is_some, length, option_map, take};
+ghost use Rattle.fio_message.specs.declared.limits.TheConstants.{FRAME_OCTETS};
 ghost use Rattle.std.specs.List.{list_all};
 ghost use Rattle.fio_world.specs.Hexadecimal.{octets_in};
 ghost use Rattle.hex.specs.Hex.{is_hex_digit};
+
+use fio_message::FRAME_OCTETS;
 
 /// Whether a word is an even number of hexadecimal digits of either case, at least two.
 #[tactic(auto, using(crate::proofs::OctetLemmas::digits_name, crate::proofs::OctetLemmas::odd_names_none))]
@@ -31,18 +34,18 @@ fn is_digit(digit: u8) -> bool
 /// for any other word. If they are at most 773, as many as a frame has, they are written to the front
 /// of the room.
 #[tactic(auto, using(crate::proofs::OctetLemmas::counted))]
-pub fn read_octets_to(word: &[u8], room: &mut [u8; 773]) -> Option<usize>
+pub fn read_octets_to(word: &[u8], room: &mut [u8; FRAME_OCTETS]) -> Option<usize>
     ensures count { result ≡ option_map length (octets_in word.now) }
     ensures read { IfSome result (λ count.
-        count ≤ 773 → octets_in word.now ≡ Some (take count room.new)) }
+        count ≤ FRAME_OCTETS → octets_in word.now ≡ Some (take count room.new)) }
 {
     decode_front(word, room).then_some(word.len() / 2)
 }
 
 /// Whether a word names octets. They are written to the front of the room, where they have it.
-fn decode_front(word: &[u8], room: &mut [u8; 773]) -> bool
+fn decode_front(word: &[u8], room: &mut [u8; FRAME_OCTETS]) -> bool
     ensures named { result ≡ is_some (octets_in word.now) }
-    ensures read { result ≡ true → length word.now / 2 ≤ 773
+    ensures read { result ≡ true → length word.now / 2 ≤ FRAME_OCTETS
         → octets_in word.now ≡ Some (take (length word.now / 2) room.new) }
 {
     let count = word.len() / 2;

@@ -1,17 +1,15 @@
 //! The frames sent in one direction, end to end.
 ghost use Rattle.std.specs.Prelude.{◌≡◌, ◌≢◌, ◌≤◌, ◌<◌, ◌∷◌, ◌++◌, [], List, ℕ, Some, true, length, IfSome, OnOk, OnErr};
+ghost use Rattle.fio_message.specs.declared.limits.TheConstants.{FRAME_OCTETS};
 ghost use Rattle.std.specs.Option.{option_map};
 ghost use Rattle.std.specs.Borrow.{Bor};
 ghost use Rattle.fio_world.specs.Done.{octets_numbered};
 ghost use Rattle.fio_world.specs.Link.{item_numbered};
 ghost use Rattle.fio_world.specs.EndToEnd.{between, start_at};
 
-use fio_message::{Frame, Memory};
+use fio_message::{FRAME_OCTETS, Frame, Memory};
 use std::alloc::Global;
 use std::marker::Model;
-
-/// The most octets of a frame.
-const LONGEST: usize = 773;
 
 /// Frames, numbered from 1. Their octets stand end to end.
 #[derive(Drop)]
@@ -22,6 +20,7 @@ pub(crate) struct StoredFrames {
 
 impl Model for StoredFrames {
     ghost use Rattle.std.specs.Prelude.{◌≡◌, ◌&&◌, ◌+◌, true, nat_le, nat_lt, length, vec_len, vec_capacity};
+    ghost use Rattle.fio_message.specs.declared.limits.TheConstants.{FRAME_OCTETS};
     ghost use Rattle.fio_world.specs.EndToEnd.{Stored, frames_in, is_cut, are_short};
 
     ghost Value = { Stored };
@@ -29,7 +28,7 @@ impl Model for StoredFrames {
     ghost view = { λ f. record {
       frames = frames_in f.octets.items 0 f.ends.items;
       has_room = nat_lt (vec_len f.ends) (vec_capacity f.ends)
-          && nat_le (vec_len f.octets + 773) (vec_capacity f.octets);
+          && nat_le (vec_len f.octets + FRAME_OCTETS) (vec_capacity f.octets);
     } };
 
     ghost invariant = { λ f. record {
@@ -62,14 +61,14 @@ impl StoredFrames {
         ensures same { self.new.frames ≡ self.old.frames }
     {
         self.ends.reserve(1)?;
-        self.octets.reserve(LONGEST)?;
+        self.octets.reserve(FRAME_OCTETS)?;
         Ok(())
     }
 
     /// Adds a frame, for which there is room.
     pub(crate) fn add(&mut self, frame: &[u8])
         requires room { self.old.has_room ≡ true }
-        requires short { length frame.now ≤ 773 }
+        requires short { length frame.now ≤ FRAME_OCTETS }
         ensures { self.new.frames ≡ self.old.frames ++ frame.now ∷ [] }
     {
         self.octets.extend_from_slice(frame).unwrap();
@@ -80,7 +79,7 @@ impl StoredFrames {
     pub(crate) fn octets_of(&self, index: usize) -> &[u8]
         requires { (index ≢ 0) × (index ≤ length self.now.frames) }
         ensures is { Some result.now ≡ item_numbered self.now.frames index }
-        ensures short { length result.now ≤ 773 }
+        ensures short { length result.now ≤ FRAME_OCTETS }
     {
         let start = start_of(self.ends.as_slice(), index - 1);
         part(self.octets.as_slice(), start, self.ends[index - 1])
@@ -89,7 +88,7 @@ impl StoredFrames {
     /// The octets of the frame with this number, or none where there is no such frame.
     pub(crate) fn octets_or_none(&self, index: usize) -> &[u8]
         ensures is { result.now ≡ octets_numbered self.now.frames index }
-        ensures short { length result.now ≤ 773 }
+        ensures short { length result.now ≤ FRAME_OCTETS }
     {
         match self.get(index) {
             Some(octets) => octets,
@@ -101,7 +100,7 @@ impl StoredFrames {
     pub(crate) fn get(&self, index: usize) -> Option<&[u8]>
         ensures is { option_map (λ (octets : Bor (List ℕ)). octets.now) result
             ≡ item_numbered self.now.frames index }
-        ensures short { IfSome result (λ octets. length octets.now ≤ 773) }
+        ensures short { IfSome result (λ octets. length octets.now ≤ FRAME_OCTETS) }
     {
         if index == 0 {
             return None;
@@ -131,7 +130,7 @@ fn part(octets: &[u8], start: usize, end: usize) -> &[u8]
 
 /// A frame of these octets.
 pub(crate) fn frame_of(octets: &[u8]) -> Frame
-    requires { length octets.now ≤ 773 }
+    requires { length octets.now ≤ FRAME_OCTETS }
     ensures { result ≡ record { items = octets.now } }
 {
     match Frame::try_from(octets) {

@@ -1,5 +1,6 @@
 //! One event on a world.
 ghost use Rattle.std.specs.Prelude.{◌≡◌, ◌≢◌, ◌+◌, ◌≤◌, ◌∷◌, ◌++◌, [], ℕ, IfOk, IfErr, MatchResult, OnOk, OnErr, length};
+ghost use Rattle.fio_message.specs.declared.limits.TheConstants.{FRAME_OCTETS};
 ghost use Rattle.fio_module.specs.Settings.{Settings};
 ghost use Rattle.fio_world.specs.declared.event.Event.{Event as Happening};
 ghost use Rattle.fio_world.specs.declared.event.Event.TheVariants as events;
@@ -148,7 +149,7 @@ impl World {
     /// The octets of the frame to the module with this number, or none where there is no such frame.
     pub(crate) fn octets_to_module(&self, index: usize) -> &[u8]
         ensures is { result.now ≡ octets_numbered self.now.to_module index }
-        ensures short { length result.now ≤ 773 }
+        ensures short { length result.now ≤ FRAME_OCTETS }
     {
         self.to_module.octets_or_none(index)
     }
@@ -156,14 +157,14 @@ impl World {
     /// The same of the frame to the CPU.
     pub(crate) fn octets_to_cpu(&self, index: usize) -> &[u8]
         ensures is { result.now ≡ octets_numbered self.now.to_cpu index }
-        ensures short { length result.now ≤ 773 }
+        ensures short { length result.now ≤ FRAME_OCTETS }
     {
         self.to_cpu.octets_or_none(index)
     }
 
     /// The CPU sends a frame: it joins those to the module.
     pub(crate) fn send(&mut self, frame: &[u8]) -> Result<Done, WorldError>
-        requires { length frame.now ≤ 773 }
+        requires { length frame.now ≤ FRAME_OCTETS }
         ensures outcome { IfOk result (λ done. outcome_in self.new done
             ≡ Outcome.Sent (length self.old.to_module + 1) (record { items = frame.now })) }
         ensures ok { OnOk result (self.new
