@@ -1,5 +1,5 @@
 -- What the readers of answers report of octets, as what the CPU hears in them.
-use Rattle.std.proofs.Common.{◌≡◌, ◌↔◌, ℕ, List, Option, Some, None, Result, Ok, Err, ap, sym, refl}
+use Rattle.std.proofs.Common.{◌≡◌, ◌↔◌, ℕ, List, Option, Some, None, Result, Ok, Err, ap, refl}
 use Rattle.std.specs.Option.{ok_or}
 use Rattle.fio_message.specs.declared.answers.Answer.{Answer}
 use Rattle.fio_message.specs.declared.answers.Answer.TheVariants as answers
