@@ -33,8 +33,8 @@ MESSAGES = [
 
 class Messages(unittest.TestCase):
     def test_octets(self):
-        for octets, wanted in MESSAGES:
-            self.assertEqual(octets.hex(), wanted)
+        for octets, expected in MESSAGES:
+            self.assertEqual(octets.hex(), expected)
 
     def test_commands(self):
         command = fio2070.decode_command(bytes.fromhex('33020c0503830000'))
@@ -159,7 +159,7 @@ class Tester(unittest.TestCase):
     def test_modules(self):
         self.assertIsNone(tester.run(Proved(), events=20_000))
         script = tester.run(Forgetful(), events=20_000)
-        self.assertIn('\npoll\nto-module 1\npoll\nto-module 2\n# wanted: ', script)
+        self.assertIn('\npoll\nto-module 1\npoll\nto-module 2\n# expected: ', script)
         self.assertIn('sent again with E set', script)
 
     def test_cpu(self):

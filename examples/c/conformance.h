@@ -126,12 +126,12 @@ struct ends {
 
 /* What the proved end and the one under test did at the last event. */
 struct difference {
-    size_t wanted_length, got_length; /* of the answers, or of the polls; 0 where the CPU's end heard a frame */
-    uint8_t wanted[FIO2070_LONGEST_FRAME], got[FIO2070_LONGEST_FRAME];
+    size_t expected_length, got_length; /* of the answers, or of the polls; 0 where the CPU's end heard a frame */
+    uint8_t expected[FIO2070_LONGEST_FRAME], got[FIO2070_LONGEST_FRAME];
     uint8_t heard;                  /* what the frame was that the CPU's end heard: an enum fio2070_heard_kind */
-    size_t wanted_items, got_items; /* that the record gained */
-    struct fio2070_record_item wanted_record[FIO2070_MOST_RECORD_ITEMS], got_record[FIO2070_MOST_RECORD_ITEMS];
-    uint8_t wanted_number, got_number; /* of the CPU's end */
+    size_t expected_items, got_items; /* that the record gained */
+    struct fio2070_record_item expected_record[FIO2070_MOST_RECORD_ITEMS], got_record[FIO2070_MOST_RECORD_ITEMS];
+    uint8_t expected_number, got_number; /* of the CPU's end */
 };
 
 /* Fills a script of CONFORMANCE_LONGEST events. */

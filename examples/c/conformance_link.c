@@ -18,7 +18,7 @@ static void log_frame(const struct link *link, char direction, const uint8_t *oc
 }
 
 static int are_same_octets(const struct difference *both) {
-    return both->wanted_length == both->got_length && memcmp(both->wanted, both->got, both->wanted_length) == 0;
+    return both->expected_length == both->got_length && memcmp(both->expected, both->got, both->expected_length) == 0;
 }
 
 int link_same_items(const struct fio2070_record_item *one, const struct fio2070_record_item *other) {
@@ -28,9 +28,9 @@ int link_same_items(const struct fio2070_record_item *one, const struct fio2070_
 
 static int are_same_records(const struct difference *both) {
     size_t place;
-    if (both->wanted_items != both->got_items) return 0;
-    for (place = 0; place < both->wanted_items; place++) {
-        if (!link_same_items(&both->wanted_record[place], &both->got_record[place])) return 0;
+    if (both->expected_items != both->got_items) return 0;
+    for (place = 0; place < both->expected_items; place++) {
+        if (!link_same_items(&both->expected_record[place], &both->got_record[place])) return 0;
     }
     return 1;
 }
@@ -39,13 +39,13 @@ static int are_same_records(const struct difference *both) {
 static int exchange(struct link *link, const struct frame *command, struct difference *difference) {
     const struct maker *maker = link->ends.module;
     struct frame *kept = &link->answers[(link->answered + 1) % KEPT_ANSWERS];
-    size_t length = fio2070_module_receive(&link->module, command->octets, command->length, difference->wanted);
+    size_t length = fio2070_module_receive(&link->module, command->octets, command->length, difference->expected);
     if (length > 0) {
-        set_frame(kept, difference->wanted, length);
+        set_frame(kept, difference->expected, length);
         link->answered++;
     }
     if (maker == NULL) return 0;
-    difference->wanted_length = length;
+    difference->expected_length = length;
     difference->got_length = maker->exchange(maker->context, command->octets, command->length, difference->got);
     if (difference->got_length > FIO2070_LONGEST_FRAME) difference->got_length = FIO2070_LONGEST_FRAME;
     return !are_same_octets(difference);
@@ -56,25 +56,25 @@ static int hear(struct link *link, const uint8_t *octets, size_t length, struct 
     const struct cpu_maker *maker = link->ends.cpu;
     struct fio2070_heard heard;
     log_frame(link, '<', octets, length);
-    heard = fio2070_poller_hear(&link->cpu, octets, length, difference->wanted_record, FIO2070_MOST_RECORD_ITEMS);
+    heard = fio2070_poller_hear(&link->cpu, octets, length, difference->expected_record, FIO2070_MOST_RECORD_ITEMS);
     if (maker == NULL) return 0;
-    difference->wanted_length = difference->got_length = 0;
+    difference->expected_length = difference->got_length = 0;
     difference->heard = heard.kind;
-    difference->wanted_items = heard.items;
+    difference->expected_items = heard.items;
     difference->got_items = maker->hear(maker->context, octets, length, difference->got_record);
     if (difference->got_items > FIO2070_MOST_RECORD_ITEMS) difference->got_items = FIO2070_MOST_RECORD_ITEMS;
-    difference->wanted_number = link->cpu.number;
+    difference->expected_number = link->cpu.number;
     difference->got_number = maker->number(maker->context);
-    return !are_same_records(difference) || difference->wanted_number != difference->got_number;
+    return !are_same_records(difference) || difference->expected_number != difference->got_number;
 }
 
 int link_poll(struct link *link, struct difference *difference) {
     const struct cpu_maker *maker = link->ends.cpu;
-    size_t length = fio2070_poller_poll(&link->cpu, difference->wanted, FIO2070_LONGEST_FRAME);
-    set_frame(&link->command, difference->wanted, length);
+    size_t length = fio2070_poller_poll(&link->cpu, difference->expected, FIO2070_LONGEST_FRAME);
+    set_frame(&link->command, difference->expected, length);
     link->sent++;
     if (maker == NULL) return 0;
-    difference->wanted_length = length;
+    difference->expected_length = length;
     difference->got_length = maker->poll(maker->context, difference->got);
     if (difference->got_length > FIO2070_LONGEST_FRAME) difference->got_length = FIO2070_LONGEST_FRAME;
     log_frame(link, '>', difference->got, difference->got_length);

@@ -6,14 +6,14 @@
 /* ---- The rule ---- */
 
 /* The first bit of a status in which both differ, from the highest. */
-static unsigned first_bit(unsigned wanted, unsigned got) {
+static unsigned first_bit(unsigned expected, unsigned got) {
     unsigned bit = 128;
-    while (bit > 0 && !((wanted ^ got) & bit)) bit /= 2;
+    while (bit > 0 && !((expected ^ got) & bit)) bit /= 2;
     return bit;
 }
 
-static const char *rule_of_status(unsigned wanted, unsigned got) {
-    switch (first_bit(wanted, got)) {
+static const char *rule_of_status(unsigned expected, unsigned got) {
+    switch (first_bit(expected, got)) {
     case FIO2070_MORE: return "C is set exactly where more than 255 waited.";
     case FIO2070_LOST: return "F is set exactly where an entry was pushed out since the block before was made";
     case FIO2070_AGAIN: return "The block that was sent last is sent again with E set.";
@@ -25,20 +25,20 @@ static const char *rule_of_status(unsigned wanted, unsigned got) {
 
 /* Both are block answers. */
 static const char *rule_of_block(const struct difference *difference) {
-    struct fio2070_block_header wanted, got;
-    memset(&wanted, 0, sizeof wanted);
+    struct fio2070_block_header expected, got;
+    memset(&expected, 0, sizeof expected);
     memset(&got, 0, sizeof got);
-    fio2070_read_block(difference->wanted, difference->wanted_length, &wanted);
+    fio2070_read_block(difference->expected, difference->expected_length, &expected);
     if (fio2070_read_block(difference->got, difference->got_length, &got).kind != FIO2070_NO_FAULT) {
         return "A new block takes the oldest 255 waiting entries, or all where fewer wait.";
     }
-    if (wanted.number != got.number) return "The answer carries the number that was asked for.";
-    if (wanted.status != got.status) return rule_of_status(wanted.status, got.status);
-    if (wanted.status & FIO2070_AGAIN) {
+    if (expected.number != got.number) return "The answer carries the number that was asked for.";
+    if (expected.status != got.status) return rule_of_status(expected.status, got.status);
+    if (expected.status & FIO2070_AGAIN) {
         return "It repeats the number, the entries, C, F and the stamp of the first sending, and G is clear.";
     }
-    if (wanted.stamp != got.stamp) return "The stamp of a new block is the counter when it is made.";
-    if (wanted.status & FIO2070_LOST) return "At most 1,024 entries wait. One more pushes out the oldest.";
+    if (expected.stamp != got.stamp) return "The stamp of a new block is the counter when it is made.";
+    if (expected.status & FIO2070_LOST) return "At most 1,024 entries wait. One more pushes out the oldest.";
     return "Each transition of an input that is not ignored becomes an entry";
 }
 
@@ -64,7 +64,7 @@ const char *conformance_rule(const uint8_t *octets, size_t length, const struct 
     if (fio2070_decode_command(octets, length, &command).kind != FIO2070_NO_FAULT) {
         return "Nothing else is refused: a decoder accepts exactly the octets that some message spells.";
     }
-    if (difference->wanted_length == 0 || difference->got_length == 0) return NULL;
+    if (difference->expected_length == 0 || difference->got_length == 0) return NULL;
     if (difference->got[0] != octets[0] + FIO2070_ANSWER) {
         return "The type of an answer is the type of its command plus 128.";
     }
@@ -76,16 +76,16 @@ const char *conformance_rule(const uint8_t *octets, size_t length, const struct 
 /* The first item that both have and that is not the same, or how many items the shorter record has. */
 static size_t first_item(const struct difference *difference) {
     size_t place = 0;
-    while (place < difference->wanted_items && place < difference->got_items &&
-           link_same_items(&difference->wanted_record[place], &difference->got_record[place])) {
+    while (place < difference->expected_items && place < difference->got_items &&
+           link_same_items(&difference->expected_record[place], &difference->got_record[place])) {
         place++;
     }
     return place;
 }
 
-static const char *rule_of_item(const struct fio2070_record_item *wanted, const struct fio2070_record_item *got) {
-    if (wanted->gap == got->gap && wanted->input == got->input && wanted->stamp == got->stamp) {
-        if (wanted->state != got->state) return "bit 7: the state after the transition; bits 6 to 0: the input number";
+static const char *rule_of_item(const struct fio2070_record_item *expected, const struct fio2070_record_item *got) {
+    if (expected->gap == got->gap && expected->input == got->input && expected->stamp == got->stamp) {
+        if (expected->state != got->state) return "bit 7: the state after the transition; bits 6 to 0: the input number";
         return "the one number that has the entry's 16 bits as its low 16 bits and lies fewer than 65,536 steps";
     }
     return "Taking a block appends one gap mark where F is set, and then all of its entries in order.";
@@ -93,15 +93,15 @@ static const char *rule_of_item(const struct fio2070_record_item *wanted, const 
 
 const char *conformance_cpu_rule(const struct difference *difference) {
     size_t place = first_item(difference);
-    if (difference->wanted_length > 0) return "until then each poll asks for the same block again.";
+    if (difference->expected_length > 0) return "until then each poll asks for the same block again.";
     switch (difference->heard) {
     case FIO2070_UNREADABLE: return "spells no answer";
     case FIO2070_OTHER: return "is an answer of another type than 182";
     case FIO2070_STALE: return "is a 182 with another number than the CPU's";
     default: break;
     }
-    if (place < difference->wanted_items || place < difference->got_items) {
-        return rule_of_item(&difference->wanted_record[place], &difference->got_record[place]);
+    if (place < difference->expected_items || place < difference->got_items) {
+        return rule_of_item(&difference->expected_record[place], &difference->got_record[place]);
     }
     return "It rises by one, with 0 after 255, only when an answer with that number is taken";
 }
@@ -134,7 +134,7 @@ static void write_record(const char *who, uint8_t number, const struct fio2070_r
 
 static void write_difference(const struct difference *difference, FILE *out) {
     size_t place = first_item(difference);
-    write_record("wanted", difference->wanted_number, difference->wanted_record, difference->wanted_items, place, out);
+    write_record("expected", difference->expected_number, difference->expected_record, difference->expected_items, place, out);
     write_record("got", difference->got_number, difference->got_record, difference->got_items, place, out);
 }
 
@@ -161,8 +161,8 @@ void conformance_report(const struct ends *ends, const struct script *script, co
                         FILE *out) {
     static struct frame frame;
     conformance_write(script, out);
-    if (ends->cpu == NULL || difference->wanted_length > 0) {
-        write_octets("wanted", difference->wanted, difference->wanted_length, out);
+    if (ends->cpu == NULL || difference->expected_length > 0) {
+        write_octets("expected", difference->expected, difference->expected_length, out);
         write_octets("got", difference->got, difference->got_length, out);
     } else {
         write_difference(difference, out);

@@ -103,7 +103,7 @@ def facts_of_frame(row, octets):
     return facts
 
 
-def wanted_of_frame(octets, lines):
+def expected_of_frame(octets, lines):
     """What it is to say, from the octets and the lines of `show`."""
     refused = bool(FAULT.fullmatch(lines[0]))
     inputs = [int(line.split()[1]) for line in lines[1:]]
@@ -132,9 +132,9 @@ def fault_of_frame(octets, lines, row):
         found = facts_of_frame(row, octets)
     except ValueError as fault:
         return 'fields of %s: %s' % (octets.hex()[:40], fault)
-    for name, wanted in wanted_of_frame(octets, lines).items():
-        if found.get(name) != wanted:
-            return '%s of %s: %r, wanted %r' % (name, octets.hex()[:40], found.get(name), wanted)
+    for name, expected in expected_of_frame(octets, lines).items():
+        if found.get(name) != expected:
+            return '%s of %s: %r, expected %r' % (name, octets.hex()[:40], found.get(name), expected)
     return None
 
 
@@ -157,7 +157,7 @@ def commands_of(frames, kinds):
     return found
 
 
-def wanted_links(frames, shows):
+def expected_links(frames, shows):
     """For each frame: the place of its first answer, of its command, and of the poll that it repeats; whether it skips
     a block, was not asked for, or is a further answer."""
     kinds = kinds_of(frames, shows)
@@ -197,9 +197,9 @@ def links_of(row):
 
 def fault_of_links(frames, shows, rows):
     """The first difference in the links of a transcript whose frames are a millisecond apart, or None."""
-    for place, (wanted, row) in enumerate(zip(wanted_links(frames, shows), rows, strict=True)):
-        if links_of(row) != wanted:
-            return 'links of frame %d: %r, wanted %r' % (place + 1, links_of(row), wanted)
-        if wanted[1] is not None and round(float(row['fio2070.time']) * 1000) != place - wanted[1]:
+    for place, (expected, row) in enumerate(zip(expected_links(frames, shows), rows, strict=True)):
+        if links_of(row) != expected:
+            return 'links of frame %d: %r, expected %r' % (place + 1, links_of(row), expected)
+        if expected[1] is not None and round(float(row['fio2070.time']) * 1000) != place - expected[1]:
             return 'time of frame %d: %s' % (place + 1, row['fio2070.time'])
     return None

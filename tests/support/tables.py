@@ -29,15 +29,15 @@ class Judge:
         self.passed = 0
         self.failed = 0
 
-    def row(self, tool, text, wanted, status):
-        """The tool writes the wanted text for this input, and ends with the status."""
+    def row(self, tool, text, expected, status):
+        """The tool writes the expected text for this input, and ends with the status."""
         found = output_of(tool, text)
-        if found == (wanted, status):
+        if found == (expected, status):
             self.passed += 1
             return
         self.failed += 1
         print('%s %r\nis to write %r with status %d\nand wrote   %r with status %d'
-              % (tool, text[:200], wanted[:400], status, found[0][:400], found[1]))
+              % (tool, text[:200], expected[:400], status, found[0][:400], found[1]))
 
     def end(self):
         """Prints the last line, and ends."""

@@ -12,9 +12,9 @@ pub(crate) enum Answer {
 }
 
 impl Answer {
-    /// Right where the answer is the wanted one.
-    pub(crate) fn right_if(is_wanted: bool) -> Answer {
-        if is_wanted {
+    /// Right where the answer is the expected one.
+    pub(crate) fn right_if(is_expected: bool) -> Answer {
+        if is_expected {
             Answer::Right
         } else {
             Answer::Wrong

@@ -68,9 +68,9 @@ pub(crate) fn nothing(alloc: Global) -> Answer {
         ),
         (&[0xb6, 5, 0, 0, 0, 0, 3, 0xe8], empty),
     ];
-    for (octets, wanted) in rows {
+    for (octets, expected) in rows {
         match poller.hear(octets) {
-            Ok(heard) if heard == wanted => (),
+            Ok(heard) if heard == expected => (),
             Err(Memory) => return Answer::refused_if(poller.items().is_empty()),
             Ok(_) => return Answer::Wrong,
         }
@@ -80,7 +80,7 @@ pub(crate) fn nothing(alloc: Global) -> Answer {
 
 /// The octets are taken, at last the second time, and so many items are recorded. Where memory was
 /// refused, the record was empty then and the number was as before.
-fn hear(alloc: Global, octets: &[u8], items: usize, wanted: Heard) -> Answer {
+fn hear(alloc: Global, octets: &[u8], items: usize, expected: Heard) -> Answer {
     let mut poller = Poller::new(alloc, 5);
     let mut heard = poller.hear(octets);
     let mut answer = Answer::Right;
@@ -88,7 +88,7 @@ fn hear(alloc: Global, octets: &[u8], items: usize, wanted: Heard) -> Answer {
         answer = Answer::refused_if(poller.number() == 5 && poller.items().is_empty());
         heard = poller.hear(octets);
     }
-    if heard == Ok(wanted) && poller.number() == 6 && poller.items().len() == items {
+    if heard == Ok(expected) && poller.number() == 6 && poller.items().len() == items {
         answer
     } else {
         Answer::Wrong

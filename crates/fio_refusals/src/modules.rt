@@ -55,8 +55,8 @@ pub(crate) fn others(alloc: Global) -> Result<Answer, Memory> {
         (&[0x3c], &[0xbc, 2]),
         (&[0x30], &[]),
     ];
-    for (octets, wanted) in rows {
-        if !is_answered(&mut module, octets, wanted) {
+    for (octets, expected) in rows {
+        if !is_answered(&mut module, octets, expected) {
             return Ok(Answer::Wrong);
         }
     }
@@ -88,10 +88,10 @@ fn opens_all_inputs() -> [u8; 194] {
     octets
 }
 
-/// The module answers octets as it is wanted, and not at all where nothing is wanted.
-fn is_answered(module: &mut Module, octets: &[u8], wanted: &[u8]) -> bool {
+/// The module answers octets as it is expected, and not at all where nothing is expected.
+fn is_answered(module: &mut Module, octets: &[u8], expected: &[u8]) -> bool {
     match module.receive(octets) {
-        Some(frame) => frame.as_slice() == wanted,
-        None => wanted.is_empty(),
+        Some(frame) => frame.as_slice() == expected,
+        None => expected.is_empty(),
     }
 }

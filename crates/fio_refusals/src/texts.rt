@@ -77,8 +77,8 @@ pub(crate) fn verdict(alloc: Global) -> Result<Answer, Memory> {
     let Ok(lines) = read_trace(alloc, TRANSCRIPT) else {
         return Err(Memory);
     };
-    let is_wanted = check_trace(lines.as_slice()) == Verdict::Good { frames: 5 };
-    Ok(Answer::right_if(is_wanted))
+    let is_expected = check_trace(lines.as_slice()) == Verdict::Good { frames: 5 };
+    Ok(Answer::right_if(is_expected))
 }
 
 /// Scripts whose first event has a fault. No line above it takes memory, so its fault is the answer.

@@ -22,21 +22,21 @@ fn sample(tool: Tool) -> (&'static [u8], &'static [u8]) {
 
 /// The text of what is read.
 pub(crate) fn text(alloc: Global, tool: Tool) -> Answer {
-    let (input, wanted) = sample(tool);
+    let (input, expected) = sample(tool);
     let answered = match tool {
         Tool::Show => show_text(alloc, input),
         Tool::Simulate => simulate_text(alloc, input),
         Tool::Check => check_text(alloc, input),
     };
     match answered {
-        Ok(report) => Answer::right_if(report.good && report.text.as_slice() == wanted),
+        Ok(report) => Answer::right_if(report.good && report.text.as_slice() == expected),
         Err(Memory) => Answer::Refused(0),
     }
 }
 
 /// The text of what is read is written, or nothing is.
 pub(crate) fn streams(alloc: Global, tool: Tool) -> Result<Answer, Memory> {
-    let (mut input, wanted) = sample(tool);
+    let (mut input, expected) = sample(tool);
     let mut written = Vec::with_capacity(alloc, ROOM)?;
     let ending = match tool {
         Tool::Show => show(alloc, &mut input, &mut written),
@@ -44,7 +44,7 @@ pub(crate) fn streams(alloc: Global, tool: Tool) -> Result<Answer, Memory> {
         Tool::Check => check(alloc, &mut input, &mut written),
     };
     Ok(match ending {
-        Ok(Ending::Good) => Answer::right_if(written.as_slice() == wanted),
+        Ok(Ending::Good) => Answer::right_if(written.as_slice() == expected),
         Err(ToolFault::Memory) => Answer::refused_if(written.is_empty()),
         _ => Answer::Wrong,
     })
@@ -52,7 +52,7 @@ pub(crate) fn streams(alloc: Global, tool: Tool) -> Result<Answer, Memory> {
 
 /// The text of what is read and status 0, or what the program says where memory runs out and status 3.
 pub(crate) fn program(alloc: Global, tool: Tool) -> Result<Answer, Memory> {
-    let (mut input, wanted) = sample(tool);
+    let (mut input, expected) = sample(tool);
     let word = match tool {
         Tool::Show => "show",
         Tool::Simulate => "simulate",
@@ -62,7 +62,7 @@ pub(crate) fn program(alloc: Global, tool: Tool) -> Result<Answer, Memory> {
     let words = ["fio2070", word];
     let status = run_program(alloc, &words, &mut input, &mut written);
     Ok(match status {
-        0 => Answer::right_if(written.as_slice() == wanted),
+        0 => Answer::right_if(written.as_slice() == expected),
         3 => Answer::refused_if(written.as_slice() == b"fio2070: out of memory\n".as_slice()),
         _ => Answer::Wrong,
     })

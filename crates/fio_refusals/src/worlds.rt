@@ -74,11 +74,11 @@ pub(crate) fn step(alloc: Global, sample: &Sample) -> Result<Answer, Memory> {
             answer = Answer::Refused(place);
             outcome = first.step(event);
         }
-        let wanted = second.step(event);
-        if wanted == Err(WorldError::Memory) {
+        let expected = second.step(event);
+        if expected == Err(WorldError::Memory) {
             return Err(Memory);
         }
-        if outcome.is_err() || outcome != wanted || !are_alike(&first, &second) {
+        if outcome.is_err() || outcome != expected || !are_alike(&first, &second) {
             return Ok(Answer::Wrong);
         }
     }
@@ -139,12 +139,12 @@ pub(crate) fn adding_nothing(alloc: Global) -> Result<Answer, Memory> {
         ),
         (Event::Restart, Ok(Outcome::Quiet)),
     ];
-    for (place, (event, wanted)) in rows.iter().enumerate() {
+    for (place, (event, expected)) in rows.iter().enumerate() {
         let found = world.step(event);
         if found == Err(WorldError::Memory) {
             return Ok(Answer::Refused(place));
         }
-        if found != *wanted {
+        if found != *expected {
             return Ok(Answer::Wrong);
         }
     }
@@ -153,10 +153,7 @@ pub(crate) fn adding_nothing(alloc: Global) -> Result<Answer, Memory> {
 
 /// The script of a sample, as far as there is memory for it.
 fn script_of(alloc: Global, sample: &Sample) -> Result<Script, Memory> {
-    match read_script(alloc, sample.script) {
-        Ok(script) => Ok(script),
-        Err(_) => Err(Memory),
-    }
+    read_script(alloc, sample.script).ok().ok_or(Memory)
 }
 
 /// What can be counted of a world.

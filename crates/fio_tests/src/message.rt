@@ -1,4 +1,3 @@
-//! Worked examples of messages, whose octets, values and texts stand in the profile and not in this code.
+//! Worked examples of messages, whose octets stand in the profile and not in this code.
 mod kept;
-mod longest;
 mod values;

@@ -5,12 +5,12 @@
 #include "fio2070.h"
 
 #ifdef __cplusplus
-#define SAME(name, is, wanted) static_assert((is) == (wanted), #name)
+#define SAME(name, is, expected) static_assert((is) == (expected), #name)
 #else
-#define SAME(name, is, wanted) typedef char name[(is) == (wanted) ? 1 : -1]
+#define SAME(name, is, expected) typedef char name[(is) == (expected) ? 1 : -1]
 #endif
-#define SIZE(type, wanted) SAME(size_of_##type, sizeof(struct fio2070_##type), wanted)
-#define OFFSET(type, field, wanted) SAME(offset_of_##type##_##field, offsetof(struct fio2070_##type, field), wanted)
+#define SIZE(type, expected) SAME(size_of_##type, sizeof(struct fio2070_##type), expected)
+#define OFFSET(type, field, expected) SAME(offset_of_##type##_##field, offsetof(struct fio2070_##type, field), expected)
 
 SIZE(fault, 24);
 OFFSET(fault, code, 1);

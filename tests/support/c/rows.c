@@ -271,8 +271,8 @@ static void filters(void) {
     fio2070_filters_start(&inputs);
     CHECK(fio2070_filters_configure(&inputs, &wave, 1).kind == FIO2070_APPLIED);
     for (place = 0; place < 11; place++) {
-        uint64_t wanted = place == 6 || place == 10 ? 4 : 0;
-        CHECK(fio2070_filters_scan(&inputs, (uint64_t)samples[place] << 2) == wanted);
+        uint64_t expected = place == 6 || place == 10 ? 4 : 0;
+        CHECK(fio2070_filters_scan(&inputs, (uint64_t)samples[place] << 2) == expected);
     }
 }
 
@@ -281,12 +281,12 @@ static void filters(void) {
 static struct fio2070_module device;
 
 static int answers(const char *octets, size_t length, const void *answer, size_t answer_length) {
-    uint8_t wanted[FIO2070_LONGEST_FRAME];
-    memset(wanted, '?', sizeof wanted);
+    uint8_t expected[FIO2070_LONGEST_FRAME];
+    memset(expected, '?', sizeof expected);
     memset(out, '?', sizeof out);
-    memcpy(wanted, answer, answer_length);
+    memcpy(expected, answer, answer_length);
     return fio2070_module_receive(&device, (const uint8_t *)octets, length, out) == answer_length &&
-           memcmp(out, wanted, sizeof out) == 0;
+           memcmp(out, expected, sizeof out) == 0;
 }
 
 static void is_a_module(void) {

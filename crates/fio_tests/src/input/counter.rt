@@ -37,7 +37,7 @@ fn counts_ticks_from_the_latest_load(rt: HostRuntime) {
         // After the greatest number comes 0.
         (&[AskLoad(u32::MAX), LineSync, Tick], 0),
     ];
-    for (case, (calls, wanted)) in cases.iter().enumerate() {
-        assert_eq!(rt; counted(calls), *wanted, "at {case}");
+    for (case, (calls, expected)) in cases.iter().enumerate() {
+        assert_eq!(rt; counted(calls), *expected, "at {case}");
     }
 }

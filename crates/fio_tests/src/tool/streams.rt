@@ -38,12 +38,12 @@ fn run<R: Read, W: Write>(
     }
 }
 
-/// Reads and writes an octet a call: whether the tool ends as wanted with the whole text, having asked for
+/// Reads and writes an octet a call: whether the tool ends as expected with the whole text, having asked for
 /// each octet and for the end once.
-fn passes_octets(alloc: Global, tool: Tool, input: &[u8], text: &[u8], wanted: Ending) -> bool {
+fn passes_octets(alloc: Global, tool: Tool, input: &[u8], text: &[u8], expected: Ending) -> bool {
     let mut feed = Feed::new(input, 1);
     let mut sink = Sink::new(alloc, 1);
-    run(alloc, tool, &mut feed, &mut sink) == Ok(wanted)
+    run(alloc, tool, &mut feed, &mut sink) == Ok(expected)
         && feed.calls == input.len().saturating_add(1)
         && sink.octets.as_slice() == text
         && sink.calls == text.len()
@@ -52,9 +52,9 @@ fn passes_octets(alloc: Global, tool: Tool, input: &[u8], text: &[u8], wanted: E
 
 #[test]
 fn an_octet_a_call(rt: HostRuntime) {
-    for (tool, input, text, wanted) in ROWS {
+    for (tool, input, text, expected) in ROWS {
         assert!(rt;
-            passes_octets(rt.alloc(), tool, input, text, wanted),
+            passes_octets(rt.alloc(), tool, input, text, expected),
             "{tool:?}"
         );
     }

@@ -10,8 +10,8 @@ fn first_lines(rt: HostRuntime) {
         (b"ab\ncd\n", Some((b"ab", b"cd\n"))),
         (b"ab\r\n\ncd", Some((b"ab\r", b"\ncd"))),
     ];
-    for (text, wanted) in cases {
-        assert!(rt; split_line(text) == wanted, "{text:?}");
+    for (text, expected) in cases {
+        assert!(rt; split_line(text) == expected, "{text:?}");
     }
 }
 
@@ -24,19 +24,19 @@ fn skipped_lines(rt: HostRuntime) {
         (b"\r", false),
         (b"3605", false),
     ];
-    for (line, wanted) in cases {
-        assert_eq!(rt; is_skipped(line), wanted, "{line:?}");
+    for (line, expected) in cases {
+        assert_eq!(rt; is_skipped(line), expected, "{line:?}");
     }
 }
 
 #[test]
 fn lines_keep_their_numbers(rt: HostRuntime) {
     let text = b"\n# a remark\n3605\n\n\r\nzz";
-    let wanted: [(usize, &[u8]); 3] = [(4, b"3605"), (6, b"\r"), (7, b"zz")];
+    let expected: [(usize, &[u8]); 3] = [(4, b"3605"), (6, b"\r"), (7, b"zz")];
     let mut count = 0;
     for found in numbered_lines(text, 2) {
-        assert!(rt; count < wanted.len());
-        assert!(rt; found == wanted[count], "line {count}");
+        assert!(rt; count < expected.len());
+        assert!(rt; found == expected[count], "line {count}");
         count += 1;
     }
     assert_eq!(rt; count, 3);

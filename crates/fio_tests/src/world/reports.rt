@@ -9,10 +9,12 @@ fn report_of_events(alloc: Global, text: &[u8]) -> Result<Report, ScriptError> {
 }
 
 /// Whether a text spells a script with this report, by both ways.
-fn has_report(alloc: Global, text: &[u8], wanted: &[u8]) -> bool {
+fn has_report(alloc: Global, text: &[u8], expected: &[u8]) -> bool {
     [report_of_events(alloc, text), report_text(alloc, text)]
         .iter()
-        .all(|found| matches!(found, Ok(report) if report.good && report.text.as_slice() == wanted))
+        .all(
+            |found| matches!(found, Ok(report) if report.good && report.text.as_slice() == expected),
+        )
 }
 
 #[test]
@@ -29,8 +31,8 @@ fn scripts_with_reports(rt: HostRuntime) {
               counter 0\nnumber 0\nwaiting 0\nrecord 0\n",
         ),
     ];
-    for (text, wanted) in cases {
-        assert!(rt; has_report(rt.alloc(), text, wanted), "{text:?}");
+    for (text, expected) in cases {
+        assert!(rt; has_report(rt.alloc(), text, expected), "{text:?}");
     }
 }
 

@@ -38,10 +38,10 @@ fn hexadecimal_words(rt: HostRuntime) -> Result<(), Fail> {
         (b"36 05", None),
         (b"3605\r", None),
     ];
-    for (word, wanted) in cases {
+    for (word, expected) in cases {
         let found = read_octets(rt.alloc(), word)?;
         assert!(rt;
-            found.as_ref().map(|octets| octets.as_slice()) == wanted,
+            found.as_ref().map(|octets| octets.as_slice()) == expected,
             "{word:?}"
         );
     }
@@ -57,8 +57,8 @@ fn hexadecimal_words_of_one_length(rt: HostRuntime) {
         (b"0a0a", None),
         (b"0g", None),
     ];
-    for (word, wanted) in octets {
-        assert_eq!(rt; read_octet(word), wanted, "{word:?}");
+    for (word, expected) in octets {
+        assert_eq!(rt; read_octet(word), expected, "{word:?}");
     }
     let inputs: [(&[u8], Option<u64>); 5] = [
         (b"0100000000000000", Some(1)),
@@ -67,8 +67,8 @@ fn hexadecimal_words_of_one_length(rt: HostRuntime) {
         (b"00", None),
         (b"000000000000000000", None),
     ];
-    for (word, wanted) in inputs {
-        assert_eq!(rt; read_inputs(word), wanted, "{word:?}");
+    for (word, expected) in inputs {
+        assert_eq!(rt; read_inputs(word), expected, "{word:?}");
     }
 }
 
@@ -84,7 +84,7 @@ fn parts_of_lines(rt: HostRuntime) {
         (b"5 ", Some((b"5", b""))),
         (b"56", None),
     ];
-    for (line, wanted) in cases {
-        assert!(rt; split_at_blank(line) == wanted, "{line:?}");
+    for (line, expected) in cases {
+        assert!(rt; split_at_blank(line) == expected, "{line:?}");
     }
 }
