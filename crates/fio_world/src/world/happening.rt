@@ -58,6 +58,8 @@ impl Happens for Step<'_> {
 impl World {
     /// Lets an event in the form of its line happen, or refuses it and changes nothing. What needs
     /// room for a frame or a command stands apart: the room would be cleared for each event.
+    // Inlined, so that an event of a known form goes straight to what it does.
+    #[inline(always)]
     fn take(&mut self, form: &Form<'_>) -> Result<Done, WorldError>
         ensures row { (settings : Settings) (first : ℕ) (machine : Machine)
             → Shows settings first machine self.old
@@ -129,6 +131,8 @@ impl World {
     }
 
     /// The outcome that this is.
+    // Inlined, so that a caller who reads no frame copies none.
+    #[inline(always)]
     pub(crate) fn outcome(&self, done: Done) -> Outcome
         ensures { result ≡ outcome_in self.now done }
     {
