@@ -33,7 +33,7 @@ use Rattle.fio_world.proofs.MadeBlocks.{each-append, each-take, each-map}
 use Rattle.fio_world.proofs.OneLife.{recorded_of}
 use Rattle.fio_world.proofs.Times.{BlockTimely, IsTimely, blocks_timely, wide_time}
 use Rattle.fio_world.proofs.CatchingUp.{IsBetween}
-use Rattle.fio_world.proofs.InTime.{IsReached}
+use Rattle.fio_world.proofs.CleanRoundsInTime.{IsReached}
 
 -- the blocks of a life were made after no more loads than it has
 loads-later : (life : Life) (asked : Option ℕ) (loads : ℕ) → loads ≤ one_more_if_loaded asked loads

@@ -4,6 +4,7 @@ use Rattle.std.specs.Prelude.{nat_le}
 use Rattle.std.proofs.lemmas.Bool.{and_parts, and_from, leb-true, le-leb, eqb-true, eq-eqb}
 use Rattle.std.proofs.lemmas.List.{take-append-le, drop-append-le, length-drop, take_all}
 use Rattle.std.proofs.Math.Seq.{drop-append_seam}
+use Rattle.fio_message.specs.declared.limits.TheConstants.{FRAME_OCTETS}
 use Rattle.fio_world.specs.Link.{item_numbered}
 use Rattle.fio_world.specs.EndToEnd.{between, frames_in, is_cut, are_short, start_at}
 
@@ -91,23 +92,23 @@ none_past frames zero h = absurd (omega (arith, h))
 none_past frames (suc k) h = past_none frames k (omega (arith, h))
 
 -- one more short frame
-pub short-push : (frames : List (List ℕ)) (frame : List ℕ) → are_short frames ≡ true → length frame ≤ 773
+pub short-push : (frames : List (List ℕ)) (frame : List ℕ) → are_short frames ≡ true → length frame ≤ FRAME_OCTETS
     → are_short (frames ++ frame ∷ []) ≡ true
-short-push [] frame all short = and_from (nat_le (length frame) 773) true (le-leb (length frame) 773 short) refl
+short-push [] frame all short = and_from (nat_le (length frame) FRAME_OCTETS) true (le-leb (length frame) FRAME_OCTETS short) refl
 short-push (first ∷ frames) frame all short =
-    let parts = and_parts (nat_le (length first) 773) (are_short frames) all in
-    and_from (nat_le (length first) 773) (are_short (frames ++ frame ∷ [])) parts.0 (short-push frames frame parts.1 short)
+    let parts = and_parts (nat_le (length first) FRAME_OCTETS) (are_short frames) all in
+    and_from (nat_le (length first) FRAME_OCTETS) (are_short (frames ++ frame ∷ [])) parts.0 (short-push frames frame parts.1 short)
 
-short-at : (frames : List (List ℕ)) (place : ℕ) (octets : List ℕ) → are_short frames ≡ true → slice_get frames place ≡ Some octets → length octets ≤ 773
+short-at : (frames : List (List ℕ)) (place : ℕ) (octets : List ℕ) → are_short frames ≡ true → slice_get frames place ≡ Some octets → length octets ≤ FRAME_OCTETS
 short-at [] place octets all at = absurd (cc at)
 short-at (first ∷ frames) zero octets all at =
     let same : first ≡ octets = cc at in
-    let here = leb-true (length first) 773 (and_parts (nat_le (length first) 773) (are_short frames) all).0 in
+    let here = leb-true (length first) FRAME_OCTETS (and_parts (nat_le (length first) FRAME_OCTETS) (are_short frames) all).0 in
     rw same at here
 short-at (first ∷ frames) (suc place) octets all at =
-    short-at frames place octets (and_parts (nat_le (length first) 773) (are_short frames) all).1 at
+    short-at frames place octets (and_parts (nat_le (length first) FRAME_OCTETS) (are_short frames) all).1 at
 
 -- each frame is short
-pub short-numbered : (frames : List (List ℕ)) (index : ℕ) (octets : List ℕ) → are_short frames ≡ true → Some octets ≡ item_numbered frames index → length octets ≤ 773
+pub short-numbered : (frames : List (List ℕ)) (index : ℕ) (octets : List ℕ) → are_short frames ≡ true → Some octets ≡ item_numbered frames index → length octets ≤ FRAME_OCTETS
 short-numbered frames zero octets all at = absurd (cc at)
 short-numbered frames (suc place) octets all at = short-at frames place octets all (sym at)

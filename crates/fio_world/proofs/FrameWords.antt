@@ -6,17 +6,18 @@ use Rattle.fio_message.specs.declared.commands.Command.{Command}
 use Rattle.fio_message.specs.declared.commands.Command.TheVariants.{Poll}
 use Rattle.fio_message.specs.declared.faults.DecodeError.{DecodeError}
 use Rattle.fio_message.specs.declared.faults.DecodeError.TheVariants.{TooLong}
+use Rattle.fio_message.specs.declared.limits.TheConstants.{FRAME_OCTETS}
 use Rattle.fio_message.proofs.MessageLaws.{command_refused}
 use Rattle.fio_world.specs.EventLines.{frame_at, sending_at}
 use Rattle.fio_world.specs.declared.script.ScriptError.TheVariants.{BadFrame}
 
 -- more octets than a frame holds are too long
 pub too_long : (number : ℕ) (found : Option (List ℕ)) (count : ℕ)
-    → option_map (length {A = ℕ}) found ≡ Some count → 773 < count
+    → option_map (length {A = ℕ}) found ≡ Some count → FRAME_OCTETS < count
     → Err (BadFrame number (TooLong count)) ≡ frame_at number found
-too_long number None count told long = absurd (cc told)
-too_long number (Some octets) count told long =
-    let many : count ≡ length octets = cc told in
+too_long number None count counted long = absurd (cc counted)
+too_long number (Some octets) count counted long =
+    let many : count ≡ length octets = cc counted in
     sym (ap (sending_at number) ((command_refused octets (TooLong count)).1 (many, long)))
 
 -- octets that are refused spell no command
@@ -31,9 +32,9 @@ decodes_none octets fault is = sym (refused_none (command_in octets) _ fault is)
 
 -- no more do octets that are too many
 pub no_command : (found : Option (List ℕ)) (count : ℕ)
-    → option_map (length {A = ℕ}) found ≡ Some count → 773 < count
+    → option_map (length {A = ℕ}) found ≡ Some count → FRAME_OCTETS < count
     → Poll 0 ≡ unwrap_or (option_and_then command_in found) (Poll 0)
-no_command None count told long = absurd (cc told)
-no_command (Some octets) count told long =
-    let many : count ≡ length octets = cc told in
+no_command None count counted long = absurd (cc counted)
+no_command (Some octets) count counted long =
+    let many : count ≡ length octets = cc counted in
     decodes_none octets (TooLong count) ((command_refused octets (TooLong count)).1 (many, long))

@@ -32,10 +32,7 @@ module _ (settings : Settings) (range : AreInRange settings) (first : ℕ) (mach
         polls = i.polls;
         answers = answers-passed machine.to_cpu machine.last_to_cpu machine.round (next_round machine.polls) i.answers index le;
         at_most = i.at_most;
-        numbered = i.numbered;
-        newest = i.newest;
-        makers_in_order = i.makers_in_order;
-        maker = i.maker;
+        received = i.received;
         carry = i.carry;
         rising = i.rising;
       }
@@ -69,10 +66,7 @@ module _ (settings : Settings) (range : AreInRange settings) (first : ℕ) (mach
         polls = polls-taken first machine.to_module machine.last_to_module machine.round (next_round machine.polls) i.polls;
         answers = answers-taken machine.to_cpu machine.last_to_cpu machine.round (next_round machine.polls) i.answers place answer block;
         at_most = omega arith;
-        numbered = i.numbered;
-        newest = i.newest;
-        makers_in_order = i.makers_in_order;
-        maker = i.maker;
+        received = i.received;
         carry = i.carry;
         rising = record {
           to = b.block.end;
@@ -81,35 +75,40 @@ module _ (settings : Settings) (range : AreInRange settings) (first : ℕ) (mach
           ahead = λ k c r p q far.
               let later : b.place < k = elim (cases_lt b.place k) as (λ _. b.place < k) [
                 | inl less ↦ less
-                | inr not_less ↦ absurd (omega (arith, i.makers_in_order.rise k b.place r machine.round not_less q b.made_by))
+                | inr not_less ↦ absurd (omega (arith, i.received.makers_in_order.rise k b.place r machine.round not_less q b.made_by))
               ] in
               apart_order 0 (reached settings h) all b.place k b.block c apart later b.is_made p;
         };
       }
 
-  -- a block answer is taken, or is not
-  taken_or_not : (place : ℕ) (answer : Block) (round : ℕ) → machine.last_to_cpu ≤ place + 1
-      → HasBlock machine.to_cpu place answer round
-      → (same : Bool) → (answer.number == number_of first machine.round) ≡ same
-      → HasInvariant settings first (if same then after_taken machine place answer else record machine { last_to_cpu = place + 1 })
-  taken_or_not place answer round le block false is = keeps_passed (place + 1) le
-  taken_or_not place answer round le block true is =
-      let alike : answer.number ≡ number_of first machine.round = grind (arith, nat_tests) in
-      let same = same_round place answer round le block alike in
-      keeps_taken place answer (subst (HasBlock machine.to_cpu place answer) same block)
-
-  -- a frame is heard in which a block was found, or none
-  heard_frame : (place : ℕ) (frame : Sent) → machine.last_to_cpu ≤ place + 1
+  -- the CPU hears a frame: what holds of the machine where it takes nothing, and where it takes the
+  -- block of its round, holds of the machine after it
+  pub after_heard : (P : Machine → Type 0) (place : ℕ) (frame : Sent) → machine.last_to_cpu ≤ place + 1
       → slice_get machine.to_cpu place ≡ Some frame
-      → (found : Option Block) → block_in frame.octets ≡ found
-      → HasInvariant settings first (heard_block first (record machine { last_to_cpu = place + 1 }) found)
-  heard_frame place frame le at None spells = keeps_passed (place + 1) le
-  heard_frame place frame le at (Some answer) spells =
-      taken_or_not place answer frame.round le (record { frame = frame; at_place = at; spells = spells; of_round = refl })
-      (answer.number == number_of first machine.round) refl
+      → P (record machine { last_to_cpu = place + 1 })
+      → ((answer : Block) → HasBlock machine.to_cpu place answer machine.round → P (after_taken machine place answer))
+      → P (heard first machine (place + 1) (Some frame))
+  after_heard P place frame le at passed taken = of_block (block_in frame.octets) refl
+    where
+      of_number : (answer : Block) → HasBlock machine.to_cpu place answer frame.round
+          → (same : Bool) → (answer.number == number_of first machine.round) ≡ same
+          → P (if same then after_taken machine place answer else record machine { last_to_cpu = place + 1 })
+      of_number answer block false is = passed
+      of_number answer block true is =
+          let alike : answer.number ≡ number_of first machine.round = grind (arith, nat_tests) in
+          let same = same_round place answer frame.round le block alike in
+          taken answer (subst (HasBlock machine.to_cpu place answer) same block)
+
+      of_block : (found : Option Block) → block_in frame.octets ≡ found
+          → P (heard_block first (record machine { last_to_cpu = place + 1 }) found)
+      of_block None spells = passed
+      of_block (Some answer) spells =
+          of_number answer (record { frame = frame; at_place = at; spells = spells; of_round = refl })
+          (answer.number == number_of first machine.round) refl
 
   -- the CPU hears a frame
   pub keeps_heard : (place : ℕ) (frame : Sent) → machine.last_to_cpu ≤ place + 1
       → slice_get machine.to_cpu place ≡ Some frame
       → HasInvariant settings first (heard first machine (place + 1) (Some frame))
-  keeps_heard place frame le at = heard_frame place frame le at (block_in frame.octets) refl
+  keeps_heard place frame le at =
+      after_heard (HasInvariant settings first) place frame le at (keeps_passed (place + 1) le) (keeps_taken place)

@@ -17,7 +17,7 @@ use Rattle.fio_world.specs.Link.{Machine}
 use Rattle.fio_world.specs.Claims.{blocks_in}
 use Rattle.fio_world.specs.InTime.{LeadsInTime, RoundsInTime, behind_after, HasArrived}
 use Rattle.fio_world.proofs.CatchingUp.{IsBetween}
-use Rattle.fio_world.proofs.InTime.{grows, HasStretch, stretch_of, has_stretch, IsReached, reached_start, reached_next}
+use Rattle.fio_world.proofs.CleanRoundsInTime.{grows, HasStretch, stretch_of, has_stretch, IsReached, reached_start, reached_next}
 use Rattle.fio_world.proofs.Arrivals.{whole, times, young, few_left, taken_end}
 
 -- What a block takes of what had been logged before an earlier time: all, or so many whole blocks of

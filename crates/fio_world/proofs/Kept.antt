@@ -22,6 +22,15 @@ use Rattle.fio_world.proofs.AnswerOrder.{answers-other, answers-more}
 use Rattle.fio_world.proofs.Makers.{makers_of, MakersAreInOrder, NewestIsMaker, CarriesMadeOf, AnswersCarryMade, carry-other, carry-more}
 use Rattle.fio_world.proofs.RisingPieces.{RecordRises}
 
+-- What every run keeps of the polls received, whose rounds these are, newest first: their numbers, the
+-- latest of the present life, and the rounds of those that made the blocks.
+pub record ReceivedPolls (first : ℕ) (blocks : List MadeBlock) (latest : Option ℕ)
+    (numbers makers polls : List ℕ) : Type 0 where
+  pub numbered : map (number_of first) polls ≡ numbers
+  pub newest : (n : ℕ) → latest ≡ Some n → (older : List ℕ) × (numbers ≡ n ∷ older)
+  pub makers_in_order : MakersAreInOrder makers (next_round polls) blocks
+  pub maker : (n : ℕ) → latest ≡ Some n → NewestIsMaker makers (next_round polls)
+
 -- What every run keeps of a machine, for the joined log of its module, its blocks, the place from
 -- which the next may take, the latest poll of its present life, the numbers of all polls received,
 -- and the rounds of those that made the blocks.
@@ -30,10 +39,7 @@ pub record Invariant (first : ℕ) (log : List Transition) (blocks : List MadeBl
   pub polls : PollsOf first machine
   pub answers : BlockAnswersOf machine
   pub at_most : next_round machine.polls ≤ machine.round + 1
-  pub numbered : map (number_of first) machine.polls ≡ numbers
-  pub newest : (n : ℕ) → latest ≡ Some n → (older : List ℕ) × (numbers ≡ n ∷ older)
-  pub makers_in_order : MakersAreInOrder makers (next_round machine.polls) blocks
-  pub maker : (n : ℕ) → latest ≡ Some n → NewestIsMaker makers (next_round machine.polls)
+  pub received : ReceivedPolls first blocks latest numbers makers machine.polls
   pub carry : AnswersCarryMade first blocks makers machine.to_cpu
   pub rising : RecordRises log blocks makers limit machine.round machine.items
 
@@ -95,10 +101,12 @@ keeps_history first log log' blocks limit limit' latest latest' numbers makers m
       polls = i.polls;
       answers = i.answers;
       at_most = i.at_most;
-      numbered = i.numbered;
-      newest = λ n is. i.newest n (same n is);
-      makers_in_order = i.makers_in_order;
-      maker = λ n is. i.maker n (same n is);
+      received = record {
+        numbered = i.received.numbered;
+        newest = λ n is. i.received.newest n (same n is);
+        makers_in_order = i.received.makers_in_order;
+        maker = λ n is. i.received.maker n (same n is);
+      };
       carry = i.carry;
       rising = rises;
     }
@@ -116,12 +124,7 @@ after_other machine place frame answers =
 -- the same for a frame that is a poll
 abbrev pub after_poll : Machine → ℕ → Sent → List Sent → Machine
 after_poll machine place frame answers =
-    record machine {
-      last_to_module = place + 1;
-      history = Received frame.octets ∷ machine.history;
-      to_cpu = machine.to_cpu ++ answers;
-      polls = frame.round ∷ machine.polls;
-    }
+    record (after_other machine place frame answers) { polls = frame.round ∷ machine.polls }
 
 -- the blocks of a life, the sending and the makers after a poll that is new or not
 abbrev pub blocks_if : Settings → Life → Bool → List MadeBlock
@@ -158,10 +161,7 @@ module _ (first : ℕ) (log : List Transition) (blocks : List MadeBlock) (limit 
         polls = passed;
         answers = i.answers;
         at_most = i.at_most;
-        numbered = i.numbered;
-        newest = i.newest;
-        makers_in_order = i.makers_in_order;
-        maker = i.maker;
+        received = i.received;
         carry = i.carry;
         rising = i.rising;
       })
@@ -172,10 +172,7 @@ module _ (first : ℕ) (log : List Transition) (blocks : List MadeBlock) (limit 
         polls = passed;
         answers = answers-other machine.to_cpu machine.last_to_cpu machine.round (next_round machine.polls) i.answers f none;
         at_most = i.at_most;
-        numbered = i.numbered;
-        newest = i.newest;
-        makers_in_order = i.makers_in_order;
-        maker = i.maker;
+        received = i.received;
         carry = carry-other first blocks makers machine.to_cpu f none i.carry;
         rising = i.rising;
       }
@@ -200,10 +197,13 @@ module _ (first : ℕ) (log : List Transition) (blocks : List MadeBlock) (limit 
             place number frame.round poll;
         answers = answers-more machine.to_cpu machine.last_to_cpu machine.round next i.answers f frame.round refl high;
         at_most = omega (arith, i.polls.sent place number frame.round poll);
-        numbered = ap (λ n. n ∷ map (number_of first) machine.polls) (sym named) ∙ ap (λ ns. number ∷ ns) i.numbered;
-        newest = λ n is. (numbers, ap (λ (k : ℕ). k ∷ numbers) (same_Some _ _ is));
-        makers_in_order = in_order';
-        maker = λ n is. maker;
+        received = record {
+          numbered =
+              ap (λ n. n ∷ map (number_of first) machine.polls) (sym named) ∙ ap (λ ns. number ∷ ns) i.received.numbered;
+          newest = λ n is. (numbers, ap (λ (k : ℕ). k ∷ numbers) (same_Some _ _ is));
+          makers_in_order = in_order';
+          maker = λ n is. maker;
+        };
         carry = carry-more first blocks' makers' machine.to_cpu f answer reads carries carry;
         rising = rises;
       }

@@ -5,6 +5,7 @@ pub mod OctetLemmas
 pub mod FrameWords
 pub mod RoomLemmas
 pub mod Places
+pub mod SentMessages
 pub mod RoundNumbers
 pub mod Spelled
 pub mod MadeBlocks
@@ -25,7 +26,7 @@ pub mod OneLifeRows
 pub mod Times
 pub mod CleanRounds
 pub mod CatchingUp
-pub mod InTime
+pub mod CleanRoundsInTime
 pub mod Arrivals
 pub mod InAllRounds
 pub mod MovedScans

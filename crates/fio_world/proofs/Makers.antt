@@ -10,7 +10,7 @@ use Rattle.fio_world.specs.Link.{Sent, number_of}
 use Rattle.fio_world.specs.Frames.{HasBlock}
 use Rattle.fio_world.specs.Rounds.{CarriesBlock}
 use Rattle.fio_world.proofs.Places.{get_before_push, get_after_push}
-use Rattle.fio_world.proofs.AnswerOrder.{block_after_push, block_before_other}
+use Rattle.fio_world.proofs.SentMessages.{each_more, none_more}
 
 -- the rounds of the polls that made blocks, after one more poll or none
 abbrev pub makers_after : Option ℕ → Option ℕ → (List ℕ → List ℕ) → List ℕ → List ℕ
@@ -91,19 +91,15 @@ makers-new makers next round blocks block high o =
 pub carry-other : (first : ℕ) (blocks : List MadeBlock) (makers : List ℕ) (frames : List Sent) (f : Sent)
     → block_in f.octets ≡ None
     → AnswersCarryMade first blocks makers frames → AnswersCarryMade first blocks makers (frames ++ f ∷ [])
-carry-other first blocks makers frames f none carry p a r h = carry p a r (block_before_other frames f p a r none h)
+carry-other first blocks makers frames f none carry p a r h = carry p a r (none_more block_in frames f none p a r h)
 
 -- a block answer is sent that carries a block
 pub carry-more : (first : ℕ) (blocks : List MadeBlock) (makers : List ℕ) (frames : List Sent) (f : Sent) (answer : Block)
     → block_in f.octets ≡ Some answer → CarriesMadeOf first blocks makers answer f.round
     → AnswersCarryMade first blocks makers frames → AnswersCarryMade first blocks makers (frames ++ f ∷ [])
-carry-more first blocks makers frames f answer spells carries carry p a r h =
-    elim (block_after_push frames f p a r h) as (λ _. CarriesMadeOf first blocks makers a r) [
-      | inl old ↦ carry p a r old
-      | inr new ↦
-          let same : answer ≡ a = cc (spells, new.1) in
-          subst (CarriesMadeOf first blocks makers a) new.2 (subst (λ x. CarriesMadeOf first blocks makers x f.round) same carries)
-    ]
+carry-more first blocks makers frames f answer spells carries carry =
+    each_more block_in frames f (λ p a r. CarriesMadeOf first blocks makers a r) carry
+    (λ a reads. subst (λ x. CarriesMadeOf first blocks makers x f.round) (cc (spells, reads)) carries)
 
 -- one more block is made
 pub carry-new : (first : ℕ) (blocks : List MadeBlock) (makers : List ℕ) (frames : List Sent) (block : MadeBlock) (round : ℕ)

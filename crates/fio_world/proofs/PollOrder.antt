@@ -1,29 +1,10 @@
 -- The polls sent stay in order.
-use Rattle.std.proofs.Common.{◌≡◌, ℕ, ◌+◌, ◌<◌, ◌≤◌, ◌⊎◌, List, [], ◌∷◌, ◌++◌, length, Some, ap, sym, subst, ◌∙◌, arith, inl, inr}
-use Rattle.std.proofs.lemmas.Option.{slice_get_within}
+use Rattle.std.proofs.Common.{◌≡◌, ℕ, ◌+◌, ◌≤◌, List, [], ◌∷◌, ◌++◌, Some, ap, sym, ◌∙◌, arith}
 use Rattle.fio_message.specs.Decoding.{poll_in}
 use Rattle.fio_world.specs.Link.{Sent, number_of}
 use Rattle.fio_world.specs.Frames.{HasPoll}
 use Rattle.fio_world.specs.Rounds.{PollsAreInOrder}
-use Rattle.fio_world.proofs.Places.{get_after_push}
-
--- a poll among frames and one more is among them, or is the last
-poll_after_push : (frames : List Sent) (f : Sent) (p n r : ℕ) → HasPoll (frames ++ f ∷ []) p n r
-    → HasPoll frames p n r ⊎ ((p ≡ length frames) × (poll_in f.octets ≡ Some n) × (f.round ≡ r))
-poll_after_push frames f p n r h =
-    elim (get_after_push frames f p h.frame h.at_place)
-    as (λ _. HasPoll frames p n r ⊎ ((p ≡ length frames) × (poll_in f.octets ≡ Some n) × (f.round ≡ r))) [
-      | inl old ↦ inl (record { frame = h.frame; at_place = old; spells = h.spells; of_round = h.of_round })
-      | inr new ↦ inr (
-        new.0,
-        subst (λ (g : Sent). poll_in g.octets ≡ Some n) new.1 h.spells,
-        subst (λ (g : Sent). g.round ≡ r) new.1 h.of_round,
-      )
-    ]
-
--- a poll stands among the frames
-poll_within : (frames : List Sent) (p n r : ℕ) → HasPoll frames p n r → p < length frames
-poll_within frames p n r h = slice_get_within frames p h.frame h.at_place
+use Rattle.fio_world.proofs.SentMessages.{each_more, rise_more}
 
 -- where no frame was sent
 pub polls-none : (first round next : ℕ) → PollsAreInOrder first [] 0 round next
@@ -42,28 +23,14 @@ module _ (first : ℕ) (frames : List Sent) (last round next : ℕ) (o : PollsAr
       → PollsAreInOrder first (frames ++ f ∷ []) last round next
   polls-sent f is at_most number =
       record {
-        numbers = λ p n r h. elim (poll_after_push frames f p n r h) as (λ _. n ≡ number_of first r) [
-          | inl old ↦ o.numbers p n r old
-          | inr new ↦ number n new.1 ∙ ap (number_of first) (sym is ∙ new.2)
-        ];
-        rise = λ p q m n r s le h k. elim (poll_after_push frames f q n s k) as (λ _. r ≤ s) [
-          | inl older ↦ elim (poll_after_push frames f p m r h) as (λ _. r ≤ s) [
-            | inl old ↦ o.rise p q m n r s le old older
-            | inr new ↦ absurd (omega (arith, poll_within frames q n s older))
-          ]
-          | inr newer ↦ elim (poll_after_push frames f p m r h) as (λ _. r ≤ s) [
-            | inl old ↦ omega (arith, o.sent p m r old)
-            | inr new ↦ omega arith
-          ]
-        ];
-        sent = λ p n r h. elim (poll_after_push frames f p n r h) as (λ _. r ≤ round) [
-          | inl old ↦ o.sent p n r old
-          | inr new ↦ omega arith
-        ];
-        ahead = λ p n r le h. elim (poll_after_push frames f p n r h) as (λ _. next ≤ r + 1) [
-          | inl old ↦ o.ahead p n r le old
-          | inr new ↦ omega arith
-        ];
+        numbers =
+            each_more poll_in frames f (λ p n r. n ≡ number_of first r) o.numbers
+            (λ n spells. number n spells ∙ ap (number_of first) (sym is));
+        rise = rise_more poll_in frames f o.rise (λ p n r old. omega (arith, o.sent p n r old));
+        sent = each_more poll_in frames f (λ p n r. r ≤ round) o.sent (λ n spells. omega arith);
+        ahead = λ p n r far h.
+            each_more poll_in frames f (λ p n r. last ≤ p + 1 → next ≤ r + 1) (λ p n r old le. o.ahead p n r le old)
+            (λ n spells le. omega arith) p n r h far;
       }
 
   -- a frame is delivered that is no poll

@@ -28,7 +28,7 @@ use Rattle.fio_world.proofs.CleanRounds.{LastWereSent, last_were_sent, clean_rou
 use Rattle.fio_world.proofs.CatchingUp.{IsBetween, clean_round_takes_all, clean_rounds_catch_up}
 use Rattle.fio_world.proofs.Arrivals.{got_entries}
 use Rattle.fio_world.proofs.InAllRounds.{arrives, keeps_up}
-use Rattle.fio_world.proofs.InTime.{has_stretch}
+use Rattle.fio_world.proofs.CleanRoundsInTime.{has_stretch}
 use Rattle.fio_world.proofs.WholeRecords.{whole_unless_full, gaps_name_times, whole_where_polled_often, whole_after_outage}
 use Rattle.fio_world.proofs.Times.{BlockTimely, blocks_timely, blocks_timed}
 
@@ -172,7 +172,7 @@ polls_are_in_order settings first events machine range run = (invariant settings
 pub newest_poll_rounds : HoldsOfRuns (λ settings first events machine. PollsReceivedHaveRounds first machine)
 newest_poll_rounds settings first events machine range run =
     let i = invariant settings range first events machine run in
-    record { numbers = i.numbered; at_most = i.at_most }
+    record { numbers = i.received.numbered; at_most = i.at_most }
 
 pub newest_poll_made_newest_block : HoldsWithoutRestart (λ settings first machine. NewestPollMadeNewestBlock settings machine)
 newest_poll_made_newest_block settings first events machine range run none =

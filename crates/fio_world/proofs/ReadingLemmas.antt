@@ -15,6 +15,7 @@ use Rattle.fio_world.specs.Scripts.{Scenario, readings, events_of, HasGoodFront,
 use Rattle.fio_world.specs.Steps.{event_of}
 use Rattle.fio_world.specs.Words.{after_prefix}
 use Rattle.fio_world.specs.declared.event.Event.{Event}
+use Rattle.fio_world.specs.declared.script.events.TheConstants.{MAX_EVENTS}
 use Rattle.fio_world.specs.declared.script.header.Header.{Header}
 use Rattle.fio_world.specs.declared.script.steps.Form.{Form}
 use Rattle.fio_world.specs.declared.script.ScriptError.{ScriptError}
@@ -33,13 +34,13 @@ with_first-pushed values value (Err e) = refl
 
 -- what is read in all, where these events stand above the lines
 abbrev pub read_on : List Event → ℕ → Bool → List (ℕ × List ℕ) → Result (List Event) ScriptError
-read_on events count restarts lines = with_first events (collected (readings (10000 - count) restarts lines))
+read_on events count restarts lines = with_first events (collected (readings (MAX_EVENTS - count) restarts lines))
 
 -- with no event above, it is what all lines give
 pub read_on-start : (events : List Event) (count : ℕ) (restarts : Bool) (left lines : List (ℕ × List ℕ))
     → events ≡ [] → count ≡ 0 → left ≡ lines
-    → read_on events count restarts left ≡ collected (readings 10000 restarts lines)
-read_on-start events count restarts left lines none zeroth all = rw (none, zeroth, all) (with_first-none (collected (readings 10000 restarts lines)))
+    → read_on events count restarts left ≡ collected (readings MAX_EVENTS restarts lines)
+read_on-start events count restarts left lines none zeroth all = rw (none, zeroth, all) (with_first-none (collected (readings MAX_EVENTS restarts lines)))
 
 readings-end : (most : ℕ) (restarts : Bool) → readings most restarts [] ≡ []
 readings-end zero restarts = refl
@@ -47,23 +48,23 @@ readings-end (suc most) restarts = refl
 
 -- with no line left, it is the events above
 pub read_on-end : (events : List Event) (count : ℕ) (restarts : Bool) → read_on events count restarts [] ≡ Ok events
-read_on-end events count restarts = rw (readings-end (10000 - count) restarts) (ap Ok (append-nil events))
+read_on-end events count restarts = rw (readings-end (MAX_EVENTS - count) restarts) (ap Ok (append-nil events))
 
-readings-first : (count : ℕ) (restarts : Bool) (line : ℕ × List ℕ) (lines : List (ℕ × List ℕ)) → count < 10000
-    → readings (10000 - count) restarts (line ∷ lines) ≡ event_at restarts line ∷ readings (10000 - (count + 1)) restarts lines
+readings-first : (count : ℕ) (restarts : Bool) (line : ℕ × List ℕ) (lines : List (ℕ × List ℕ)) → count < MAX_EVENTS
+    → readings (MAX_EVENTS - count) restarts (line ∷ lines) ≡ event_at restarts line ∷ readings (MAX_EVENTS - (count + 1)) restarts lines
 readings-first count restarts line lines few =
-    let e : 10000 - count ≡ suc (10000 - (count + 1)) = omega arith in rw e refl
+    let e : MAX_EVENTS - count ≡ suc (MAX_EVENTS - (count + 1)) = omega arith in rw e refl
 
 -- a line that is read joins the events above
 pub read_on-event : (events : List Event) (count : ℕ) (restarts : Bool) (line : ℕ × List ℕ) (lines : List (ℕ × List ℕ)) (event : Event)
-    → count < 10000 → event_at restarts line ≡ Ok event
+    → count < MAX_EVENTS → event_at restarts line ≡ Ok event
     → read_on events count restarts (line ∷ lines) ≡ read_on (events ++ event ∷ []) (count + 1) restarts lines
 read_on-event events count restarts line lines event few gives =
     rw (readings-first count restarts line lines few, gives) (with_first-pushed events event _)
 
 -- a fault ends it
 pub read_on-fault : (events : List Event) (count : ℕ) (restarts : Bool) (left : List (ℕ × List ℕ)) (line : ℕ × List ℕ) (lines : List (ℕ × List ℕ)) (fault : ScriptError)
-    → left ≡ line ∷ lines → count < 10000 → event_at restarts line ≡ Err fault
+    → left ≡ line ∷ lines → count < MAX_EVENTS → event_at restarts line ≡ Err fault
     → read_on events count restarts left ≡ Err fault
 read_on-fault events count restarts left line lines fault first few gives =
     rw (first, readings-first count restarts line lines few, gives) refl
@@ -145,13 +146,13 @@ collected-values : (events : List Event) → collected (map {B = Result Event Sc
 collected-values [] = refl
 collected-values (event ∷ events) = rw (collected-values events) refl
 
-readings-few : (restarts : Bool) (lines : List (ℕ × List ℕ)) → length lines ≤ 10000
-    → readings 10000 restarts lines ≡ map (event_at restarts) lines
-readings-few restarts lines few = rw (take_all 10000 lines few, drop_all 10000 lines few) (append-nil (map (event_at restarts) lines))
+readings-few : (restarts : Bool) (lines : List (ℕ × List ℕ)) → length lines ≤ MAX_EVENTS
+    → readings MAX_EVENTS restarts lines ≡ map (event_at restarts) lines
+readings-few restarts lines few = rw (take_all MAX_EVENTS lines few, drop_all MAX_EVENTS lines few) (append-nil (map (event_at restarts) lines))
 
--- where at most 10,000 lines have given events, those lines are a good front
+-- where at most `MAX_EVENTS` lines have given events, those lines are a good front
 pub good_front : (restarts : Bool) (lines : List (List ℕ)) (left : List (ℕ × List ℕ)) (events : List Event)
-    → HaveRead restarts (numbered 2 lines) left events → length events ≤ 10000 → events ≢ []
+    → HaveRead restarts (numbered 2 lines) left events → length events ≤ MAX_EVENTS → events ≢ []
     → HaveGoodFront restarts lines
 good_front restarts lines left events read few some =
     let front = numbered-front 2 lines read.above left read.all_are in

@@ -64,7 +64,7 @@ module _ (settings : Settings) (range : AreInRange settings) (first : ℕ) (mach
       let upto : machine.round ≤ next_round machine.polls = i.answers.behind in
       let named : number ≡ number_of first round = i.polls.numbers place number round poll in
       let met : is_out_of_sequence (latest_poll life) number ≡ false =
-      meets first round number (latest_poll life) machine.polls (received_numbers h) true i.numbered i.newest
+      meets first round number (latest_poll life) machine.polls (received_numbers h) true i.received.numbered i.received.newest
       named (omega arith) high is in
       let fits : number ≤ 255 = omega (arith, number_of-fits first round) in
       let grown : past_blocks settings h ++ map (behind past) (bs ++ block ∷ []) ≡ all ++ behind past block ∷ [] =
@@ -79,7 +79,7 @@ module _ (settings : Settings) (range : AreInRange settings) (first : ℕ) (mach
       number limit (all ++ behind past block ∷ []) (makers ++ round ∷ []) (said sending) (answer_octets (answer_of sending)) poll
       (carried_back settings.per_block sending block range.few_per_block fits
       (next_fits settings life) (first_carries settings life number))
-      (makers-new makers (next_round machine.polls) round all (behind past block) high i.makers_in_order)
+      (makers-new makers (next_round machine.polls) round all (behind past block) high i.received.makers_in_order)
       (record {
         place = length makers;
         round = round;
@@ -94,11 +94,11 @@ module _ (settings : Settings) (range : AreInRange settings) (first : ℕ) (mach
         place = length all;
         block = behind past block;
         is_made = get_push all (behind past block);
-        made_by = ap (slice_get (makers ++ round ∷ [])) (sym i.makers_in_order.count) ∙ get_push makers round;
+        made_by = ap (slice_get (makers ++ round ∷ [])) (sym i.received.makers_in_order.count) ∙ get_push makers round;
         carried = record { entries = carries.entries; more = carries.more; lost = carries.lost; stamp = carries.stamp };
       })
       (rises-new log all makers (reached settings h) limit machine.round round machine.items
-      (behind past block) (omega arith) (omega arith) i.makers_in_order.count i.rising))
+      (behind past block) (omega arith) (omega arith) i.received.makers_in_order.count i.rising))
 
   -- the newest poll is received again
   repeated_poll : (place number : ℕ) (frame : Sent) → machine.last_to_module ≤ place + 1
@@ -113,7 +113,7 @@ module _ (settings : Settings) (range : AreInRange settings) (first : ℕ) (mach
       let upto : machine.round ≤ next_round machine.polls = i.answers.behind in
       let named : number ≡ number_of first round = i.polls.numbers place number round poll in
       let met : round + 1 ≡ next_round machine.polls =
-      meets first round number (latest_poll life) machine.polls (received_numbers h) false i.numbered i.newest
+      meets first round number (latest_poll life) machine.polls (received_numbers h) false i.received.numbered i.received.newest
       named (omega arith) high is in
       let fits : number ≤ 255 = omega (arith, number_of-fits first round) in
       let known : latest_poll life ≡ Some number = same_number (latest_poll life) number is in
@@ -125,12 +125,12 @@ module _ (settings : Settings) (range : AreInRange settings) (first : ℕ) (mach
       ap (λ made. past_blocks settings h ++ map (behind past) made) l.made
       ∙ ap (λ made. past_blocks settings h ++ made) (map-append (behind past) l.earlier (block ∷ []))
       ∙ sym (append_assoc (past_blocks settings h) (map (behind past) l.earlier) (behind past block ∷ [])) in
-      let m = i.maker number known in
+      let m = i.received.maker number known in
       let count : length all ≡ length earlier + 1 = ap length split ∙ length-append earlier (behind past block ∷ []) in
       let this : m.round ≡ round = let e : next_round machine.polls ≡ m.round + 1 = m.newest in omega arith in
       let there : m.place ≡ length earlier =
       let e : length makers ≡ m.place + 1 = m.last in
-      let g : length makers ≡ length all = i.makers_in_order.count in
+      let g : length makers ≡ length all = i.received.makers_in_order.count in
       omega arith in
       let again = sent_again found.0 in
       let carried = again_carries found.0 block l.carried in
@@ -142,7 +142,7 @@ module _ (settings : Settings) (range : AreInRange settings) (first : ℕ) (mach
       number (reached settings h) all makers (said again) (answer_octets (answer_of again)) poll
       (carried_back settings.per_block again block range.few_per_block (omega arith)
       (newest_fits settings life l.earlier block l.made) carried)
-      (makers-repeated makers (next_round machine.polls) (round + 1) all high i.makers_in_order)
+      (makers-repeated makers (next_round machine.polls) (round + 1) all high i.received.makers_in_order)
       (record { place = m.place; round = round; last = m.last; made_by = m.made_by ∙ ap Some this; newest = refl })
       i.carry
       (record {

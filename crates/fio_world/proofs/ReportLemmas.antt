@@ -54,7 +54,7 @@ ReportGoesOn-done scenario text place world new event outcome on within here don
       (rw done.fine at (report_on-event scenario text place world event on within here));
 }
 
--- a refusal is the one that its fault tells of
+-- the refusal in the fault of a refusal is that refusal
 refusal_in-error_of : (reason : Refusal) → refusal_in (error_of reason) ≡ Some reason
 refusal_in-error_of (NotSent index) = refl
 refusal_in-error_of (OutOfOrder index last) = refl
@@ -80,7 +80,7 @@ ReportGoesOn-refused scenario text whole place world event fault takes on within
     ends_refused (place + 1) text whole _ (refusal on.machine event) _ _ takes fault cause reported
     (report_on-event scenario text place world event on within here)
 
--- below the last event the report tells how the run ended
+-- below the last event the report says how the run ended
 pub ReportGoesOn-end : (scenario : Scenario) (text whole : List ℕ) (place : ℕ) (world : Ends) (on : ReportGoesOn scenario text place world)
     → length scenario.events ≤ place
     → whole ≡ text ++ ending_text scenario.settings scenario.first on.machine

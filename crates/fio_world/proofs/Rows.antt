@@ -1,5 +1,5 @@
 -- Each row of the link machine keeps what every run keeps.
-use Rattle.std.proofs.Common.{◌≡◌, ℕ, suc, ◌+◌, ◌-◌, ◌^◌, ◌<◌, ◌≤◌, List, ◌∷◌, ◌++◌, length, Some, None, slice_get, refl, ap, sym, subst, ◌∙◌, arith, length-append, append-nil}
+use Rattle.std.proofs.Common.{◌≡◌, ℕ, suc, ◌+◌, ◌-◌, ◌^◌, ◌<◌, ◌≤◌, List, ◌∷◌, ◌++◌, length, Option, Some, None, slice_get, refl, ap, sym, subst, ◌∙◌, arith, length-append, append-nil}
 use Rattle.std.proofs.lemmas.Bool.Decides.{nat_tests}
 use Rattle.std.proofs.lemmas.Option.{same_Some}
 use Rattle.fio_message.specs.declared.commands.Command.{Command}
@@ -52,6 +52,19 @@ pub frame_at_place : (frames : List Sent) (place : ℕ)
     → item_numbered frames (place + 1) ≡ slice_get frames place
 frame_at_place frames place = let next : place + 1 ≡ suc place = omega arith in ap (item_numbered frames) next
 
+-- what holds after the delivery of each frame, from the one delivered last on, holds after a delivery
+-- that is not refused
+pub after_delivery : (P : ℕ → Option Sent → Type 0) (frames : List Sent) (last index : ℕ)
+    → delivery_refusal (length frames) last index ≡ None
+    → ((place : ℕ) (frame : Sent) → last ≤ place + 1 → slice_get frames place ≡ Some frame → P (place + 1) (Some frame))
+    → P index (item_numbered frames index)
+after_delivery P frames last index fine each =
+    let d = deliverable frames last index fine in
+    let at = d.numbered in
+    let le : last ≤ d.place + 1 = omega (arith, d.in_order) in
+    let here = sym (frame_at_place frames d.place ∙ d.found) in
+    subst (λ n. P n (item_numbered frames n)) (sym at) (subst (P (d.place + 1)) here (each d.place d.frame le d.found))
+
 -- the start
 pub keeps-start : (settings : Settings) (first : ℕ) → HasInvariant settings first start
 keeps-start settings first =
@@ -59,10 +72,12 @@ keeps-start settings first =
       polls = polls-none first 0 0;
       answers = answers-none 0;
       at_most = omega arith;
-      numbered = refl;
-      newest = λ n is. absurd (cc is);
-      makers_in_order = record { count = refl; rise = λ j k r s le p q. absurd (cc p); below = λ j r p. absurd (cc p) };
-      maker = λ n is. absurd (cc is);
+      received = record {
+        numbered = refl;
+        newest = λ n is. absurd (cc is);
+        makers_in_order = record { count = refl; rise = λ j k r s le p q. absurd (cc p); below = λ j r p. absurd (cc p) };
+        maker = λ n is. absurd (cc is);
+      };
       carry = λ p a r h. absurd (cc (h.at_place));
       rising = record { to = 0; rises = omega arith; limited = omega arith; ahead = λ k b r p q le. absurd (cc p) };
     }
@@ -123,10 +138,7 @@ module _ (settings : Settings) (range : AreInRange settings) (first : ℕ) (mach
             (next_round machine.polls) i.polls f refl i.at_most number;
         answers = i.answers;
         at_most = i.at_most;
-        numbered = i.numbered;
-        newest = i.newest;
-        makers_in_order = i.makers_in_order;
-        maker = i.maker;
+        received = i.received;
         carry = i.carry;
         rising = i.rising;
       }
@@ -149,18 +161,8 @@ module _ (settings : Settings) (range : AreInRange settings) (first : ℕ) (mach
   keeps events.Poll fine = keeps_sent (commands.Poll (number_of first machine.round)) own_poll
   keeps (events.Send command) fine = keeps_sent command (λ n is. absurd (cc (no_poll_in command fine, is)))
   keeps (events.ToModule index) fine =
-      let d = deliverable machine.to_module machine.last_to_module index fine in
-      let at = d.numbered in
-      let le : machine.last_to_module ≤ d.place + 1 = omega (arith, d.in_order) in
-      let here = sym (frame_at_place machine.to_module d.place ∙ d.found) in
-      subst (λ n. HasInvariant settings first (received settings machine n (item_numbered machine.to_module n))) (sym at)
-      (subst (λ f. HasInvariant settings first (received settings machine (d.place + 1) f)) here
-      (keeps_received settings range first machine i d.place d.frame le d.found))
+      after_delivery (λ n found. HasInvariant settings first (received settings machine n found))
+      machine.to_module machine.last_to_module index fine (keeps_received settings range first machine i)
   keeps (events.ToCpu index) fine =
-      let d = deliverable machine.to_cpu machine.last_to_cpu index fine in
-      let at = d.numbered in
-      let le : machine.last_to_cpu ≤ d.place + 1 = omega (arith, d.in_order) in
-      let here = sym (frame_at_place machine.to_cpu d.place ∙ d.found) in
-      subst (λ n. HasInvariant settings first (heard first machine n (item_numbered machine.to_cpu n))) (sym at)
-      (subst (λ f. HasInvariant settings first (heard first machine (d.place + 1) f)) here
-      (keeps_heard settings range first machine i d.place d.frame le d.found))
+      after_delivery (λ n found. HasInvariant settings first (heard first machine n found))
+      machine.to_cpu machine.last_to_cpu index fine (keeps_heard settings range first machine i)

@@ -3,7 +3,7 @@ use Rattle.fio_module.specs.Settings.{Settings}
 use Rattle.fio_world.specs.declared.event.Event.{Event}
 use Rattle.fio_world.specs.Link.{Machine, Refusal, start, refusal, after, Leads}
 use Rattle.fio_world.specs.ReportLines.{ending_text}
-use Rattle.fio_world.specs.Reports.{Report, report_from, unless_refused, EndsWith, IsReportOfRun}
+use Rattle.fio_world.specs.Reports.{Report, report_from, unless_refused, EndsWith, GoodReportIsOfWholeRun}
 use Rattle.fio_world.specs.Scripts.{Scenario}
 
 -- what is reported of events that are all done is good
@@ -39,8 +39,8 @@ run_from settings first number machine (event ∷ events) good =
     let rest = run_from settings first (number + 1) (after settings first machine event) events done.1 in
     (rest.0, (done.0, rest.1))
 
-pub is_report_of_run : (scenario : Scenario) → IsReportOfRun scenario
-is_report_of_run scenario = record {
+pub good_report_is_of_whole_run : (scenario : Scenario) → GoodReportIsOfWholeRun scenario
+good_report_is_of_whole_run scenario = record {
   good = good_from scenario.settings scenario.first 1 start scenario.events;
   ending = ending_from scenario.settings scenario.first 1 start scenario.events;
   run = run_from scenario.settings scenario.first 1 start scenario.events;

@@ -2,7 +2,6 @@
 use Rattle.std.proofs.Common.{◌≡◌, ℕ, zero, suc, ◌+◌, ◌-◌, ◌%◌, ◌<◌, ◌≤◌, ◌==◌, Bool, true, false, List, [], ◌∷◌, ◌++◌, length, map, Option, Some, None, Result, Ok, Err, slice_get, add-one, refl, ap, sym, subst, ◌∙◌, arith, if◌then◌else◌}
 use Rattle.std.specs.Option.{option_map, unwrap_or}
 use Rattle.std.specs.Result.{OnErr}
-use Rattle.std.proofs.lemmas.Bool.Decides.{nat_tests}
 use Rattle.std.proofs.lemmas.List.{length-map, map-append, length_push}
 use Rattle.std.proofs.lemmas.Option.{slice_get-map}
 use Rattle.arrayvec.specs.ArrayVec.{ArrayVec}
@@ -48,13 +47,6 @@ from_mapped : (found : Option Sent) (octets : List ℕ) → option_map octets_se
 from_mapped (Some frame) octets e = (frame, refl, cc)
 from_mapped None octets e = absurd cc
 
--- a number that may be delivered is that of a frame
-pub may_deliver : (count last index : ℕ) → delivery_refusal count last index ≡ None → (index ≡ 0 → ⊥) × (index ≤ count)
-may_deliver count last zero fine = absurd cc
-may_deliver count last (suc place) fine =
-    let high : place < count = grind (arith, nat_tests) in
-    (λ z. omega (arith, z), omega (arith, high))
-
 -- the CPU after a block, as the machine has it
 polling-next : (first : ℕ) (machine : Machine) (last : ℕ) (found : Option Block) → after_hearing (polling_of first machine) found ≡ polling_of first (heard_block first (record machine { last_to_cpu = last }) found)
 polling-next first machine last None = refl
@@ -86,17 +78,17 @@ silent (Some answer) None e is = absurd e
 silent (Some answer) (Some frame) e is = absurd cc
 
 -- a frame encodes the octets of the reply
-pub told : (reply : Option Answer) (found : Option (ArrayVec ℕ)) (frame : ArrayVec ℕ) → Encodes reply found → found ≡ Some frame → reply_octets reply ≡ frame.items ∷ []
-told None found frame e is = absurd cc
-told (Some answer) None frame e is = absurd e
-told (Some answer) (Some other) frame e is =
+pub encoded : (reply : Option Answer) (found : Option (ArrayVec ℕ)) (frame : ArrayVec ℕ) → Encodes reply found → found ≡ Some frame → reply_octets reply ≡ frame.items ∷ []
+encoded None found frame e is = absurd cc
+encoded (Some answer) None frame e is = absurd e
+encoded (Some answer) (Some other) frame e is =
     let same : other ≡ frame = cc in
     ap (λ os. os ∷ []) (sym e.spelled ∙ ap (λ (f : ArrayVec ℕ). f.items) same)
 
--- what a reply brings whose octets a frame has
-pub told_outcome : (count : ℕ) (reply : Option Answer) (frame : ArrayVec ℕ) → reply_octets reply ≡ frame.items ∷ [] → replied_after count reply ≡ outcomes.Sent (count + 1) frame
-told_outcome count None frame e = absurd cc
-told_outcome count (Some answer) frame e =
+-- the outcome of a reply whose octets a frame has
+pub encoded_outcome : (count : ℕ) (reply : Option Answer) (frame : ArrayVec ℕ) → reply_octets reply ≡ frame.items ∷ [] → replied_after count reply ≡ outcomes.Sent (count + 1) frame
+encoded_outcome count None frame e = absurd cc
+encoded_outcome count (Some answer) frame e =
     let same : answer_octets answer ≡ frame.items = cc in
     ap (λ (os : List ℕ). sent_after count os) same
 
@@ -234,7 +226,7 @@ module _ (settings : Settings) (first : ℕ) (machine : Machine) (world : Ends) 
             (shown_block index (block_in d.0.octets) new module_end (poller ∙ ap (λ o. after_hearing world.poller_end (block_in o)) same) to_module to_cpu last_to_module last_to_cpu);
       }
 
-  -- the CPU wanted memory for the frame with this number
+  -- the CPU ran out of memory for the frame with this number
   pub fault_heard : (index : ℕ) (octets : List ℕ)
       → delivery_refusal (length world.to_cpu) world.last_to_cpu index ≡ None
       → item_numbered world.to_cpu index ≡ Some octets

@@ -1,4 +1,4 @@
--- What arrives: clean rounds bring blocks, nothing is lost unless the buffer was full, and it never
+-- What arrives: clean rounds deliver blocks, nothing is lost unless the buffer was full, and it never
 -- is where the module is polled often.
 use Rattle.std.specs.Prelude.{◌≡◌, ℕ, zero, suc, ◌+◌, ◌*◌, ◌≤◌, List, [], ◌∷◌, ◌++◌, map, length, take, slice_get, Some}
 use Rattle.fio_message.specs.Blocks.{Block}

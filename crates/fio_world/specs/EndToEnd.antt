@@ -17,7 +17,7 @@ abbrev pub is_cut : ℕ → List ℕ → ℕ → Bool
 is_cut start [] last = start == last
 is_cut start (end ∷ ends) last = nat_le start end && is_cut end ends last
 
--- frames of at most 773 octets
+-- frames of at most `FRAME_OCTETS` octets
 abbrev pub are_short : List (List ℕ) → Bool
 are_short frames = list_all (λ frame. nat_le (length frame) FRAME_OCTETS) frames
 

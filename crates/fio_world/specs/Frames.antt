@@ -6,19 +6,21 @@ use Rattle.fio_message.specs.Status.{says_again}
 use Rattle.fio_module.specs.Life.{Received, History}
 use Rattle.fio_world.specs.Link.{Sent}
 
--- the frame at this place, from 0, spells a poll with this number, and has this round
-pub record HasPoll (frames : List Sent) (place number round : ℕ) : Type 0 where
+-- the frame at this place, from 0, is decoded to this message, and has this round
+pub record HasMessage {A : Type 0} (decoded : List ℕ → Option A) (frames : List Sent) (place : ℕ)
+    (message : A) (round : ℕ) : Type 0 where
   pub frame : Sent
   pub at_place : slice_get frames place ≡ Some frame
-  pub spells : poll_in frame.octets ≡ Some number
+  pub spells : decoded frame.octets ≡ Some message
   pub of_round : frame.round ≡ round
 
+-- the frame at this place, from 0, spells a poll with this number, and has this round
+abbrev pub HasPoll : List Sent → ℕ → ℕ → ℕ → Type 0
+HasPoll frames place number round = HasMessage poll_in frames place number round
+
 -- the frame at this place, from 0, spells a block answer with this block, to a poll of this round
-pub record HasBlock (frames : List Sent) (place : ℕ) (block : Block) (round : ℕ) : Type 0 where
-  pub frame : Sent
-  pub at_place : slice_get frames place ≡ Some frame
-  pub spells : block_in frame.octets ≡ Some block
-  pub of_round : frame.round ≡ round
+abbrev pub HasBlock : List Sent → ℕ → Block → ℕ → Type 0
+HasBlock frames place block round = HasMessage block_in frames place block round
 
 -- the numbers of polls, with that of a frame which is a poll, newest first
 abbrev pub number_with : Option ℕ → List ℕ → List ℕ

@@ -1,12 +1,11 @@
 -- The report of a script: a line for each event of its run, and then how it ended.
-use Rattle.std.specs.Prelude.{◌≡◌, ℕ, ◌+◌, Bool, true, false, List, [], ◌∷◌, ◌++◌, Option, Some, None, Result, Ok, Err}
+use Rattle.std.specs.Prelude.{◌≡◌, ℕ, ◌+◌, Bool, true, false, List, [], ◌∷◌, ◌++◌, Option, Some, None}
 use Rattle.fio_module.specs.Settings.{Settings}
 use Rattle.fio_world.specs.declared.event.Event.{Event}
 use Rattle.fio_world.specs.Link.{Machine, Refusal, start, refusal, after, IsRun}
 use Rattle.fio_world.specs.Outcomes.{outcome_of}
 use Rattle.fio_world.specs.ReportLines.{outcome_line, refused_line, ending_text}
 use Rattle.fio_world.specs.Scripts.{Scenario}
-use Rattle.fio_world.specs.declared.script.ScriptError.{ScriptError}
 
 -- a text, and whether it reports no fault
 pub record Report : Type 0 where
@@ -36,12 +35,6 @@ report_from settings first number machine (event ∷ events) =
 abbrev pub report_of : Scenario → Report
 report_of scenario = report_from scenario.settings scenario.first 1 start scenario.events
 
--- a text spells a script, and this is its report
-abbrev pub Reports : Result Scenario ScriptError → List ℕ → Bool → Type 0
-Reports (Ok scenario) text good =
-    (text ≡ (report_of scenario).text) × (good ≡ (report_of scenario).good)
-Reports (Err fault) text good = ⊥
-
 -- ---- the law of reports
 
 -- the text ends with these lines
@@ -50,7 +43,7 @@ EndsWith text lines = (before : List ℕ) × (text ≡ before ++ lines)
 
 -- where all events of a script are done, its report is good and ends with how the run has ended;
 -- and a report is good only there
-pub record IsReportOfRun (scenario : Scenario) : Type 0 where
+pub record GoodReportIsOfWholeRun (scenario : Scenario) : Type 0 where
   pub good :
       (machine : Machine) → IsRun scenario.settings scenario.first scenario.events machine →
       (report_of scenario).good ≡ true

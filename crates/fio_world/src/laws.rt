@@ -14,7 +14,7 @@ ghost use Rattle.fio_world.specs.InTime.{RoundsMakeBlocks, RoundsKeepUp, AllArri
 ghost use Rattle.std.specs.List.{AllByRecursion};
 ghost use Rattle.fio_world.specs.Collected.{Collects};
 ghost use Rattle.fio_world.specs.Scripts.{Scenario};
-ghost use Rattle.fio_world.specs.Reports.{IsReportOfRun};
+ghost use Rattle.fio_world.specs.Reports.{GoodReportIsOfWholeRun};
 ghost use Rattle.fio_world.specs.Lines.{IsOneLine, lines_of, text_of};
 
 /// What the first m blocks of a life are in the record are pieces of its transition log from the
@@ -146,9 +146,9 @@ pub fn settings_are_in_range()
 
 /// A report is good exactly where all events of its script are done, and then ends with how the run
 /// has ended.
-#[tactic(auto, using(crate::proofs::RunReports::is_report_of_run))]
-pub fn reports_tell_of_runs()
-    ensures { (scenario : Scenario) → IsReportOfRun scenario }
+#[tactic(auto, using(crate::proofs::RunReports::good_report_is_of_whole_run))]
+pub fn good_reports_are_of_whole_runs()
+    ensures { (scenario : Scenario) → GoodReportIsOfWholeRun scenario }
 {}
 
 /// The lines of a text are those that it was made of, whether the last one is ended or not.

@@ -1,5 +1,5 @@
-//! Both ends of the transition link and the bus between them, what holds of every run, and the texts that
-//! tell of runs.
+//! Both ends of the transition link and the bus between them, what holds of every run, scripts, and the
+//! reports of their runs.
 //!
 //! What the crate above uses: a run is a run of the link machine, and of each machine that a run leads to
 //! the headline and the other promises hold; a report is that of its script.

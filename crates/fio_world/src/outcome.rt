@@ -20,7 +20,7 @@ pub enum Outcome {
     },
     /// The CPU heard a frame.
     Heard(Heard),
-    /// There is nothing to tell.
+    /// There is nothing to report.
     Quiet,
 }
 

@@ -147,7 +147,7 @@ fn events_of(alloc: Global, steps: &[Step<'_>]) -> Result<Vec<Event>, Memory>
     ensures ok { IfOk result (λ events. events.items ≡ steps.now) }
     ensures err { OnErr result (steps.now ≢ []) }
 {
-    let mut events = Vec::new(alloc);
+    let mut events = Vec::with_capacity(alloc, steps.len())?;
     'steps: for step in steps {
         events.push(step.event())?;
     }

@@ -1,9 +1,9 @@
 //! Runs of scripts, and what is reported of them.
-ghost use Rattle.std.specs.Prelude.{◌≡◌, ◌≢◌, ◌⊎◌, ◌++◌, Err, map, IfOk, IfErr, OnOk};
+ghost use Rattle.std.specs.Prelude.{◌≡◌, ◌≢◌, ◌⊎◌, ◌++◌, Err, map, IfOk, IfErr, OnOk, IsOkAnd};
 ghost use Rattle.fio_world.specs.Done.{outcome_in};
 ghost use Rattle.fio_world.specs.Lines.{lines_of};
 ghost use Rattle.fio_world.specs.ReportLines.{outcome_line};
-ghost use Rattle.fio_world.specs.Reports.{report_of, Reports};
+ghost use Rattle.fio_world.specs.Reports.{report_of};
 ghost use Rattle.fio_world.specs.Scripts.{scenario_of, scenario_with, script_in, HasGoodFront, IsScript};
 
 mod lines;
@@ -45,8 +45,9 @@ pub fn report(alloc: Global, script: &Script) -> Result<Report, Memory>
 /// The fault of the text's first faulty line; `Memory` where there was none for the steps of the
 /// script, for the run or for the report.
 pub fn report_text(alloc: Global, text: &[u8]) -> Result<Report, ScriptError>
-    ensures ok { IfOk result (λ report.
-        Reports (script_in text.now) report.text.items report.good) }
+    ensures ok { IfOk result (λ report. IsOkAnd (script_in text.now) (λ scenario.
+        (report.text.items ≡ (report_of scenario).text)
+        × (report.good ≡ (report_of scenario).good))) }
     ensures err { IfErr result (λ fault. fault ≢ ScriptError.Memory
         → script_in text.now ≡ Err fault) }
     ensures memory { result ≡ Err ScriptError.Memory

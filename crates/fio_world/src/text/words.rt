@@ -77,8 +77,8 @@ pub fn read_inputs(word: &[u8]) -> Option<u64>
 pub fn read_octets(alloc: Global, word: &[u8]) -> Result<Option<Vec<u8>>, Memory>
     ensures read { IfOk result (λ found.
         option_map (λ octets. octets.items) found ≡ octets_in word.now) }
-    // The empty word asks for no memory.
-    ensures wanted { OnErr result (word.now ≢ []) }
+    // The empty word allocates nothing.
+    ensures memory { OnErr result (word.now ≢ []) }
 {
     if word.is_empty() {
         return Ok(None);

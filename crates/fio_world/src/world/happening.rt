@@ -1,17 +1,17 @@
 //! One event on a world.
-ghost use Rattle.std.specs.Prelude.{◌≡◌, ◌≢◌, ◌+◌, ◌≤◌, ◌∷◌, ◌++◌, [], ℕ, IfOk, IfErr, MatchResult, OnOk, OnErr, length};
+ghost use Rattle.std.specs.Prelude.{◌≡◌, ◌≢◌, ◌+◌, ◌≤◌, ◌∷◌, ◌++◌, [], ℕ, Some, IfOk, IfErr, OnOk, OnErr, length};
 ghost use Rattle.fio_message.specs.declared.limits.TheConstants.{FRAME_OCTETS};
 ghost use Rattle.fio_module.specs.Settings.{Settings};
 ghost use Rattle.fio_world.specs.declared.event.Event.{Event as Happening};
 ghost use Rattle.fio_world.specs.declared.event.Event.TheVariants as events;
 ghost use Rattle.fio_world.specs.Done.{octets_numbered, outcome_in, result_in};
-ghost use Rattle.fio_world.specs.Link.{delivery_refusal, Machine};
+ghost use Rattle.fio_world.specs.Link.{delivery_refusal, item_numbered, Machine};
 ghost use Rattle.fio_world.specs.Steps.{command_named, event_of};
 ghost use Rattle.fio_world.specs.Worlds.{IsFault, Shows, Steps};
 
 use super::World;
 use super::done::Done;
-use super::frames::frame_of;
+use super::frames::{StoredFrames, frame_of};
 use crate::event::Event;
 use crate::outcome::{Outcome, WorldError};
 use crate::script::{Form, Step, command_named};
@@ -58,6 +58,8 @@ impl Happens for Step<'_> {
 impl World {
     /// Lets an event in the form of its line happen, or refuses it and changes nothing. What needs
     /// room for a frame or a command stands apart: the room would be cleared for each event.
+    // Inlined, so that an event of a known form goes straight to what it does.
+    #[inline(always)]
     fn take(&mut self, form: &Form<'_>) -> Result<Done, WorldError>
         ensures row { (settings : Settings) (first : ℕ) (machine : Machine)
             → Shows settings first machine self.old
@@ -129,6 +131,8 @@ impl World {
     }
 
     /// The outcome that this is.
+    // Inlined, so that a caller who reads no frame copies none.
+    #[inline(always)]
     pub(crate) fn outcome(&self, done: Done) -> Outcome
         ensures { result ≡ outcome_in self.now done }
     {
@@ -189,11 +193,11 @@ impl World {
             self.new }
         ensures err { OnErr result (self.new ≡ self.old) }
     {
-        check_delivery(self.to_module.len(), self.last_to_module, index)?;
+        let octets = to_deliver(&self.to_module, self.last_to_module, index)?;
         if self.to_cpu.reserve().is_err() {
             return Err(WorldError::Memory);
         }
-        let answer = self.module.receive(self.to_module.octets_of(index));
+        let answer = self.module.receive(octets);
         self.last_to_module = index;
         match &answer {
             None => Ok(Done::Quiet),
@@ -212,8 +216,8 @@ impl World {
             self.new }
         ensures err { OnErr result (self.new ≡ self.old) }
     {
-        check_delivery(self.to_cpu.len(), self.last_to_cpu, index)?;
-        match self.poller.hear(self.to_cpu.octets_of(index)) {
+        let octets = to_deliver(&self.to_cpu, self.last_to_cpu, index)?;
+        match self.poller.hear(octets) {
             Ok(heard) => {
                 self.last_to_cpu = index;
                 Ok(Done::Heard(heard))
@@ -223,18 +227,20 @@ impl World {
     }
 }
 
-/// Refuses the delivery of the frame with this number, of so many sent in its direction, where none
-/// has it or where the frame delivered last has a higher one.
-fn check_delivery(sent: usize, last: usize, index: usize) -> Result<(), WorldError>
-    ensures { MatchResult result
-        (λ _. delivery_refusal sent last index ≡ None)
-        (λ fault. IsFault (delivery_refusal sent last index) ⊥ fault) }
+/// The octets of the frame with this number among those sent in its direction. The delivery is refused
+/// where none has it, or where the frame delivered last has a higher one.
+fn to_deliver(frames: &StoredFrames, last: usize, index: usize) -> Result<&[u8], WorldError>
+    ensures fine { OnOk result (delivery_refusal (length frames.now.frames) last index ≡ None) }
+    ensures is { IfOk result (λ octets. item_numbered frames.now.frames index ≡ Some octets.now) }
+    ensures err { IfErr result (λ fault.
+        IsFault (delivery_refusal (length frames.now.frames) last index) ⊥ fault) }
 {
+    let sent = frames.len();
     if index == 0 || sent < index {
         return Err(WorldError::NotSent { index });
     }
     if index < last {
         return Err(WorldError::OutOfOrder { index, last });
     }
-    Ok(())
+    Ok(frames.octets_of(index))
 }

@@ -5,6 +5,7 @@ use Rattle.std.proofs.lemmas.Result.{err_from_is_err_and}
 use Rattle.fio_world.proofs.ReadingLemmas.{read_on-start, read_on-end, read_on-event, read_on-fault, HaveRead-start, HaveRead-event, good_front, no_memory, more_than_none, is_read_as}
 use Rattle.fio_world.specs.EventLines.{IsReadAs}
 use Rattle.fio_world.specs.Lines.{lines_of}
+use Rattle.fio_world.specs.declared.script.events.TheConstants.{MAX_EVENTS}
 use Rattle.fio_world.proofs.script.events.read_steps.Goals as goal
 
 pub lines-init : goal.lines-init
@@ -19,7 +20,7 @@ lines-init c =
 
 pub lines-preserved : goal.lines-preserved
 lines-preserved c =
-    let few : vec_len c.lines.steps < 10000 = search rules in
+    let few : vec_len c.lines.steps < MAX_EVENTS = search rules in
     let gives = sym c.in_ok-step.ensures in
     record {
       events = rw (c.in_ok-push.ensures.items, c.in_ok-push.ensures.len)
@@ -35,19 +36,19 @@ lines-preserved c =
 pub returns-in_err-step-clause-err : goal.returns-in_err-step-clause-err
 returns-in_err-step-clause-err c =
     let fault = err_from_is_err_and c.from_residual.result c.from_residual.ensures.1 in
-    let few : vec_len c.lines.steps < 10000 = search rules in
-    rw (fault.1, fault.2) (λ told.
+    let few : vec_len c.lines.steps < MAX_EVENTS = search rules in
+    rw (fault.1, fault.2) (λ other.
     sym c.lines.invariant.events
     ∙ read_on-fault _ _ _ _ _ _ _ c.in-Some.ensures.steps few (sym c.in_err-step.ensures))
 
 pub returns-in_err-step-clause-memory : goal.returns-in_err-step-clause-memory
-returns-in_err-step-clause-memory c told =
+returns-in_err-step-clause-memory c is_memory =
     let fault = err_from_is_err_and c.from_residual.result c.from_residual.ensures.1 in
-    absurd (no_memory c.args.restarts (c.in-Some.number, c.in-Some.line.now) (cc (told, fault.1, fault.2, c.in_err-step.ensures)))
+    absurd (no_memory c.args.restarts (c.in-Some.number, c.in-Some.line.now) (cc (is_memory, fault.1, fault.2, c.in_err-step.ensures)))
 
 pub returns-in_err-push-clause-memory : goal.returns-in_err-push-clause-memory
-returns-in_err-push-clause-memory c told =
-    let few : vec_len c.lines.steps < 10000 = search rules in
+returns-in_err-push-clause-memory c is_memory =
+    let few : vec_len c.lines.steps < MAX_EVENTS = search rules in
     let read = HaveRead-event _ _ _ _ _ _ _ c.lines.invariant.front c.in-Some.ensures.steps (sym c.in_ok-step.ensures) in
     good_front c.args.restarts (lines_of c.args.text.now) _ _ read (rw (length_push c.lines.steps.items c.in_ok-step.step) (omega (arith, few))) (more_than_none c.lines.steps.items c.in_ok-step.step)
 
