@@ -107,6 +107,24 @@ pub extern "C" fn fio2070_module_receive(
         → StandsFor settings device.old history
         → WritesAnswer (reply_to settings history octets.now) out.old out.new result }
 {
+    if device.state.receive_poll(&mut device.waiting, octets) {
+        write_front(device.state.block(), out)
+    } else {
+        receive_command(device, octets, out)
+    }
+}
+
+/// The same of octets that may be any command. It stands apart, since its room for an answer is
+/// cleared at its entry, and a poll needs none.
+#[inline(never)]
+fn receive_command(device: &mut Module, octets: &[u8], out: &mut [u8; FRAME_OCTETS]) -> usize
+    ensures stands { (settings : Settings) (history : History)
+        → StandsFor settings device.old history
+        → StandsFor settings device.new (Received octets.now ∷ history) }
+    ensures reply { (settings : Settings) (history : History)
+        → StandsFor settings device.old history
+        → WritesAnswer (reply_to settings history octets.now) out.old out.new result }
+{
     let mut frame = Frame::new();
     if device.state.answer(&mut device.waiting, octets, &mut frame) {
         write_front(frame.as_slice(), out)
