@@ -1,5 +1,6 @@
-use Rattle.std.proofs.Common.{◌≡◌, ◌≤◌, length, take, true}
+use Rattle.std.proofs.Common.{◌≡◌, ◌≤◌, length, map, take, true}
 use Rattle.std.specs.List.{list_all}
+use Rattle.fio_message.specs.Octets.{entry_octets}
 use Rattle.fio_c.specs.Flat.{entry_names_input, read_entries}
 use Rattle.fio_c.proofs.answer_frames.read_entries.Given as goal
 
@@ -7,6 +8,6 @@ use Rattle.fio_c.proofs.answer_frames.read_entries.Given as goal
 abbrev pub invariant-loop-entry : goal.invariant-loop-entry
 invariant-loop-entry l = record {
   few : length l.entries ≤ 255;
-  read : l.read.items ≡ read_entries (take l.entry-index l.entries);
+  read : l.read.items ≡ map entry_octets (read_entries (take l.entry-index l.entries));
   named : list_all entry_names_input (take l.entry-index l.entries) ≡ true;
 }
