@@ -5,7 +5,7 @@ ghost use Rattle.fio_message.specs.Answers.{SpellsAnswer};
 ghost use Rattle.fio_module.specs.Settings.{Settings};
 ghost use Rattle.fio_module.specs.Life.{History, Received};
 ghost use Rattle.fio_module.specs.Replies.{reply_to, Encodes};
-ghost use Rattle.fio_module.specs.State.{IsAfterHistory, Obeys, frame_if};
+ghost use Rattle.fio_module.specs.State.{IsAfterHistory, Receives, Obeys, frame_if};
 
 use super::ModuleState;
 use crate::outputs::Outputs;
@@ -41,12 +41,8 @@ impl ModuleState {
         octets: &[u8],
         frame: &mut Frame,
     ) -> bool
-        ensures stands { (settings : Settings) (history : History)
-            → IsAfterHistory settings self.old (R.held ring.old) history
-            → IsAfterHistory settings self.new (R.held ring.new) (Received octets.now ∷ history) }
-        ensures reply { (settings : Settings) (history : History)
-            → IsAfterHistory settings self.old (R.held ring.old) history
-            → Encodes (reply_to settings history octets.now) (frame_if result frame.new) }
+        ensures { Receives self.old (R.held ring.old) self.new (R.held ring.new) octets.now
+            (frame_if result frame.new) }
     {
         match &decode_command(octets) {
             Ok(Command::ConfigureInputs { .. }) => self.answer_listed(ring, octets, frame),
@@ -64,12 +60,8 @@ impl ModuleState {
         octets: &[u8],
         frame: &mut Frame,
     ) -> bool
-        ensures stands { (settings : Settings) (history : History)
-            → IsAfterHistory settings self.old (R.held ring.old) history
-            → IsAfterHistory settings self.new (R.held ring.new) (Received octets.now ∷ history) }
-        ensures reply { (settings : Settings) (history : History)
-            → IsAfterHistory settings self.old (R.held ring.old) history
-            → Encodes (reply_to settings history octets.now) (frame_if result frame.new) }
+        ensures { Receives self.old (R.held ring.old) self.new (R.held ring.new) octets.now
+            (frame_if result frame.new) }
     {
         match &decode_command(octets) {
             Ok(command) => self.obey(ring, command, frame),
