@@ -98,13 +98,14 @@ read_item item = record {
 abbrev pub read_items : List ConfigurationItem → List InputItem
 read_items items = map read_item items
 
--- an item names an input that a message can name
-abbrev pub names_input : ConfigurationItem → Bool
-names_input item = nat_lt item.input 128
+-- a message can name an input below 128
+abbrev pub can_be_named : ℕ → Bool
+can_be_named input = nat_lt input 128
 
 -- the items of a configuration: at most 255, each of them of an input below 128
 abbrev pub are_items : List ConfigurationItem → Bool
-are_items items = nat_le (length items) CONFIGURATION_ITEMS && list_all names_input items
+are_items items =
+    nat_le (length items) CONFIGURATION_ITEMS && list_all (λ item. can_be_named item.input) items
 
 -- the place of the first item that names an input above 63, which the module does not have
 abbrev pub first_absent : List ConfigurationItem → Option ℕ
@@ -166,13 +167,10 @@ read_entry entry = record {
 abbrev pub read_entries : List Entry → List EntryOf
 read_entries entries = map read_entry entries
 
--- an entry names an input that a message can name
-abbrev pub entry_names_input : Entry → Bool
-entry_names_input entry = nat_lt entry.input 128
-
 -- the entries of a block: at most 255, each of them of an input below 128
 abbrev pub are_entries : List Entry → Bool
-are_entries entries = nat_le (length entries) BLOCK_ENTRIES && list_all entry_names_input entries
+are_entries entries =
+    nat_le (length entries) BLOCK_ENTRIES && list_all (λ entry. can_be_named entry.input) entries
 
 -- which answer of this type has a body only
 abbrev pub kind_of_answer : ℕ → Option OtherAnswer

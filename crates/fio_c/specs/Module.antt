@@ -11,6 +11,6 @@ abbrev pub settings_of : ℕ → ℕ → Settings
 settings_of id per_block = record { id = id; per_block = per_block; waiting = 1024 }
 
 -- the module was started with these settings, and has been through this history since
-abbrev pub StandsFor : Settings → Module → History → Type 0
-StandsFor settings value history =
+abbrev pub IsModuleAfter : Settings → Module → History → Type 0
+IsModuleAfter settings value history =
     IsAfterHistory settings value.state (held_in value.waiting) history

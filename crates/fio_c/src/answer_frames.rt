@@ -1,7 +1,8 @@
 //! Answers, written into a buffer of the caller.
-ghost use Rattle.std.specs.Prelude.{◌≡◌, ◌<◌, ◌≤◌, length, Some, None, true, false, if◌then◌else◌};
+ghost use Rattle.std.specs.Prelude.{◌≡◌, ◌<◌, ◌≤◌, length, map, Some, None, true, false, if◌then◌else◌};
 ghost use Rattle.fio_message.specs.declared.limits.TheConstants.{BODY_OCTETS};
 ghost use Rattle.fio_message.specs.Answers.{answer_octets};
+ghost use Rattle.fio_message.specs.Octets.{entry_octets};
 ghost use Rattle.fio_message.specs.declared.answers.Answer.TheVariants as answers;
 ghost use Rattle.fio_message.specs.declared.answers.OtherAnswer.{OtherAnswer as Kind};
 ghost use Rattle.fio_c.specs.Flat.{are_entries, read_entries, kind_of_answer};
@@ -10,7 +11,10 @@ ghost use Rattle.fio_c.specs.Written.{Writes, WritesNothing};
 use crate::blocks::Entry;
 use crate::written::{write_front, write_with_body};
 use arrayvec::ArrayVec;
-use fio_message::{Answer, BLOCK_ENTRIES, BODY_OCTETS, InputNumber, OtherAnswer, encode_answer};
+use fio_message::{
+    Answer, BLOCK_ENTRIES, BODY_OCTETS, BlockStatus, EntryOctets, InputNumber, KeptBlock,
+    OtherAnswer, encode_answer,
+};
 
 /// Writes an answer, and returns how many octets it has: 0 where there is no room. Inlined, so that no
 /// answer and no frame is made where the type is known.
@@ -102,31 +106,30 @@ pub extern "C" fn fio2070_encode_block_answer(
     let Some(entries) = read_entries(entries) else {
         return 0;
     };
-    let answer = Answer::Block {
-        block,
-        entries,
-        status,
-        stamp,
-    };
-    write_answer(&answer, out)
+    let mut kept = KeptBlock::new();
+    let status = BlockStatus::from_octet(status);
+    kept.write(block, entries.as_slice(), &[], 255, status, stamp);
+    write_front(kept.as_slice(), out)
 }
 
-/// The entries of a block, `None` where there are too many or one names an input above 127.
-fn read_entries(entries: &[Entry]) -> Option<ArrayVec<fio_message::Entry, 255>>
+/// The entries of a block as it carries them, `None` where there are too many or one names an input
+/// above 127.
+fn read_entries(entries: &[Entry]) -> Option<ArrayVec<EntryOctets, 255>>
     ensures { result
         ≡ (if are_entries entries.now
-        then Some (record { items = read_entries entries.now }) else None) }
+        then Some (record { items = map entry_octets (read_entries entries.now) }) else None) }
 {
     if entries.len() > BLOCK_ENTRIES {
         return None;
     }
     let mut read = ArrayVec::new();
     for entry in entries {
-        read.push(fio_message::Entry {
+        let entry = fio_message::Entry {
             input: InputNumber::new(entry.input)?,
             level: entry.state != 0,
             stamp: entry.stamp,
-        });
+        };
+        read.push(entry.octets());
     }
     Some(read)
 }

@@ -9,7 +9,7 @@ ghost use Rattle.fio_module.specs.Log.{log_of};
 ghost use Rattle.fio_module.specs.Blocks.{newest_end};
 ghost use Rattle.fio_module.specs.Flags.{watchdog_of, outputs_of};
 ghost use Rattle.fio_module.specs.Replies.{reply_to};
-ghost use Rattle.fio_c.specs.Module.{StandsFor, settings_of};
+ghost use Rattle.fio_c.specs.Module.{IsModuleAfter, settings_of};
 ghost use Rattle.fio_c.specs.Written.{WritesAnswer};
 
 use crate::written::write_front;
@@ -33,7 +33,7 @@ pub struct Module {
 #[unsafe(no_mangle)]
 pub extern "C" fn fio2070_module_start(device: &mut Module, id: u8, per_block: u8) -> u8
     ensures made { per_block ≢ 0
-        → (result ≡ 0) × StandsFor (settings_of id per_block) device.new [] }
+        → (result ≡ 0) × IsModuleAfter (settings_of id per_block) device.new [] }
     ensures refused { per_block ≡ 0 → (result ≡ 1) × (device.new ≡ device.old) }
 {
     match Limits::new(per_block, WAITING) {
@@ -52,8 +52,8 @@ pub extern "C" fn fio2070_module_start(device: &mut Module, id: u8, per_block: u
 #[unsafe(no_mangle)]
 pub extern "C" fn fio2070_module_restart(device: &mut Module)
     ensures { (settings : Settings) (history : History)
-        → StandsFor settings device.old history
-        → StandsFor settings device.new (Restart ∷ history) }
+        → IsModuleAfter settings device.old history
+        → IsModuleAfter settings device.new (Restart ∷ history) }
 {
     device.state.restart(&mut device.waiting);
 }
@@ -64,8 +64,8 @@ pub extern "C" fn fio2070_module_restart(device: &mut Module)
 #[unsafe(no_mangle)]
 pub extern "C" fn fio2070_module_scan(device: &mut Module, raw: u64)
     ensures { (settings : Settings) (history : History)
-        → StandsFor settings device.old history
-        → StandsFor settings device.new (Scan raw ∷ history) }
+        → IsModuleAfter settings device.old history
+        → IsModuleAfter settings device.new (Scan raw ∷ history) }
 {
     device.state.scan(&mut device.waiting, raw);
 }
@@ -74,8 +74,8 @@ pub extern "C" fn fio2070_module_scan(device: &mut Module, raw: u64)
 #[unsafe(no_mangle)]
 pub extern "C" fn fio2070_module_line_sync(device: &mut Module)
     ensures { (settings : Settings) (history : History)
-        → StandsFor settings device.old history
-        → StandsFor settings device.new (LineSync ∷ history) }
+        → IsModuleAfter settings device.old history
+        → IsModuleAfter settings device.new (LineSync ∷ history) }
 {
     device.state.line_sync();
 }
@@ -85,8 +85,8 @@ pub extern "C" fn fio2070_module_line_sync(device: &mut Module)
 #[unsafe(no_mangle)]
 pub extern "C" fn fio2070_module_raise(device: &mut Module, mask: u8)
     ensures { (settings : Settings) (history : History)
-        → StandsFor settings device.old history
-        → StandsFor settings device.new (Raise mask ∷ history) }
+        → IsModuleAfter settings device.old history
+        → IsModuleAfter settings device.new (Raise mask ∷ history) }
 {
     device.state.raise(mask);
 }
@@ -101,10 +101,28 @@ pub extern "C" fn fio2070_module_receive(
     out: &mut [u8; FRAME_OCTETS],
 ) -> usize
     ensures stands { (settings : Settings) (history : History)
-        → StandsFor settings device.old history
-        → StandsFor settings device.new (Received octets.now ∷ history) }
+        → IsModuleAfter settings device.old history
+        → IsModuleAfter settings device.new (Received octets.now ∷ history) }
     ensures reply { (settings : Settings) (history : History)
-        → StandsFor settings device.old history
+        → IsModuleAfter settings device.old history
+        → WritesAnswer (reply_to settings history octets.now) out.old out.new result }
+{
+    if device.state.receive_poll(&mut device.waiting, octets) {
+        write_front(device.state.block(), out)
+    } else {
+        receive_command(device, octets, out)
+    }
+}
+
+/// The same of octets that may be any command. It stands apart, since its room for an answer is
+/// cleared at its entry, and a poll needs none.
+#[inline(never)]
+fn receive_command(device: &mut Module, octets: &[u8], out: &mut [u8; FRAME_OCTETS]) -> usize
+    ensures stands { (settings : Settings) (history : History)
+        → IsModuleAfter settings device.old history
+        → IsModuleAfter settings device.new (Received octets.now ∷ history) }
+    ensures reply { (settings : Settings) (history : History)
+        → IsModuleAfter settings device.old history
         → WritesAnswer (reply_to settings history octets.now) out.old out.new result }
 {
     let mut frame = Frame::new();
@@ -119,7 +137,7 @@ pub extern "C" fn fio2070_module_receive(
 #[unsafe(no_mangle)]
 pub extern "C" fn fio2070_module_outputs(device: &Module) -> Outputs
     ensures { (settings : Settings) (history : History)
-        → StandsFor settings device.now history
+        → IsModuleAfter settings device.now history
         → result ≡ outputs_of (life_of history) }
 {
     device.state.outputs()
@@ -130,7 +148,7 @@ pub extern "C" fn fio2070_module_outputs(device: &Module) -> Outputs
 #[unsafe(no_mangle)]
 pub extern "C" fn fio2070_module_watchdog_ms(device: &Module) -> u8
     ensures { (settings : Settings) (history : History)
-        → StandsFor settings device.now history
+        → IsModuleAfter settings device.now history
         → result ≡ unwrap_or (watchdog_of (life_of history)) 0 }
 {
     device.state.watchdog_ms().unwrap_or(0)
@@ -140,7 +158,7 @@ pub extern "C" fn fio2070_module_watchdog_ms(device: &Module) -> u8
 #[unsafe(no_mangle)]
 pub extern "C" fn fio2070_module_counter(device: &Module) -> u32
     ensures { (settings : Settings) (history : History)
-        → StandsFor settings device.now history
+        → IsModuleAfter settings device.now history
         → result ≡ counter_of (life_of history) }
 {
     device.state.counter()
@@ -150,7 +168,7 @@ pub extern "C" fn fio2070_module_counter(device: &Module) -> u32
 #[unsafe(no_mangle)]
 pub extern "C" fn fio2070_module_filtered(device: &Module) -> u64
     ensures { (settings : Settings) (history : History)
-        → StandsFor settings device.now history
+        → IsModuleAfter settings device.now history
         → (input : ℕ) → input < INPUTS
         → is_set result input ≡ input_state input (filter_events (life_of history)) }
 {
@@ -161,7 +179,7 @@ pub extern "C" fn fio2070_module_filtered(device: &Module) -> u64
 #[unsafe(no_mangle)]
 pub extern "C" fn fio2070_module_waiting(device: &Module) -> usize
     ensures { (settings : Settings) (history : History)
-        → StandsFor settings device.now history
+        → IsModuleAfter settings device.now history
         → result ≡ min settings.waiting
         (length (log_of (life_of history)) - newest_end settings (life_of history)) }
 {

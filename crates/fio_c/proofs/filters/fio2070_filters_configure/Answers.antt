@@ -1,7 +1,7 @@
 use Rattle.std.proofs.Common.{◌≡◌, ℕ, true, false, leb, ltb, rules, arith}
 use Rattle.std.specs.List.{list_all}
 use Rattle.std.proofs.lemmas.Bool.Decides.{nat_tests}
-use Rattle.fio_c.specs.Flat.{names_input}
+use Rattle.fio_c.specs.Flat.{can_be_named}
 use Rattle.fio_c.proofs.Found.{all_pass-none}
 use Rattle.fio_c.proofs.filters.fio2070_filters_configure.Goals as goal
 
@@ -11,6 +11,6 @@ below input h = grind (arith, nat_tests)
 
 pub unreachable-requires : goal.unreachable-requires
 unreachable-requires c =
-    let all : list_all names_input c.args.items.now ≡ true =
-    all_pass-none (λ item. leb 64 item.input) names_input (λ item. below item.input) c.args.items.now (search rules) in
+    let all : list_all (λ item. can_be_named item.input) c.args.items.now ≡ true =
+    all_pass-none (λ item. leb 64 item.input) (λ item. can_be_named item.input) (λ item. below item.input) c.args.items.now (search rules) in
     search (rules, all)

@@ -1,9 +1,9 @@
 use Rattle.fio_message.proofs.MessageLaws.{command_back}
-use Rattle.fio_module.specs.Life.{life_of}
+use Rattle.fio_module.proofs.PollAnswers.{received-obeyed}
 use Rattle.fio_module.proofs.state.ModuleState.answer_listed.Goals as goal
 
-pub returns-in-Ok-clause-stands : goal.returns-in-Ok-clause-stands
-returns-in-Ok-clause-stands g c settings history after =
+pub returns-in-Ok : goal.returns-in-Ok
+returns-in-Ok g c =
     let command = c.in-Ok.command in
-    let read = command_back command c.args.octets.now ((c.decode_command.ensures.accepted command).0 c.in-Ok.is) in
-    rw read (c.obey.ensures settings (life_of history) after).0
+    received-obeyed _ _ _ _ c.args.octets.now command _
+    (command_back command c.args.octets.now ((c.decode_command.ensures.accepted command).0 c.in-Ok.is)) c.obey.ensures
