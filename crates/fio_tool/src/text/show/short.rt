@@ -3,7 +3,7 @@ ghost use Rattle.std.specs.Prelude.{◌≡◌, ◌++◌, ℕ, is_ok, true, IfNon
 ghost use Rattle.fio_tool.specs.Show.{shown_answer, shown_command, text_at};
 
 use super::answers::{push_flags, push_levels, push_status};
-use super::commands::{push_clearing, push_number};
+use super::commands::{push_clearing, push_number, push_outputs};
 use fio_message::inputs_from_octets;
 use std::alloc::AllocError;
 
@@ -20,16 +20,20 @@ pub(crate) fn push_short_command(
     ensures good { IfSome result (λ _. is_ok (shown_command octets.now) ≡ true) }
     ensures kept { IfNone result (text.new.items ≡ text.old.items) }
 {
-    match *octets {
-        [54, block] => Some(push_number(text, b"poll block ", u32::from(block))),
-        [49, flags] => Some(push_clearing(text, flags)),
+    match octets {
+        [54, block] => Some(push_number(text, b"poll block ", u32::from(*block))),
+        [49, flags] => Some(push_clearing(text, *flags)),
         [50, a, b, c, d] => {
-            let load = u32::from_be_bytes([a, b, c, d]);
+            let load = u32::from_be_bytes([*a, *b, *c, *d]);
             Some(push_number(text, b"load counter ", load))
         }
         [52] => Some(text.extend_from_slice(b"raw inputs\n")),
         [53] => Some(text.extend_from_slice(b"filtered inputs\n")),
-        [58, timeout] => Some(push_number(text, b"watchdog ms ", u32::from(timeout))),
+        [55, outputs @ ..] if outputs.len() == 16 => {
+            let (levels, controls) = outputs.split_at(8);
+            Some(push_outputs(text, levels, controls))
+        }
+        [58, timeout] => Some(push_number(text, b"watchdog ms ", u32::from(*timeout))),
         [60] => Some(text.extend_from_slice(b"identify\n")),
         _ => None,
     }
