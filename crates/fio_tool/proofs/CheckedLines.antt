@@ -15,8 +15,7 @@ use Rattle.fio_tool.specs.declared.transcript.rules.Rule.{Rule}
 use Rattle.fio_tool.specs.declared.transcript.said.Said.{Said}
 use Rattle.fio_tool.specs.declared.transcript.verdict.Verdict.{Verdict}
 use Rattle.fio_tool.specs.declared.transcript.verdict.Verdict.TheVariants.{Good, Broken}
-use Rattle.fio_tool.proofs.KeptFacts.{rule_broken-kept, facts_at-next}
-use Rattle.fio_tool.proofs.Verdicts.{breach-is}
+use Rattle.fio_tool.proofs.BreachesSoFar.{StandsSoFar, stands_after_breach, stands_with_line, verdict_so_far}
 
 -- ---- a text has no more lines than octets
 
@@ -67,44 +66,25 @@ dropped-first (first ∷ lines) (suc place) line rest is =
 
 -- ---- the course of the pass
 
--- the breach so far is that of the earliest line that breaks a rule, and before it the facts are those of the lines
-pub record StandsSoFar (lines : List TranscriptLine) (frames : ℕ) (facts : Facts) (breach : Option Verdict) : Type 0 where
-  pub found : breach ≡ earliest_above (breach_at lines) frames
-  pub kept : breach ≡ None → facts ≡ facts_at lines frames
-
 pub record IsCourse (lines : List TranscriptLine) (frames : ℕ) (left : List (ℕ × List ℕ)) (facts : Facts) (breach : Option Verdict) : Type 0 where
   pub left_is : collected (map line_in left) ≡ Ok (drop frames lines)
   pub within : frames ≤ length lines
   pub stands : StandsSoFar lines frames facts breach
 
-unbroken : (number : ℕ) (found : Option Rule) → option_map (Broken number) found ≡ None → found ≡ None
-unbroken number None is = refl
-unbroken number (Some rule) is = absurd (cc)
-
-module _ (lines : List TranscriptLine) (place : ℕ) (line : TranscriptLine) (here : slice_get lines place ≡ Some line) (facts facts' : Facts) where
-  abbrev first_broken : Option Rule
-  first_broken = rule_broken_by facts (said_on line)
-
-  next-stands : (breach breach' : Option Verdict) → StandsSoFar lines place facts breach
-      → (breach ≢ None → breach' ≡ breach)
-      → (breach ≡ None → breach' ≡ option_map (Broken line.number) first_broken)
-      → (breach ≡ None → breach' ≡ None → facts' ≡ with_line facts (said_on line))
-      → StandsSoFar lines (suc place) facts' breach'
-  next-stands (Some verdict) breach' so_far same broken added =
-      let is : breach' ≡ Some verdict = same (λ e. absurd (cc)) in
-      record {
-        found = is ∙ ap (λ earlier. option_or earlier (breach_at lines place)) so_far.found;
-        kept = λ none. absurd (cc);
-      }
-  next-stands None breach' so_far same broken added =
-      let rule_is = rule_broken-kept lines place line facts here (so_far.kept refl) in
-      let breach = breach-is lines place line first_broken here rule_is in
-      record {
-        found = broken refl ∙ sym breach ∙ ap (λ earlier. option_or earlier (breach_at lines place)) so_far.found;
-        kept = λ none.
-            let holds = rule_is ∙ unbroken line.number first_broken (sym (broken refl) ∙ none) in
-            added refl none ∙ sym (facts_at-next lines place line facts here (so_far.kept refl) holds);
-      }
+-- one line more, by what the check keeps of it
+next-stands : (lines : List TranscriptLine) (place : ℕ) (line : TranscriptLine) → slice_get lines place ≡ Some line
+    → (facts facts' : Facts) (breach breach' : Option Verdict)
+    → (breach ≢ None → breach' ≡ breach)
+    → (breach ≡ None → breach' ≡ option_map (Broken line.number) (rule_broken_by facts (said_on line)))
+    → (breach ≡ None → breach' ≡ None → facts' ≡ with_line facts (said_on line))
+    → StandsSoFar lines place facts breach → StandsSoFar lines (suc place) facts' breach'
+next-stands lines place line here facts facts' (Some verdict) breach' same broken added so_far =
+    let is : breach' ≡ Some verdict = same (λ e. absurd (cc)) in
+    rw is (stands_after_breach lines place facts facts' verdict so_far)
+next-stands lines place line here facts facts' None breach' same broken added so_far =
+    let is = broken refl in
+    rw is (stands_with_line lines place facts line facts' (rule_broken_by facts (said_on line)) here refl
+    (λ holds. added refl (is ∙ ap (option_map (Broken line.number)) holds)) so_far)
 
 -- the frame of a line that says something
 pub framed : (found : Option (Bool × List ℕ)) (said : Said) → Some said ≡ option_map said_by_frame found
@@ -139,7 +119,7 @@ next_course lines frames number text left line said facts facts' breach breach' 
     record {
       left_is = first.1 ∙ ap Ok (sym cut.1) ∙ ap (λ n. Ok (drop n lines)) (sym (add-one frames));
       within = omega (arith, cut.2);
-      stands = subst (λ n. StandsSoFar lines n facts' breach') (sym (add-one frames)) (next-stands lines frames line cut.0 facts facts' breach breach' course.stands same (rw numbered broken_by) added_by);
+      stands = rw add-one (next-stands lines frames line cut.0 facts facts' breach breach' same (rw numbered broken_by) added_by course.stands);
     }
 
 none-left : (lines : List TranscriptLine) (frames : ℕ) → collected (map line_in []) ≡ Ok (drop frames lines) → frames ≤ length lines → frames ≡ length lines
@@ -152,8 +132,7 @@ none-left lines frames left within =
 pub course_end : (lines : List TranscriptLine) (frames : ℕ) (facts : Facts) (breach : Option Verdict) → IsCourse lines frames [] facts breach
     → verdict_on lines ≡ unwrap_or breach (Good frames)
 course_end lines frames facts breach course =
-    let all = none-left lines frames course.left_is course.within in
-    ap (λ n. unwrap_or (earliest_above (breach_at lines) n) (Good n)) (sym all) ∙ ap (λ found. unwrap_or found (Good frames)) (sym course.stands.found)
+    verdict_so_far lines frames facts breach (none-left lines frames course.left_is course.within) course.stands
 
 -- the verdict on what is read
 pub verdict_read : (text : List ℕ) (lines : List TranscriptLine) (found verdict : Verdict) → transcript_in text ≡ Ok lines → verdict_on lines ≡ found

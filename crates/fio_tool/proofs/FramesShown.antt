@@ -10,19 +10,18 @@ use Rattle.fio_message.specs.Decoding.{decoded_answer, decoded_command}
 use Rattle.fio_message.specs.Texts.{fault_text}
 use Rattle.fio_message.proofs.MessageLaws.{answer_decoded, answer_refused, command_refused}
 use Rattle.fio_world.specs.Hexadecimal.{octets_in}
-use Rattle.fio_tool.specs.Show.{shown_frame, shown_line, shown_octets}
+use Rattle.fio_tool.specs.Show.{shown_answer, shown_frame, shown_line, shown_octets}
 use Rattle.fio_tool.specs.ShowAnswers.{block_text}
 
 module _ {octets : List ℕ} {view : Result Block DecodeError}
     (accepted : (block : Block) → (view ≡ Ok block) ↔ SpellsBlock block octets) where
   -- a block that is accepted is shown as its lines
   pub block_shown : {block : Block} → IsOctets octets → view ≡ Ok block
-      → shown_frame octets ≡ Ok (block_text block.number block.entries block.status block.stamp)
+      → shown_answer octets ≡ Ok (block_text block.number block.entries block.status block.stamp)
   block_shown {block} are_octets is =
       let spelled = (accepted block).0 is in
-      let first : slice_index_or octets 0 0 ≡ 182 = ap (λ os. slice_index_or os 0 0) spelled.spelled in
       let decoded : decoded_answer octets ≡ Ok (block_answer block) = (answer_decoded octets (block_answer block) are_octets).1 spelled in
-      rw (first, decoded)
+      rw decoded refl
 
 -- more octets than a frame has are refused as that, whatever they begin with
 too_long_shown : (octets : List ℕ) (got : ℕ) → got ≡ length octets → 773 < got → shown_frame octets ≡ Err (fault_text (TooLong got))

@@ -1,146 +1,24 @@
--- What is kept of the lines above a place says which rule the line there breaks.
-use Rattle.std.proofs.Common.{◌≡◌, ◌<◌, ◌⊎◌, inl, inr, ℕ, zero, suc, ◌+◌, Bool, true, false, Option, Some, None, refl, ap, sym, ◌∙◌, arith, cond}
-use Rattle.std.specs.Prelude.{List, length, ◌==◌, ◌&&◌, ◌||◌, if◌then◌else◌, not, find, is_some, option_map, slice_get}
-use Rattle.std.proofs.lemmas.Bool.{le-ltb, lt-ltb, not-false}
+-- What is kept of the lines above a place says which rule the line there breaks, and what is kept below it.
+use Rattle.std.proofs.Common.{◌≡◌, ◌<◌, ◌⊎◌, inl, inr, ℕ, suc, ◌+◌, Bool, true, false, Option, Some, None, refl, ap, sym, ◌∙◌, arith, cond}
+use Rattle.std.specs.Prelude.{List, length, ◌==◌, ◌&&◌, if◌then◌else◌, not, find, is_some, option_map, slice_get}
+use Rattle.std.proofs.lemmas.Bool.{le-ltb}
 use Rattle.fio_message.specs.Answers.{answer_code}
 use Rattle.fio_message.specs.Blocks.{Block}
 use Rattle.fio_message.specs.Decoding.{command_in, answer_in, polled_number, answered_block}
-use Rattle.fio_message.specs.Commands.{command_code}
-use Rattle.fio_message.specs.Status.{says_more, says_again, says_out_of_sequence}
+use Rattle.fio_message.specs.Status.{says_more}
 use Rattle.fio_message.specs.declared.commands.Command.{Command}
-use Rattle.fio_message.specs.declared.commands.Command.TheVariants as commands
-use Rattle.fio_message.specs.declared.commands.OtherCommand.TheVariants as others
 use Rattle.fio_message.specs.declared.answers.Answer.{Answer}
-use Rattle.fio_message.specs.declared.answers.Answer.TheVariants as answers
 use Rattle.fio_tool.specs.Transcript.{TranscriptLine, Placed, command_on, answer_on, command_sent, answer_heard, poll_sent, block_heard, command_above, poll_above, earlier_poll, earlier_block, is_some_and}
-use Rattle.fio_tool.specs.TranscriptRules.{accepts, is_beyond_limits, is_broken, names_absent, rule_broken, rules, number_due}
-use Rattle.fio_tool.specs.TranscriptFacts.{facts_at, is_answered_above, number_due_by, with_line, rule_broken_by, said_by, said_by_command, said_by_answer, said_on}
+use Rattle.fio_tool.specs.TranscriptRules.{is_broken, rule_broken, rules, number_due}
+use Rattle.fio_tool.specs.TranscriptFacts.{facts_at, is_answered_above, number_due_by, with_line, rule_broken_by, said_by, said_on}
 use Rattle.fio_tool.specs.declared.transcript.facts.Facts.{Facts}
 use Rattle.fio_tool.specs.declared.transcript.rules.Rule.{Rule}
 use Rattle.fio_tool.specs.declared.transcript.rules.Rule.TheVariants.{Readable, Pair, Number, Advance, Same, Sequence, Limits, Rest, Refusal}
 use Rattle.fio_tool.proofs.PlacesAbove.{is_some_and-map, is_some-map, latest_above-below, answered-above, answered-below}
+use Rattle.fio_tool.proofs.MessagesSaid.{with_command, with_answer, is_broken_by_command, is_broken_by_block, is_broken_by_answer, command-said, answer-said}
+use Rattle.fio_tool.proofs.AnsweredPolls.{HoldsPair, pair-latest, pair-answers, block-code}
 
--- ---- a command or an answer, before it is read for the rules
-
--- the facts with a poll more, and with a block answer more, where there is one
-abbrev with_poll : Facts → Option ℕ → Facts
-with_poll facts None = facts
-with_poll facts (Some number) = record facts {
-  polled = Some number;
-  answered = false;
-  advanced = is_some_and facts.polled (λ polled. not (number == polled));
-}
-
-abbrev with_block : Facts → Option Block → Facts
-with_block facts None = facts
-with_block facts (Some block) = record facts { answered = true; more = Some (says_more block.status) }
-
-abbrev with_command : Facts → Command → Facts
-with_command facts command = record (with_poll facts (polled_number (Some command))) {
-  awaited = Some (command_code command + 128);
-  absent_named = names_absent command;
-}
-
-abbrev with_answer : Facts → Answer → Facts
-with_answer facts answer = record (with_block facts (answered_block (Some answer))) {
-  awaited = None;
-  absent_named = false;
-}
-
-abbrev is_broken_by_command : Facts → Command → Rule → Bool
-is_broken_by_command facts command Advance = is_some_and (polled_number (Some command)) (λ number.
-    is_some_and (number_due_by facts) (λ due. not (number == due)))
-is_broken_by_command facts command rule = false
-
-abbrev is_broken_by_block : Facts → Block → Rule → Bool
-is_broken_by_block facts block Number = is_some_and facts.polled (λ polled. not (block.number == polled))
-is_broken_by_block facts block Same = says_again block.status && facts.advanced
-is_broken_by_block facts block Sequence =
-    says_out_of_sequence block.status && (says_again block.status || is_some facts.more)
-is_broken_by_block facts block Limits = is_beyond_limits block
-is_broken_by_block facts block Rest = length block.entries == 0 && is_some_and facts.more (λ more. more)
-is_broken_by_block facts block rule = false
-
-abbrev is_broken_by_answer : Facts → Answer → Rule → Bool
-is_broken_by_answer facts answer Pair = not (is_some_and facts.awaited (λ code. code == answer_code answer))
-is_broken_by_answer facts answer Refusal = accepts answer && facts.absent_named
-is_broken_by_answer facts answer rule =
-    is_some_and (answered_block (Some answer)) (λ block. is_broken_by_block facts block rule)
-
--- what is read of it for the rules says the same
-command-said : (facts : Facts) (command : Command)
-    → (find (is_broken_by_command facts command) rules ≡ rule_broken_by facts (said_by_command command))
-    × (with_command facts command ≡ with_line facts (said_by_command command))
-command-said facts (commands.Poll number) = (refl, refl)
-command-said facts (commands.Status clear) = (refl, refl)
-command-said facts (commands.LoadCounter load) = (refl, refl)
-command-said facts (commands.ConfigureInputs items) = (refl, refl)
-command-said facts commands.RawInputs = (refl, refl)
-command-said facts commands.FilteredInputs = (refl, refl)
-command-said facts (commands.SetOutputs levels controls) = (refl, refl)
-command-said facts (commands.Watchdog timeout) = (refl, refl)
-command-said facts commands.Identify = (refl, refl)
-command-said facts (commands.Other kind body) = (refl, refl)
-
-answer-said : (facts : Facts) (answer : Answer)
-    → (find (is_broken_by_answer facts answer) rules ≡ rule_broken_by facts (said_by_answer answer))
-    × (with_answer facts answer ≡ with_line facts (said_by_answer answer))
-answer-said facts (answers.Status flags receive_errors transmit_errors stamp) = (refl, refl)
-answer-said facts (answers.LoadCounter status) = (refl, refl)
-answer-said facts (answers.ConfigureInputs status) = (refl, refl)
-answer-said facts (answers.RawInputs inputs stamp) = (refl, refl)
-answer-said facts (answers.FilteredInputs inputs stamp) = (refl, refl)
-answer-said facts (answers.Block number entries status stamp) = (refl, refl)
-answer-said facts (answers.Watchdog status) = (refl, refl)
-answer-said facts (answers.Other kind body) = (refl, refl)
-
--- ---- a block answer below a poll
-
--- an answer of this type answers the command above
-abbrev is_answered_as : Option Command → ℕ → Bool
-is_answered_as above code = is_some_and above (λ command. command_code command + 128 == code)
-
--- a block answer answers a poll
-poll-answered : (above : Option Command) → is_answered_as above 182 ≡ true
-    → (number : ℕ) × (above ≡ Some (commands.Poll number))
-poll-answered None e = absurd (cc)
-poll-answered (Some (commands.Poll number)) e = (number, refl)
-poll-answered (Some (commands.Status clear)) e = absurd (cc)
-poll-answered (Some (commands.LoadCounter load)) e = absurd (cc)
-poll-answered (Some (commands.ConfigureInputs items)) e = absurd (cc)
-poll-answered (Some commands.RawInputs) e = absurd (cc)
-poll-answered (Some commands.FilteredInputs) e = absurd (cc)
-poll-answered (Some (commands.SetOutputs levels controls)) e = absurd (cc)
-poll-answered (Some (commands.Watchdog timeout)) e = absurd (cc)
-poll-answered (Some commands.Identify) e = absurd (cc)
-poll-answered (Some (commands.Other others.TrackInputs body)) e = absurd (cc)
-poll-answered (Some (commands.Other others.ComplexOutputs body)) e = absurd (cc)
-poll-answered (Some (commands.Other others.ControllerId body)) e = absurd (cc)
-
--- what the rule on pairs says of a block answer at a place
-abbrev HoldsPair : List TranscriptLine → ℕ → Type 0
-HoldsPair lines place = not (is_answered_as (command_above lines place) 182) ≡ false
-
--- then the poll directly above is the latest one above
-pair-latest : (lines : List TranscriptLine) (place : ℕ) → HoldsPair lines place
-    → poll_above lines place ≡ earlier_poll lines place
-pair-latest lines zero pair = absurd (cc)
-pair-latest lines (suc place) pair =
-    let poll = poll-answered (command_sent lines place) (not-false _ pair) in
-    rw poll.1 refl
-
--- and below the place it is answered
-pair-answers : (lines : List TranscriptLine) (place : ℕ) → HoldsPair lines place → is_some (block_heard lines place) ≡ true
-    → is_some_and (earlier_poll lines place) (is_answered_above lines (suc place)) ≡ true
-pair-answers lines zero pair block = absurd (cc)
-pair-answers lines (suc place) pair block =
-    let poll = poll-answered (command_sent lines place) (not-false _ pair) in
-    rw (poll.1, lt-ltb (suc place) (suc (suc place)) (omega arith)) block
-
--- a block answer is the answer to a poll
-block-code : (answer : Answer) (block : Block) → answered_block (Some answer) ≡ Some block → answer_code answer ≡ 182
-block-code (answers.Block number entries status stamp) block e = refl
-block-code answer block e = absurd (cc)
+-- ---- searches of the rules
 
 none-fails : {A : Type 0} (o : Option A) → false ≡ is_some_and o (λ _. false)
 none-fails None = refl

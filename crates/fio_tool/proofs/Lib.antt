@@ -1,9 +1,12 @@
 pub mod PlacesAbove
+pub mod MessagesSaid
+pub mod AnsweredPolls
 pub mod KeptFacts
 pub mod Verdicts
 pub mod TranscriptLemmas
 pub mod CommandLineLemmas
 pub mod BlocksHeard
 pub mod LongFrames
+pub mod BreachesSoFar
 pub mod CheckedLines
 pub mod FramesShown

@@ -18,7 +18,7 @@ pub below-or-at : (n bound : ℕ) → n < suc bound → (n ≡ bound) ⊎ (n < b
 below-or-at n bound below = elim (eqb_tells n bound) as (λ _. (n ≡ bound) ⊎ (n < bound)) [ inl same ↦ inl same.1 | inr other ↦ inr (omega (arith, other.1)) ]
 
 -- what is found above a place is found above each further place
-earliest_stays : {A : Type 0} (said : ℕ → Option A) (place n : ℕ) (value : A) → place < suc n → earliest_above said place ≡ Some value
+pub earliest_stays : {A : Type 0} (said : ℕ → Option A) (place n : ℕ) (value : A) → place < suc n → earliest_above said place ≡ Some value
     → earliest_above said n ≡ Some value
 earliest_stays said place zero value within found = let same : place ≡ 0 = omega (arith, within) in rw same at found
 earliest_stays said place (suc n) value within found =
@@ -70,23 +70,6 @@ pub breach-is : (lines : List TranscriptLine) (place : ℕ) (line : TranscriptLi
     → rule_broken lines place ≡ broken → breach_at lines place ≡ option_map (Broken line.number) broken
 breach-is lines place line broken here is =
     ap (option_and_then (λ l. option_map (Broken l.number) (rule_broken lines place))) here ∙ ap (option_map (Broken line.number)) is
-
--- the first line that breaks a rule decides
-pub verdict-broken : (lines : List TranscriptLine) (place : ℕ) (line : TranscriptLine) (rule : Rule) → slice_get lines place ≡ Some line
-    → rule_broken lines place ≡ Some rule → earliest_above (breach_at lines) place ≡ None → verdict_on lines ≡ Broken line.number rule
-verdict-broken lines place line rule here broken above =
-    let within : place < length lines = slice_get_within lines place line here in
-    let breach = breach-is lines place line (Some rule) here broken in
-    let found : earliest_above (breach_at lines) (suc place) ≡ Some (Broken line.number rule) =
-    ap (λ earlier. option_or earlier (breach_at lines place)) above ∙ breach in
-    let all = earliest_stays (breach_at lines) (suc place) (length lines) (Broken line.number rule) (omega (arith, within)) found in
-    ap (λ breach. unwrap_or breach (Good (length lines))) all
-
--- one line more that breaks no rule
-pub kept-more : (lines : List TranscriptLine) (place : ℕ) (line : TranscriptLine) → slice_get lines place ≡ Some line → rule_broken lines place ≡ None
-    → earliest_above (breach_at lines) place ≡ None → earliest_above (breach_at lines) (suc place) ≡ None
-kept-more lines place line here holds above =
-    ap (λ earlier. option_or earlier (breach_at lines place)) above ∙ breach-is lines place line None here holds
 
 -- ---- it is a verdict
 

@@ -6,7 +6,6 @@ pub mod CommandLine
 pub mod Show
 pub mod ShowCommands
 pub mod ShowAnswers
-pub mod ShowShort
 pub mod Simulate
 pub mod Check
 pub mod TranscriptRules

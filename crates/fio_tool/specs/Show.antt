@@ -10,17 +10,21 @@ use Rattle.fio_tool.specs.InputFaults.{is_too_long, too_long_text, line_fault_te
 use Rattle.fio_tool.specs.ShowAnswers.{answer_text}
 use Rattle.fio_tool.specs.ShowCommands.{command_text}
 
--- the lines for a message, or the words of its refusal
+-- the lines for a message, or the words of the fault of its octets
 abbrev pub shown : {M : Type 0} → (M → List ℕ) → Result M DecodeError → Result (List ℕ) (List ℕ)
 shown text (Ok message) = Ok (text message)
 shown text (Err fault) = Err (fault_text fault)
 
+abbrev pub shown_command : List ℕ → Result (List ℕ) (List ℕ)
+shown_command octets = shown command_text (decoded_command octets)
+
+abbrev pub shown_answer : List ℕ → Result (List ℕ) (List ℕ)
+shown_answer octets = shown answer_text (decoded_answer octets)
+
 -- the lines for a frame: an answer where its first octet is 128 or more, else a command
 abbrev pub shown_frame : List ℕ → Result (List ℕ) (List ℕ)
 shown_frame octets =
-    if nat_le 128 (slice_index_or octets 0 0)
-    then shown answer_text (decoded_answer octets)
-    else shown command_text (decoded_command octets)
+    if nat_le 128 (slice_index_or octets 0 0) then shown_answer octets else shown_command octets
 
 abbrev pub shown_octets : Option (List ℕ) → Result (List ℕ) (List ℕ)
 shown_octets None = Err (codes "bad line")

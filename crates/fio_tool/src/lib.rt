@@ -9,7 +9,7 @@
 //!
 //! The definitions stand in `specs/`. `Program` comes first: the text that each tool writes for an
 //! input, and the exit status; below it the command line (`CommandLine`). The three texts are `Show`
-//! above the lines of each message (`ShowCommands`, `ShowAnswers`, `ShowShort`); `Simulate`; and `Check`
+//! above the lines of each message (`ShowCommands`, `ShowAnswers`); `Simulate`; and `Check`
 //! above the rules of transcripts and the verdict (`TranscriptRules`), the lines of a transcript and
 //! what they say (`Transcript`), and what is kept while one is checked (`TranscriptFacts`). What is
 //! reported of an input with a fault is in `InputFaults`, what is read and written in `Streams`. The

@@ -26,7 +26,7 @@ pub enum Tool {
 }
 
 /// What the command line says of a tool.
-#[derive(Clone, Copy, Debug)]
+#[derive(Clone, Copy)]
 pub(crate) struct Words {
     /// The name of the subcommand.
     pub(crate) name: &'static str,

@@ -1,12 +1,8 @@
 //! What a text of frames says, line for line.
 ghost use Rattle.std.specs.Prelude.{◌≡◌, ◌≢◌, ◌⊎◌, ◌++◌, [], codes, is_ok, false, true, nat_le, slice_index_or, Err, OnOk, OnErr, IfOk};
-ghost use Rattle.fio_message.specs.Texts.{fault_text};
-ghost use Rattle.fio_message.specs.Decoding.{decoded_answer, decoded_command};
 ghost use Rattle.fio_world.specs.Lines.{lines_of, numbered};
 ghost use Rattle.fio_tool.specs.InputFaults.{is_too_long, line_fault_text};
-ghost use Rattle.fio_tool.specs.Show.{is_line_good, is_show_good, line_text, show_text, shown, shown_frame, text_at};
-ghost use Rattle.fio_tool.specs.ShowAnswers.{answer_text};
-ghost use Rattle.fio_tool.specs.ShowCommands.{command_text};
+ghost use Rattle.fio_tool.specs.Show.{is_line_good, is_show_good, line_text, show_text, shown_answer, shown_command, shown_frame, text_at};
 
 mod answers;
 mod commands;
@@ -16,9 +12,9 @@ use super::{is_too_long, report_too_long};
 use answers::{push_answer, push_block_view};
 use commands::push_command;
 use fio_message::{DecodeError, FRAME_OCTETS, Memory, decode_answer, decode_command, read_block};
-use fio_world::Report;
-use fio_world::text::{BadLine, numbered_lines, read_octets_to};
-use short::{push_short, short_message};
+use fio_world::text::{numbered_lines, read_octets_to};
+use fio_world::{Report, push_line};
+use short::{push_short_answer, push_short_command};
 use std::alloc::Global;
 
 /// How many octets of text to expect for an octet of input: an entry of a block, six digits, gives a
@@ -49,7 +45,7 @@ pub fn show_text(alloc: Global, input: &[u8]) -> Result<Report, Memory>
         if text.capacity() == 0 {
             text.reserve(EXPECTED * input.len())?;
         }
-        let said = push_line(&mut text, &mut room, number, line)?;
+        let said = push_line_text(&mut text, &mut room, number, line)?;
         good &= said;
     }
     Ok(Report { text, good })
@@ -57,7 +53,7 @@ pub fn show_text(alloc: Global, input: &[u8]) -> Result<Report, Memory>
 
 /// Appends the text for a numbered line, whose octets are read into room for the longest frame, and
 /// returns whether the line has no fault.
-fn push_line(
+fn push_line_text(
     text: &mut Vec<u8>,
     room: &mut [u8; FRAME_OCTETS],
     number: usize,
@@ -68,22 +64,12 @@ fn push_line(
     ensures good { IfOk result (λ good. good ≡ is_line_good (number, line.now)) }
 {
     match read_octets_to(line, room) {
-        None => push_bad_line(text, number),
-        Some(got) if got > room.len() => push_refusal(text, number, DecodeError::TooLong { got }),
+        None => push_fault(text, number, "bad line"),
+        Some(got) if got > room.len() => {
+            push_fault(text, number, DecodeError::TooLong { got }.words().as_str())
+        }
         Some(count) => push_frame(text, number, &room[..count]),
     }
-}
-
-/// Appends the line for a line that is not octets in hexadecimal digits, which is a fault.
-fn push_bad_line(text: &mut Vec<u8>, number: usize) -> Result<bool, Memory>
-    ensures text { OnOk result (text.new.items
-        ≡ text.old.items ++ line_fault_text number (codes "bad line")) }
-    ensures good { IfOk result (λ good. good ≡ false) }
-{
-    let fault = BadLine { line: number };
-    let line = format!(in *text.allocator(); "{fault}\n")?;
-    text.extend_from_slice(line.as_bytes())?;
-    Ok(false)
 }
 
 /// Appends the text for a frame on the line with this number, and returns whether it has no fault.
@@ -92,19 +78,43 @@ fn push_frame(text: &mut Vec<u8>, number: usize, octets: &[u8]) -> Result<bool, 
         ≡ text.old.items ++ text_at number (shown_frame octets.now)) }
     ensures good { IfOk result (λ good. good ≡ is_ok (shown_frame octets.now)) }
 {
-    if let Some(message) = short_message(octets) {
-        push_short(text, message)?;
+    if is_answer(octets) {
+        push_answer_frame(text, number, octets)
+    } else {
+        push_command_frame(text, number, octets)
+    }
+}
+
+/// Appends the text for a frame that is read as a command.
+fn push_command_frame(text: &mut Vec<u8>, number: usize, octets: &[u8]) -> Result<bool, Memory>
+    ensures text { OnOk result (text.new.items
+        ≡ text.old.items ++ text_at number (shown_command octets.now)) }
+    ensures good { IfOk result (λ good. good ≡ is_ok (shown_command octets.now)) }
+{
+    match push_short_command(text, octets) {
+        Some(pushed) => {
+            pushed?;
+            Ok(true)
+        }
+        None => push_any_command(text, number, octets),
+    }
+}
+
+/// Appends the text for a frame that is read as an answer.
+fn push_answer_frame(text: &mut Vec<u8>, number: usize, octets: &[u8]) -> Result<bool, Memory>
+    ensures text { OnOk result (text.new.items
+        ≡ text.old.items ++ text_at number (shown_answer octets.now)) }
+    ensures good { IfOk result (λ good. good ≡ is_ok (shown_answer octets.now)) }
+{
+    if let Some(pushed) = push_short_answer(text, octets) {
+        pushed?;
         return Ok(true);
     }
     if let Ok(block) = read_block(octets) {
         push_block_view(text, &block)?;
         return Ok(true);
     }
-    if is_answer(octets) {
-        push_any_answer(text, number, octets)
-    } else {
-        push_any_command(text, number, octets)
-    }
+    push_any_answer(text, number, octets)
 }
 
 /// Whether a frame is to be read as an answer.
@@ -121,15 +131,15 @@ fn is_answer(octets: &[u8]) -> bool
 #[inline(never)]
 fn push_any_answer(text: &mut Vec<u8>, number: usize, octets: &[u8]) -> Result<bool, Memory>
     ensures text { OnOk result (text.new.items
-        ≡ text.old.items ++ text_at number (shown answer_text (decoded_answer octets.now))) }
-    ensures good { IfOk result (λ good. good ≡ is_ok (shown answer_text (decoded_answer octets.now))) }
+        ≡ text.old.items ++ text_at number (shown_answer octets.now)) }
+    ensures good { IfOk result (λ good. good ≡ is_ok (shown_answer octets.now)) }
 {
     match &decode_answer(octets) {
         Ok(answer) => {
             push_answer(text, answer)?;
             Ok(true)
         }
-        Err(fault) => push_refusal(text, number, *fault),
+        Err(fault) => push_fault(text, number, fault.words().as_str()),
     }
 }
 
@@ -137,25 +147,26 @@ fn push_any_answer(text: &mut Vec<u8>, number: usize, octets: &[u8]) -> Result<b
 #[inline(never)]
 fn push_any_command(text: &mut Vec<u8>, number: usize, octets: &[u8]) -> Result<bool, Memory>
     ensures text { OnOk result (text.new.items
-        ≡ text.old.items ++ text_at number (shown command_text (decoded_command octets.now))) }
-    ensures good { IfOk result (λ good. good ≡ is_ok (shown command_text (decoded_command octets.now))) }
+        ≡ text.old.items ++ text_at number (shown_command octets.now)) }
+    ensures good { IfOk result (λ good. good ≡ is_ok (shown_command octets.now)) }
 {
     match &decode_command(octets) {
         Ok(command) => {
             push_command(text, command)?;
             Ok(true)
         }
-        Err(fault) => push_refusal(text, number, *fault),
+        Err(fault) => push_fault(text, number, fault.words().as_str()),
     }
 }
 
-/// Appends the line for a refusal, which is a fault.
-fn push_refusal(text: &mut Vec<u8>, number: usize, fault: DecodeError) -> Result<bool, Memory>
+/// Appends the line that reports a fault, and returns that there is one.
+fn push_fault(text: &mut Vec<u8>, number: usize, fault: &str) -> Result<bool, Memory>
     ensures text { OnOk result (text.new.items
-        ≡ text.old.items ++ text_at number (Err (fault_text fault))) }
+        ≡ text.old.items ++ line_fault_text number fault.now) }
     ensures good { IfOk result (λ good. good ≡ false) }
 {
-    let line = format!(in *text.allocator(); "line {number}: {fault}\n")?;
-    text.extend_from_slice(line.as_bytes())?;
+    push_line!(text; b"line " {number as u64} b": ")?;
+    text.extend_from_slice(fault.as_bytes())?;
+    text.extend_from_slice(b"\n")?;
     Ok(false)
 }

@@ -8,7 +8,7 @@ use super::said::Said;
 use fio_message::BlockStatus;
 
 /// What the rules read of the lines above.
-#[derive(Clone, Copy, Debug, Default)]
+#[derive(Clone, Copy, Default)]
 pub(crate) struct Facts {
     /// The type of the answer to the command directly above, if a command stands there.
     pub(super) awaited: Option<u8>,
@@ -53,7 +53,7 @@ impl Facts {
     fn keep_poll(&mut self, number: u8)
         ensures { self.new ≡ with_line self.old (Said.Poll number) }
     {
-        self.advanced = self.polled.is_some_and(|polled| polled != number);
+        self.advanced = matches!(self.polled, Some(polled) if polled != number);
         self.polled = Some(number);
         self.answered = false;
         self.keep_command(182, false);

@@ -74,7 +74,7 @@ impl Facts {
         ensures { result ≡ is_broken_by self.now said Rule.Number }
     {
         match said {
-            Said::Block { number, .. } => self.polled.is_some_and(|polled| number != polled),
+            Said::Block { number, .. } => matches!(self.polled, Some(polled) if polled != number),
             _ => false,
         }
     }
@@ -83,7 +83,7 @@ impl Facts {
         ensures { result ≡ is_broken_by self.now said Rule.Advance }
     {
         match said {
-            Said::Poll { number } => self.number_due().is_some_and(|due| number != due),
+            Said::Poll { number } => matches!(self.number_due(), Some(due) if due != number),
             _ => false,
         }
     }

@@ -13,7 +13,7 @@ use fio_message::{
 };
 
 /// What a line says. An input is absent if no module of this profile has it.
-#[derive(Clone, Copy, Debug)]
+#[derive(Clone, Copy)]
 pub(crate) enum Said {
     /// No message of the line's direction.
     Nothing,

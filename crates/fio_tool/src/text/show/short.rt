@@ -1,120 +1,70 @@
-//! The messages whose fields are a few numbers, read in place: they are most of a text of frames.
-ghost use Rattle.std.specs.Prelude.{◌≡◌, ◌++◌, Ok, IfSome, OnOk};
-ghost use Rattle.fio_tool.specs.Show.{shown_frame};
-ghost use Rattle.fio_tool.specs.ShowShort.{short_text};
+//! The messages without a list, read in place: they are most of a text of frames.
+ghost use Rattle.std.specs.Prelude.{◌≡◌, ◌++◌, ℕ, is_ok, true, IfNone, IfSome, OnOk};
+ghost use Rattle.fio_tool.specs.Show.{shown_answer, shown_command, text_at};
 
 use super::answers::{push_flags, push_levels, push_status};
-use super::commands::{push_clearing, push_number};
+use super::commands::{push_clearing, push_number, push_outputs};
 use fio_message::inputs_from_octets;
 use std::alloc::AllocError;
 
-/// A message whose fields are a few numbers.
-#[derive(Clone, Copy, Debug)]
-pub(crate) enum ShortMessage {
-    Clear {
-        flags: u8,
-    },
-    LoadCounter {
-        load: u32,
-    },
-    RawInputs,
-    FilteredInputs,
-    Poll {
-        block: u8,
-    },
-    Watchdog {
-        timeout: u8,
-    },
-    Identify,
-    Flags {
-        flags: u8,
-        receive_errors: u8,
-        transmit_errors: u8,
-        stamp: u32,
-    },
-    CounterLoaded {
-        status: u8,
-    },
-    InputsConfigured {
-        status: u8,
-    },
-    RawLevels {
-        inputs: u64,
-        stamp: u32,
-    },
-    FilteredLevels {
-        inputs: u64,
-        stamp: u32,
-    },
-    WatchdogSet {
-        status: u8,
-    },
-}
-
-/// The message that octets spell, if it is one of these.
+/// Appends the line for a command that the octets spell, if it is one of the frequent ones: for any
+/// other octets nothing is appended, and the result is `None`.
 #[inline(always)]
 #[tactic(auto, unfolding(fio_message::specs::Decoding::message_in))]
-pub(crate) fn short_message(octets: &[u8]) -> Option<ShortMessage>
-    ensures { IfSome result (λ message. shown_frame octets.now ≡ Ok (short_text message)) }
+pub(crate) fn push_short_command(
+    text: &mut Vec<u8>,
+    octets: &[u8],
+) -> Option<Result<(), AllocError>>
+    ensures text { IfSome result (λ pushed. (number : ℕ) → OnOk pushed
+        (text.new.items ≡ text.old.items ++ text_at number (shown_command octets.now))) }
+    ensures good { IfSome result (λ _. is_ok (shown_command octets.now) ≡ true) }
+    ensures kept { IfNone result (text.new.items ≡ text.old.items) }
 {
-    match *octets {
-        [54, block] => Some(ShortMessage::Poll { block }),
-        [49, flags] => Some(ShortMessage::Clear { flags }),
-        [50, a, b, c, d] => Some(ShortMessage::LoadCounter {
-            load: u32::from_be_bytes([a, b, c, d]),
-        }),
-        [52] => Some(ShortMessage::RawInputs),
-        [53] => Some(ShortMessage::FilteredInputs),
-        [58, timeout] => Some(ShortMessage::Watchdog { timeout }),
-        [60] => Some(ShortMessage::Identify),
-        [177, flags, receive_errors, transmit_errors, a, b, c, d] => Some(ShortMessage::Flags {
-            flags,
-            receive_errors,
-            transmit_errors,
-            stamp: u32::from_be_bytes([a, b, c, d]),
-        }),
-        [178, status] => Some(ShortMessage::CounterLoaded { status }),
-        [179, status] => Some(ShortMessage::InputsConfigured { status }),
-        [180, i, j, k, l, m, n, o, p, a, b, c, d] => Some(ShortMessage::RawLevels {
-            inputs: inputs_from_octets(&[i, j, k, l, m, n, o, p]),
-            stamp: u32::from_be_bytes([a, b, c, d]),
-        }),
-        [181, i, j, k, l, m, n, o, p, a, b, c, d] => Some(ShortMessage::FilteredLevels {
-            inputs: inputs_from_octets(&[i, j, k, l, m, n, o, p]),
-            stamp: u32::from_be_bytes([a, b, c, d]),
-        }),
-        [186, status] => Some(ShortMessage::WatchdogSet { status }),
+    match octets {
+        [54, block] => Some(push_number(text, b"poll block ", u32::from(*block))),
+        [49, flags] => Some(push_clearing(text, *flags)),
+        [50, a, b, c, d] => {
+            let load = u32::from_be_bytes([*a, *b, *c, *d]);
+            Some(push_number(text, b"load counter ", load))
+        }
+        [52] => Some(text.extend_from_slice(b"raw inputs\n")),
+        [53] => Some(text.extend_from_slice(b"filtered inputs\n")),
+        [55, outputs @ ..] if outputs.len() == 16 => {
+            let (levels, controls) = outputs.split_at(8);
+            Some(push_outputs(text, levels, controls))
+        }
+        [58, timeout] => Some(push_number(text, b"watchdog ms ", u32::from(*timeout))),
+        [60] => Some(text.extend_from_slice(b"identify\n")),
         _ => None,
     }
 }
 
-/// Appends the line for one of these messages.
+/// Appends the line for an answer that the octets spell, as `push_short_command` does for a command.
 #[inline(always)]
-pub(crate) fn push_short(text: &mut Vec<u8>, message: ShortMessage) -> Result<(), AllocError>
-    ensures { OnOk result (text.new.items ≡ text.old.items ++ short_text message) }
+#[tactic(auto, unfolding(fio_message::specs::Decoding::message_in))]
+pub(crate) fn push_short_answer(text: &mut Vec<u8>, octets: &[u8]) -> Option<Result<(), AllocError>>
+    ensures text { IfSome result (λ pushed. (number : ℕ) → OnOk pushed
+        (text.new.items ≡ text.old.items ++ text_at number (shown_answer octets.now))) }
+    ensures good { IfSome result (λ _. is_ok (shown_answer octets.now) ≡ true) }
+    ensures kept { IfNone result (text.new.items ≡ text.old.items) }
 {
-    match message {
-        ShortMessage::Poll { block } => push_number(text, b"poll block ", u32::from(block)),
-        ShortMessage::Clear { flags } => push_clearing(text, flags),
-        ShortMessage::LoadCounter { load } => push_number(text, b"load counter ", load),
-        ShortMessage::RawInputs => text.extend_from_slice(b"raw inputs\n"),
-        ShortMessage::FilteredInputs => text.extend_from_slice(b"filtered inputs\n"),
-        ShortMessage::Watchdog { timeout } => {
-            push_number(text, b"watchdog ms ", u32::from(timeout))
+    match *octets {
+        [177, flags, receive_errors, transmit_errors, a, b, c, d] => {
+            let stamp = u32::from_be_bytes([a, b, c, d]);
+            Some(push_flags(text, flags, receive_errors, transmit_errors, stamp))
         }
-        ShortMessage::Identify => text.extend_from_slice(b"identify\n"),
-        ShortMessage::Flags {
-            flags,
-            receive_errors,
-            transmit_errors,
-            stamp,
-        } => push_flags(text, flags, receive_errors, transmit_errors, stamp),
-        ShortMessage::CounterLoaded { status } => push_status(text, b"counter load", status),
-        ShortMessage::InputsConfigured { status } => push_status(text, b"configure", status),
-        ShortMessage::RawLevels { inputs, stamp } => push_levels(text, b"raw", inputs, stamp),
-        ShortMessage::FilteredLevels { inputs, stamp } => {
-            push_levels(text, b"filtered", inputs, stamp)
+        [178, status] => Some(push_status(text, b"counter load", status)),
+        [179, status] => Some(push_status(text, b"configure", status)),
+        [code @ 180..=181, i, j, k, l, m, n, o, p, a, b, c, d] => {
+            let inputs = inputs_from_octets(&[i, j, k, l, m, n, o, p]);
+            let stamp = u32::from_be_bytes([a, b, c, d]);
+            if code == 180 {
+                Some(push_levels(text, b"raw", inputs, stamp))
+            } else {
+                Some(push_levels(text, b"filtered", inputs, stamp))
+            }
         }
-        ShortMessage::WatchdogSet { status } => push_status(text, b"watchdog", status),
+        [186, status] => Some(push_status(text, b"watchdog", status)),
+        _ => None,
     }
 }

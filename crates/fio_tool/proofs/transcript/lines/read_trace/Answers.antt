@@ -1,0 +1,34 @@
+use Rattle.std.proofs.Common.{◌≡◌, ◌∙◌, ◌++◌, List, [], ◌∷◌, Result, Ok, Err, map, refl, sym, ap, append_assoc}
+use Rattle.std.proofs.lemmas.List.{map-append}
+use Rattle.fio_world.specs.Collected.{collected, with_first}
+use Rattle.fio_tool.specs.Transcript.{TranscriptLine, line_in}
+use Rattle.fio_tool.specs.declared.transcript.lines.TraceError.{TraceError}
+use Rattle.fio_tool.proofs.transcript.lines.read_trace.Goals as goal
+
+-- one line more of those that are left
+line-collected : (lines : List TranscriptLine) (line : TranscriptLine) (left : Result (List TranscriptLine) TraceError)
+    → with_first (lines ++ (line ∷ [])) left ≡ with_first lines (with_first (line ∷ []) left)
+line-collected lines line (Ok rest) = ap Ok (append_assoc lines (line ∷ []) rest)
+line-collected lines line (Err e) = refl
+
+line-kept : (lines : List TranscriptLine) (line : TranscriptLine) (left : List (Result TranscriptLine TraceError))
+    → map Ok (lines ++ (line ∷ [])) ++ left ≡ map Ok lines ++ (Ok line ∷ left)
+line-kept lines line left = rw map-append (append_assoc (map Ok lines) (Ok line ∷ []) left)
+
+pub lines-preserved : goal.lines-preserved
+lines-preserved c =
+    let lines = c.lines.lines.items in
+    let line = c.in_ok-line.line in
+    let rest = map line_in c.next.new.self in
+    let left : map line_in c.lines.number-iterator ≡ Ok line ∷ rest = rw (c.in-Some.ensures.steps, c.in_ok-line.ensures.ok) refl in
+    let items = c.in_ok-push.ensures.items in
+    record {
+      read = ap (λ all. with_first all (collected rest)) items
+          ∙ line-collected lines line (collected rest)
+          ∙ sym (ap (λ all. with_first lines (collected all)) left)
+          ∙ c.lines.invariant.read;
+      frames = c.lines.invariant.frames
+          ∙ ap (λ all. map Ok lines ++ all) left
+          ∙ sym (line-kept lines line rest)
+          ∙ sym (ap (λ all. map Ok all ++ rest) items);
+    }
