@@ -5,7 +5,7 @@ pub mod KeptFacts
 pub mod Verdicts
 pub mod TranscriptLemmas
 pub mod CommandLineLemmas
-pub mod BlocksHeard
+pub mod BlocksSpelled
 pub mod LongFrames
 pub mod BreachesSoFar
 pub mod CheckedLines

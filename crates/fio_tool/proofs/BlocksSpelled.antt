@@ -6,6 +6,6 @@ use Rattle.fio_message.specs.Decoding.{answer_in}
 use Rattle.fio_message.proofs.MessageLaws.{answer_back}
 
 -- a block that is accepted is the answer that the octets spell
-pub block_heard : {octets : List ℕ} {view : Result Block DecodeError} → ((block : Block) → (view ≡ Ok block) ↔ SpellsBlock block octets)
+pub block_spelled : {octets : List ℕ} {view : Result Block DecodeError} → ((block : Block) → (view ≡ Ok block) ↔ SpellsBlock block octets)
     → {block : Block} → view ≡ Ok block → answer_in octets ≡ Some (block_answer block)
-block_heard {octets} {view} accepted {block} is = answer_back (block_answer block) octets ((accepted block).0 is)
+block_spelled {octets} {view} accepted {block} is = answer_back (block_answer block) octets ((accepted block).0 is)
