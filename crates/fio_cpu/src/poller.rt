@@ -102,7 +102,7 @@ impl Poller {
             heard ≡ heard_as self.old.number (decoded_answer octets.now)) }
         ensures taken { OnOk result (self.new ≡ after_hearing self.old (block_in octets.now)) }
         ensures unchanged { OnErr result (self.new ≡ self.old) }
-        ensures wanted { OnErr result (AddsItems self.old (block_in octets.now)) }
+        ensures memory { OnErr result (AddsItems self.old (block_in octets.now)) }
     {
         match read_block(octets) {
             Ok(block) => self.hear_block(&block),
@@ -116,7 +116,7 @@ impl Poller {
             heard ≡ heard_answer self.old.number (block_answer block.now)) }
         ensures taken { OnOk result (self.new ≡ after_block self.old block.now) }
         ensures unchanged { OnErr result (self.new ≡ self.old) }
-        ensures wanted { OnErr result (AddsItems self.old (Some block.now)) }
+        ensures memory { OnErr result (AddsItems self.old (Some block.now)) }
     {
         let number = block.block();
         if number != self.number {

@@ -55,7 +55,7 @@ fn record_entries(items: &mut Vec<Item>, block: &BlockView<'_>)
 pub(crate) fn record_block(items: &mut Vec<Item>, block: &BlockView<'_>) -> Result<(), Memory>
     ensures recorded { OnOk result (items.new.items ≡ items.old.items ++ recorded block.now) }
     ensures unchanged { OnErr result (items.new.items ≡ items.old.items) }
-    ensures wanted { OnErr result (recorded block.now ≢ []) }
+    ensures memory { OnErr result (recorded block.now ≢ []) }
 {
     let lost = BlockStatus::from_octet(block.status()).lost();
     items.reserve(usize::from(lost) + block.len())?;

@@ -6,7 +6,7 @@ use crate::text::{after_prefix, read_number, read_small_number, split_at_blank};
 use fio_module::Limits;
 
 /// What a script's first line says.
-#[derive(Clone, Copy, Debug)]
+#[derive(Clone, Copy)]
 pub(crate) struct Header {
     /// The module's identification octet.
     pub id: u8,

@@ -8,7 +8,7 @@ use fio_message::{Command, FRAME_OCTETS, decode_command};
 use std::marker::Model;
 
 /// An event of a script. The command of a `send` stays a word of the text.
-#[derive(Clone, Copy, Debug)]
+#[derive(Clone, Copy)]
 pub(crate) enum Form<'a> {
     /// As `Event::Scan`.
     Scan(u64),
@@ -29,7 +29,7 @@ pub(crate) enum Form<'a> {
 }
 
 /// An event that is kept in this form.
-#[derive(Debug, Drop)]
+#[derive(Drop)]
 pub(crate) struct Step<'a> {
     /// What the event is.
     pub form: Form<'a>,

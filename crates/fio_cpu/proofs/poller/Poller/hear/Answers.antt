@@ -18,9 +18,9 @@ pub returns-in-Ok-clause-taken : goal.returns-in-Ok-clause-taken
 returns-in-Ok-clause-taken c =
     rw (block_in-accepted c.read_block.ensures.accepted c.in-Ok.is) c.hear_block.ensures.taken
 
-pub returns-in-Ok-clause-wanted : goal.returns-in-Ok-clause-wanted
-returns-in-Ok-clause-wanted c =
-    rw (block_in-accepted c.read_block.ensures.accepted c.in-Ok.is) c.hear_block.ensures.wanted
+pub returns-in-Ok-clause-memory : goal.returns-in-Ok-clause-memory
+returns-in-Ok-clause-memory c =
+    rw (block_in-accepted c.read_block.ensures.accepted c.in-Ok.is) c.hear_block.ensures.memory
 
 pub returns-in-Err-clause-taken : goal.returns-in-Err-clause-taken
 returns-in-Err-clause-taken c =

@@ -25,4 +25,4 @@ pub returns-in-Err-clause-row : goal.returns-in-Err-clause-row
 returns-in-Err-clause-row c settings first machine s =
     let shown = rw (← c.self.view_is) at s in
     let to_deliver = c.in_ok-octets.ensures in
-    fault_heard settings first machine _ shown c.args.index _ to_deliver.fine to_deliver.is c.in-Err.ensures.wanted
+    fault_heard settings first machine _ shown c.args.index _ to_deliver.fine to_deliver.is c.in-Err.ensures.memory
