@@ -34,6 +34,7 @@ impl ModuleState {
         }
     }
 
+    // Not inlined, so that a poll clears no room for a decoded command.
     #[inline(never)]
     fn answer_decoded<R: EntryRing>(
         &mut self,
@@ -71,6 +72,7 @@ impl ModuleState {
 
     /// Each command has a function of its own, which is not inlined and writes into the one frame:
     /// room for a frame of its own would be cleared at each entry.
+    // Inlined, so that the command is taken apart where it is decoded, and never stands whole.
     #[inline(always)]
     fn obey<R: EntryRing>(&mut self, ring: &mut R, command: &Command, frame: &mut Frame) -> bool
         ensures { Obeys self.old (R.held ring.old) self.new (R.held ring.new) command.now
@@ -94,6 +96,7 @@ impl ModuleState {
         true
     }
 
+    // Not inlined: see `obey`.
     #[inline(never)]
     fn clear_flags(&mut self, clear: u8, frame: &mut Frame)
         ensures { (ring : Buffer (List ℕ))
@@ -111,6 +114,7 @@ impl ModuleState {
         );
     }
 
+    // Not inlined: see `obey`.
     #[inline(never)]
     fn load_counter(&mut self, load: u32, frame: &mut Frame)
         ensures { (ring : Buffer (List ℕ))
@@ -125,6 +129,7 @@ impl ModuleState {
         );
     }
 
+    // Not inlined: see `obey`.
     #[inline(never)]
     fn configure(&mut self, items: &[InputItem], frame: &mut Frame)
         ensures { (ring : Buffer (List ℕ)) → Obeys self.old ring self.new ring
@@ -134,6 +139,7 @@ impl ModuleState {
         write_answer(&Answer::ConfigureInputs { status }, frame);
     }
 
+    // Not inlined: see `obey`.
     #[inline(never)]
     fn raw_inputs(&self, frame: &mut Frame)
         ensures { (ring : Buffer (List ℕ))
@@ -148,6 +154,7 @@ impl ModuleState {
         );
     }
 
+    // Not inlined: see `obey`.
     #[inline(never)]
     fn filtered_inputs(&self, frame: &mut Frame)
         ensures { (ring : Buffer (List ℕ))
@@ -162,6 +169,7 @@ impl ModuleState {
         );
     }
 
+    // Not inlined: see `obey`.
     #[inline(never)]
     fn set_outputs(&mut self, levels: [u8; 8], controls: [u8; 8], frame: &mut Frame)
         ensures { (ring : Buffer (List ℕ))
@@ -172,6 +180,7 @@ impl ModuleState {
         write_other_answer(OtherAnswer::SetOutputs, &[0, a, b, c, d], frame);
     }
 
+    // Not inlined: see `obey`.
     #[inline(never)]
     fn set_watchdog(&mut self, timeout: u8, frame: &mut Frame)
         ensures { (ring : Buffer (List ℕ))
@@ -182,6 +191,7 @@ impl ModuleState {
         write_answer(&Answer::Watchdog { status }, frame);
     }
 
+    // Not inlined: see `obey`.
     #[inline(never)]
     fn identify(&self, frame: &mut Frame)
         ensures { (ring : Buffer (List ℕ))
