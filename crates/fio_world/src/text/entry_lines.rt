@@ -50,6 +50,7 @@ impl EntryLines {
     ///
     /// # Errors
     /// `AllocError` where the text cannot grow.
+    // Inlined, so that the length of the margin is known when it is compiled.
     #[inline(always)]
     pub fn push<const N: usize>(
         &mut self,

@@ -47,6 +47,7 @@ fn line_end(text: &[u8]) -> usize
 }
 
 /// How many of sixteen octets stand before the first line feed among them.
+// Inlined, so that the sixteen octets stay in a register.
 #[inline(always)]
 fn before_feed(octets: u8x16) -> usize
     ensures { result ≡ prefix_len (λ octet. not (octet == 10)) octets }

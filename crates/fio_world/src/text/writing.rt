@@ -47,6 +47,7 @@ macro_rules! put_pieces {
 }
 
 /// Where a line without a piece starts: behind its room.
+// Inlined, so that the places and lengths of the pieces of a line are known when it is compiled.
 #[inline(always)]
 pub fn line_end(line: &[u8; 128]) -> usize
     ensures start { result ≡ 128 }
@@ -58,6 +59,7 @@ pub fn line_end(line: &[u8; 128]) -> usize
 /// Puts octets, whose number is known when this is compiled, before what stands in a line from `end`
 /// on, for which there has to be room, and returns where the line starts then. What stood from `end`
 /// on stays.
+// Inlined, so that the places and lengths of the pieces of a line are known when it is compiled.
 #[inline(always)]
 pub fn put<const N: usize>(line: &mut [u8; 128], end: usize, octets: &[u8; N]) -> usize
     requires { (N ≤ end) × (end ≤ 128) }
@@ -71,6 +73,7 @@ pub fn put<const N: usize>(line: &mut [u8; 128], end: usize, octets: &[u8; N]) -
 }
 
 /// Puts octets at the beginning of others.
+// Inlined, so that the places and lengths of the pieces of a line are known when it is compiled.
 #[inline(always)]
 fn begin_with<const N: usize>(octets: &mut [u8], first: &[u8; N])
     requires { N ≤ length octets.old }
@@ -82,6 +85,7 @@ fn begin_with<const N: usize>(octets: &mut [u8], first: &[u8; N])
 }
 
 /// Puts a number in decimal digits, of which it has at most 20, as `put` puts octets.
+// Inlined, so that the places and lengths of the pieces of a line are known when it is compiled.
 #[inline(always)]
 pub fn put_decimal(line: &mut [u8; 128], end: usize, number: u64) -> usize
     requires { (20 ≤ end) × (end ≤ 128) }
@@ -93,6 +97,7 @@ pub fn put_decimal(line: &mut [u8; 128], end: usize, number: u64) -> usize
 }
 
 /// Puts an octet in two hexadecimal digits of lower case, as `put` puts octets.
+// Inlined, so that the places and lengths of the pieces of a line are known when it is compiled.
 #[inline(always)]
 #[tactic(auto, unfolding(crate::specs::Hexadecimal::octet_digits))]
 pub fn put_octet(line: &mut [u8; 128], end: usize, octet: u8) -> usize
@@ -106,6 +111,7 @@ pub fn put_octet(line: &mut [u8; 128], end: usize, octet: u8) -> usize
 }
 
 /// Puts octets in hexadecimal digits of lower case, two for each, as `put` puts octets.
+// Inlined, so that the places and lengths of the pieces of a line are known when it is compiled.
 #[inline(always)]
 #[tactic(auto, unfolding(crate::specs::Hexadecimal::digits_of))]
 pub fn put_hexadecimal(line: &mut [u8; 128], end: usize, octets: &[u8]) -> usize
@@ -119,6 +125,7 @@ pub fn put_hexadecimal(line: &mut [u8; 128], end: usize, octets: &[u8]) -> usize
 }
 
 /// Appends a line that starts at this place of its room.
+// Inlined, so that the places and lengths of the pieces of a line are known when it is compiled.
 #[inline(always)]
 pub fn append_line(text: &mut Vec<u8>, line: &[u8; 128], start: usize) -> Result<(), AllocError>
     requires { start ≤ 128 }

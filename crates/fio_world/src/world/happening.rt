@@ -92,6 +92,7 @@ impl World {
     }
 
     /// The CPU polls.
+    // Not inlined: its frame or command would be cleared for each event.
     #[inline(never)]
     fn send_poll(&mut self) -> Result<Done, WorldError>
         ensures row { (settings : Settings) (first : ℕ) (machine : Machine)
@@ -104,6 +105,7 @@ impl World {
     }
 
     /// The CPU sends the command that the word's octets spell.
+    // Not inlined: its frame or command would be cleared for each event.
     #[inline(never)]
     fn send_word(&mut self, word: &[u8]) -> Result<Done, WorldError>
         ensures row { (settings : Settings) (first : ℕ) (machine : Machine)
@@ -116,6 +118,7 @@ impl World {
     }
 
     /// The CPU sends a command, unless it is a poll.
+    // Not inlined: its frame or command would be cleared for each event.
     #[inline(never)]
     fn send_command(&mut self, command: &Command) -> Result<Done, WorldError>
         ensures row { (settings : Settings) (first : ℕ) (machine : Machine)
@@ -185,6 +188,7 @@ impl World {
 
     /// The module receives the frame with this number, and its answer, if any, joins those to the
     /// CPU. Room for it is asked for first: what the module has received can't be taken back.
+    // Not inlined: its frame or command would be cleared for each event.
     #[inline(never)]
     fn deliver_to_module(&mut self, index: usize) -> Result<Done, WorldError>
         ensures row { (settings : Settings) (first : ℕ) (machine : Machine)
