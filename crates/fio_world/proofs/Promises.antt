@@ -57,8 +57,8 @@ one_behind m b low high =
     ]
 
 -- what is not recorded, of any life
-pub rest_is_told : (settings : Settings) (life : Life) → RestIsLostOrWaits settings life
-rest_is_told settings life =
+pub rest_is_lost_or_waits : (settings : Settings) (life : Life) → RestIsLostOrWaits settings life
+rest_is_lost_or_waits settings life =
     let blocks = blocks_of settings life in
     let within : newest_end settings life ≤ length (log_of life) = blocks_end_within settings life in
     let all : take (length blocks) blocks ≡ blocks = take_all (length blocks) blocks (omega arith) in
@@ -134,7 +134,7 @@ module _ (settings : Settings) (range : AreInRange settings) (first : ℕ) (mach
       record {
         headline = record_is_log;
         stands = stands;
-        rest = rest_is_told settings (life_of machine.history);
+        rest = rest_is_lost_or_waits settings (life_of machine.history);
         takes = takes settings range first machine k.always;
         in_sequence = in_sequence settings first machine k.always;
         again = k.one_life.in_life.again;

@@ -128,6 +128,7 @@ fn is_answer(octets: &[u8]) -> bool
 }
 
 /// Appends the text for an answer of any type, decoded into a value of its own.
+// Not inlined, so that room for the value is cleared only where one is decoded.
 #[inline(never)]
 fn push_any_answer(text: &mut Vec<u8>, number: usize, octets: &[u8]) -> Result<bool, Memory>
     ensures text { OnOk result (text.new.items
@@ -144,6 +145,7 @@ fn push_any_answer(text: &mut Vec<u8>, number: usize, octets: &[u8]) -> Result<b
 }
 
 /// Appends the text for a command of any type, decoded into a value of its own.
+// Not inlined, so that room for the value is cleared only where one is decoded.
 #[inline(never)]
 fn push_any_command(text: &mut Vec<u8>, number: usize, octets: &[u8]) -> Result<bool, Memory>
     ensures text { OnOk result (text.new.items

@@ -84,6 +84,7 @@ impl Said {
         }
     }
 
+    // Not inlined, so that room for a command is cleared only where one is decoded.
     #[inline(never)]
     fn sent_decoded(octets: &[u8]) -> Said
         ensures { result ≡ said_by (command_in octets.now) None }
@@ -153,6 +154,7 @@ impl Said {
         }
     }
 
+    // Not inlined, so that room for an answer is cleared only where one is decoded.
     #[inline(never)]
     fn heard_decoded(octets: &[u8]) -> Said
         ensures { result ≡ said_by None (answer_in octets.now) }

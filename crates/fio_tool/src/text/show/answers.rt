@@ -147,6 +147,7 @@ fn push_block_head(
 }
 
 /// Appends the line for an entry of a block answer with this stamp.
+// Inlined, as it is called for each entry.
 #[inline(always)]
 fn push_entry(
     text: &mut Vec<u8>,

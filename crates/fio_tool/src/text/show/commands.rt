@@ -27,6 +27,7 @@ pub(crate) fn push_command(text: &mut Vec<u8>, command: &Command) -> Result<(), 
 }
 
 /// Appends the line for a message that has one number, behind its name of at most 40 octets.
+// Inlined, so that the name is put with its length known.
 #[inline(always)]
 pub(crate) fn push_number<const N: usize>(
     text: &mut Vec<u8>,

@@ -9,6 +9,7 @@ use std::alloc::AllocError;
 
 /// Appends the line for a command that the octets spell, if it is one of the frequent ones: for any
 /// other octets nothing is appended, and the result is `None`.
+// Inlined, as it is called for each frame of a capture.
 #[inline(always)]
 #[tactic(auto, unfolding(fio_message::specs::Decoding::message_in))]
 pub(crate) fn push_short_command(
@@ -40,6 +41,7 @@ pub(crate) fn push_short_command(
 }
 
 /// Appends the line for an answer that the octets spell, as `push_short_command` does for a command.
+// Inlined, as it is called for each frame of a capture.
 #[inline(always)]
 #[tactic(auto, unfolding(fio_message::specs::Decoding::message_in))]
 pub(crate) fn push_short_answer(text: &mut Vec<u8>, octets: &[u8]) -> Option<Result<(), AllocError>>
