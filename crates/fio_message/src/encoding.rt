@@ -1,4 +1,5 @@
-//! Encoding: messages as the octets that they spell.
+//! Encoding: messages as the octets that they spell. All is inlined into the caller: where it writes a message of one
+//! type, as the module does, only the fields of that type are left.
 ghost use Rattle.std.specs.Prelude.{◌≡◌, ◌≤◌, ◌+◌, ◌*◌, ◌++◌, length};
 ghost use Rattle.std.specs.Int.{w32, to_be_bytes};
 ghost use Rattle.std.specs.List.{AllByRecursion, flat_map};

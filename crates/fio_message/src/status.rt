@@ -1,4 +1,5 @@
-//! The status octets of answers. Bits that have no name are kept as they come.
+//! The status octets of answers. Bits that have no name are kept as they come. The calls are `#[inline]`: each is an
+//! instruction or two, and other crates make them for each block.
 ghost use Rattle.std.specs.Prelude.{◌≡◌, ◌<◌};
 ghost use Rattle.fio_message.specs.Bits.{is_set};
 ghost use Rattle.fio_message.specs.Status.{says_error, error_status, says_set_before, set_before_status};

@@ -42,6 +42,7 @@ impl ModuleState {
         self.sent.as_slice()
     }
 
+    // Not inlined, as two ways lead to it: octets read in place, and a command.
     #[inline(never)]
     pub(super) fn poll<R: EntryRing>(&mut self, ring: &mut R, number: u8)
         ensures { Obeys self.old (R.held ring.old) self.new (R.held ring.new)
