@@ -65,13 +65,22 @@ spells-marked block octets spells = record {
 }
 
 -- marking keeps the length
-pub length-marked : (octets : List ℕ) → length (marked_octets octets) ≡ length octets
+length-marked : (octets : List ℕ) → length (marked_octets octets) ≡ length octets
 length-marked octets = length-set octets _ _
 
 -- as many of a list in two parts as the first has
-pub take-kept : (count : ℕ) (kept others : List ℕ) → length kept ≡ min count (length kept + length others)
+take-kept : (count : ℕ) (kept others : List ℕ) → length kept ≡ min count (length kept + length others)
     → take count (kept ++ others) ≡ kept
 take-kept count kept others is =
     sym (take_min count (kept ++ others))
     ∙ ap (λ n. take n (kept ++ others)) (ap (min count) (length-append kept others) ∙ sym is)
     ∙ take-append_seam kept others
+
+-- where the octets that are kept are marked in their place, the marked octets are kept
+pub marked-kept : (count size : ℕ) (octets front back marked : List ℕ) → size ≡ min count (length octets)
+    → front ≡ take size octets → length front ≡ size → length back + size ≡ length octets
+    → marked ≡ marked_octets front → take count (marked ++ back) ≡ marked_octets (take count octets)
+marked-kept count size octets front back marked least is front_long back_long marks =
+    let long = ap length marks ∙ length-marked front in
+    take-kept count marked back (omega (arith, least, long, front_long, back_long))
+    ∙ marks ∙ ap marked_octets (is ∙ ap (λ n. take n octets) least ∙ take_min count octets)
