@@ -12,8 +12,8 @@ use crate::blocks::Entry;
 use crate::written::{write_front, write_with_body};
 use arrayvec::ArrayVec;
 use fio_message::{
-    Answer, BLOCK_ENTRIES, BODY_OCTETS, BlockStatus, EntryOctets, InputNumber, KeptBlock,
-    OtherAnswer, encode_answer,
+    Answer, BLOCK_ENTRIES, BlockStatus, EntryOctets, InputNumber, KeptBlock, OtherAnswer,
+    encode_answer,
 };
 
 /// Writes an answer, and returns how many octets it has: 0 where there is no room. Inlined, so that no
@@ -154,13 +154,10 @@ pub extern "C" fn fio2070_encode_other_answer(code: u8, body: &[u8], out: &mut [
     ensures unknown { kind_of_answer code ≡ None → WritesNothing out.old out.new result }
     ensures long { BODY_OCTETS < length body.now → WritesNothing out.old out.new result }
 {
-    let Some(kind) = kind_of(code) else {
-        return 0;
-    };
-    if body.len() > BODY_OCTETS {
-        return 0;
+    match kind_of(code) {
+        Some(kind) => write_with_body(kind.code(), body, out),
+        None => 0,
     }
-    write_with_body(kind.code(), body, out)
 }
 
 /// Which answer of this type has a body only.

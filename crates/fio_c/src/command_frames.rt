@@ -11,7 +11,7 @@ use crate::commands::ConfigurationItem;
 use crate::written::{write_front, write_with_body};
 use arrayvec::ArrayVec;
 use fio_message::{
-    BODY_OCTETS, CONFIGURATION_ITEMS, Command, InputItem, InputNumber, OtherCommand, encode_command,
+    CONFIGURATION_ITEMS, Command, InputItem, InputNumber, OtherCommand, encode_command,
 };
 
 /// Writes a command, and returns how many octets it has: 0 where there is no room. Inlined, so that no
@@ -153,13 +153,10 @@ pub extern "C" fn fio2070_encode_other_command(code: u8, body: &[u8], out: &mut 
     ensures unknown { kind_of_command code ≡ None → WritesNothing out.old out.new result }
     ensures long { BODY_OCTETS < length body.now → WritesNothing out.old out.new result }
 {
-    let Some(kind) = kind_of(code) else {
-        return 0;
-    };
-    if body.len() > BODY_OCTETS {
-        return 0;
+    match kind_of(code) {
+        Some(kind) => write_with_body(kind.code(), body, out),
+        None => 0,
     }
-    write_with_body(kind.code(), body, out)
 }
 
 /// Which command of this type has a body only.

@@ -1,6 +1,9 @@
 //! Octets in a buffer of the caller.
-ghost use Rattle.std.specs.Prelude.{◌∷◌};
-ghost use Rattle.fio_c.specs.Written.{Writes};
+ghost use Rattle.std.specs.Prelude.{◌<◌, ◌≤◌, ◌∷◌, length};
+ghost use Rattle.fio_message.specs.declared.limits.TheConstants.{BODY_OCTETS};
+ghost use Rattle.fio_c.specs.Written.{Writes, WritesNothing};
+
+use fio_message::BODY_OCTETS;
 
 /// Writes octets to the front of the buffer, and returns how many. Where the buffer is shorter
 /// nothing is written, and the result is 0.
@@ -16,12 +19,14 @@ pub(crate) fn write_front(octets: &[u8], out: &mut [u8]) -> usize
     count
 }
 
-/// Writes a message that is its type and a body, without a frame between. Where the buffer is shorter
-/// nothing is written, and the result is 0.
+/// Writes a message that is its type and a body of at most 772 octets, without a frame between. For a
+/// longer body, and where the buffer is shorter, nothing is written, and the result is 0.
 pub(crate) fn write_with_body(code: u8, body: &[u8], out: &mut [u8]) -> usize
-    ensures { Writes (code ∷ body.now) out.old out.new result }
+    ensures written { length body.now ≤ BODY_OCTETS
+        → Writes (code ∷ body.now) out.old out.new result }
+    ensures long { BODY_OCTETS < length body.now → WritesNothing out.old out.new result }
 {
-    if out.len() <= body.len() {
+    if body.len() > BODY_OCTETS || out.len() <= body.len() {
         return 0;
     }
     match out.split_first_mut() {
