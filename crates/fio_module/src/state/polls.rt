@@ -1,7 +1,8 @@
 //! Polls: the block that a module makes, and sends again.
-ghost use Rattle.std.specs.Prelude.{◌≡◌, ℕ, List, ◌∷◌, Some, true, false};
+ghost use Rattle.std.specs.Prelude.{◌≡◌, ℕ, List, ◌∷◌, Some, true, false, is_some};
 ghost use Rattle.circular_buffer.specs.Buffer.{Buffer};
 ghost use Rattle.fio_message.specs.declared.commands.Command.TheVariants.{Poll};
+ghost use Rattle.fio_message.specs.Decoding.{poll_in};
 ghost use Rattle.fio_module.specs.Settings.{Settings};
 ghost use Rattle.fio_module.specs.Life.{History, Life, Commanded, Received};
 ghost use Rattle.fio_module.specs.Blocks.{latest_poll};
@@ -18,6 +19,7 @@ impl ModuleState {
     /// Takes the octets of a frame if they are a poll, and says whether they are. The answer is then
     /// `block`. Any other octets change nothing.
     pub fn receive_poll<R: EntryRing>(&mut self, ring: &mut R, octets: &[u8]) -> bool
+        ensures polled { result ≡ is_some (poll_in octets.now) }
         ensures stands { result ≡ true → (settings : Settings) (history : History)
             → IsAfterHistory settings self.old (R.held ring.old) history
             → IsAfterHistory settings self.new (R.held ring.new) (Received octets.now ∷ history) }
