@@ -25,7 +25,8 @@ fn main(rt: HostRuntime) -> ExitCode {
         are_right: true,
     };
     report_parts(&mut rows, rt.alloc());
-    report_ends(&mut rows, rt.alloc());
+    report_steps(&mut rows, rt.alloc());
+    report_runs(&mut rows, rt.alloc());
     report_texts(&mut rows, rt.alloc());
     report_tools(&mut rows, rt.alloc());
     ExitCode::from(u8::from(!rows.are_right))
@@ -73,8 +74,8 @@ fn report_parts(rows: &mut Rows<'_>, alloc: Global) {
     rows.report("choose of another word", Ok(command_lines::other(alloc)));
 }
 
-/// The calls of both ends together.
-fn report_ends(rows: &mut Rows<'_>, alloc: Global) {
+/// Both ends that are made, and their events one by one.
+fn report_steps(rows: &mut Rows<'_>, alloc: Global) {
     rows.report("World::new", Ok(worlds::new(alloc)));
     rows.report("World::with_limits", Ok(worlds::with_limits(alloc)));
     rows.report("World::step", worlds::step(alloc, &LOST_ANSWER));
@@ -83,6 +84,10 @@ fn report_ends(rows: &mut Rows<'_>, alloc: Global) {
         worlds::step(alloc, &NINE_ROUNDS),
     );
     rows.report("World::step with limits", worlds::step(alloc, &ONE_ENTRY));
+}
+
+/// Events together.
+fn report_runs(rows: &mut Rows<'_>, alloc: Global) {
     rows.report("World::step_all", worlds::step_all(alloc, &LOST_ANSWER));
     rows.report(
         "World::step_all of nine rounds",

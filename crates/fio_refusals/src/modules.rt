@@ -27,54 +27,65 @@ fn made(module: Result<Module, Memory>) -> Answer {
     Answer::right_if(frame.as_slice() == [0xbc, 2].as_slice())
 }
 
+/// Octets, and what a module answers to them, whose inputs report each change: nothing where nothing stands.
+const ANSWERS: [(&[u8], &[u8]); 12] = [
+    (&[0x31, 0x80], &[0xb1, 0, 0, 0, 0, 0, 0, 0]),
+    (&[0x32, 0, 0, 0, 5], &[0xb2, 0]),
+    (
+        &[0x34],
+        &[0xb4, 255, 255, 255, 255, 255, 255, 255, 255, 0, 0, 0, 0],
+    ),
+    (
+        &[0x35],
+        &[0xb5, 255, 255, 255, 255, 255, 255, 255, 255, 0, 0, 0, 0],
+    ),
+    (&[0x36, 0], &[0xb6, 0, 0, 0, 0, 0, 0, 0]),
+    (&[0x36, 0], &[0xb6, 0, 0, 2, 0, 0, 0, 0]),
+    (
+        &[0x37, 1, 1, 1, 1, 1, 1, 1, 1, 1, 1, 1, 1, 1, 1, 1, 1],
+        &[0xb7, 0, 0, 0, 0, 0],
+    ),
+    (&[0x38], &[]),
+    (&[0x3a, 5], &[0xba, 0]),
+    (&[0x3b], &[]),
+    (&[0x3c], &[0xbc, 2]),
+    (&[0x30], &[]),
+];
+
 /// Every call that takes no memory, on a module in which more entries wait than may.
 pub(crate) fn others(alloc: Global) -> Result<Answer, Memory> {
     let mut module = Module::new(alloc, 2)?;
-    let opens_all = opens_all_inputs();
-    let rows: [(&[u8], &[u8]); 13] = [
-        (&opens_all, &[0xb3, 0]),
-        (&[0x31, 0x80], &[0xb1, 0, 0, 0, 0, 0, 0, 0]),
-        (&[0x32, 0, 0, 0, 5], &[0xb2, 0]),
-        (
-            &[0x34],
-            &[0xb4, 255, 255, 255, 255, 255, 255, 255, 255, 0, 0, 0, 0],
-        ),
-        (
-            &[0x35],
-            &[0xb5, 255, 255, 255, 255, 255, 255, 255, 255, 0, 0, 0, 0],
-        ),
-        (&[0x36, 0], &[0xb6, 0, 0, 0, 0, 0, 0, 0]),
-        (&[0x36, 0], &[0xb6, 0, 0, 2, 0, 0, 0, 0]),
-        (
-            &[0x37, 1, 1, 1, 1, 1, 1, 1, 1, 1, 1, 1, 1, 1, 1, 1, 1],
-            &[0xb7, 0, 0, 0, 0, 0],
-        ),
-        (&[0x38], &[]),
-        (&[0x3a, 5], &[0xba, 0]),
-        (&[0x3b], &[]),
-        (&[0x3c], &[0xbc, 2]),
-        (&[0x30], &[]),
-    ];
-    for (octets, expected) in rows {
-        if !is_answered(&mut module, octets, expected) {
-            return Ok(Answer::Wrong);
-        }
-    }
+    let is_right = is_answered(&mut module, &opens_all_inputs(), &[0xb3, 0])
+        && ANSWERS.iter().all(|(octets, expected)| is_answered(&mut module, octets, expected))
+        && overflows(&mut module)
+        && sends_a_block(&mut module)
+        && restarts(&mut module);
+    Ok(Answer::right_if(is_right))
+}
+
+/// Of 1,152 entries 1,024 wait, and the counter, which is to be loaded with 5, counts on from there.
+fn overflows(module: &mut Module) -> bool {
     module.raise(1);
     module.line_sync();
     for _ in 0..9 {
         module.scan(0);
         module.scan(u64::MAX);
     }
-    // 1,152 entries, of which 1,024 wait; then a block takes 255 of them.
-    let is_full = module.waiting() == 1024 && module.counter() == 23;
+    module.waiting() == 1024 && module.counter() == 23
+}
+
+/// A block takes 255 of the 1,024 entries that wait.
+fn sends_a_block(module: &mut Module) -> bool {
     let is_sent = module
         .receive(&[0x36, 1])
         .is_some_and(|frame| frame.len() == 773);
-    let is_left = module.waiting() == 769;
+    is_sent && module.waiting() == 769
+}
+
+/// A restart leaves no entry, and the counter at 0.
+fn restarts(module: &mut Module) -> bool {
     module.restart();
-    let is_new = module.waiting() == 0 && module.counter() == 0;
-    Ok(Answer::right_if(is_full && is_sent && is_left && is_new))
+    module.waiting() == 0 && module.counter() == 0
 }
 
 /// The octets of a configuration: each input is reported, and one sample changes its state.

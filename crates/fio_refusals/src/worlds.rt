@@ -7,6 +7,13 @@ use fio_module::Limits;
 use fio_world::{Event, Outcome, RunError, Script, World, WorldError, read_script};
 use std::alloc::Global;
 
+/// Two worlds to which the same happens.
+#[derive(Drop)]
+struct Worlds {
+    first: World,
+    second: World,
+}
+
 /// A world in which nothing has happened.
 pub(crate) fn new(alloc: Global) -> Answer {
     made(World::new(alloc, 2, 255))
@@ -62,93 +69,137 @@ fn ended(ran: &Result<World, RunError>, script: &Script, sample: &Sample) -> Ans
 /// where memory is refused to it, it is still like the other, and does the same event then.
 pub(crate) fn step(alloc: Global, sample: &Sample) -> Result<Answer, Memory> {
     let script = script_of(alloc, sample)?;
-    let mut first = World::with_limits(alloc, script.id, script.first, script.limits)?;
-    let mut second = World::with_limits(alloc, script.id, script.first, script.limits)?;
-    let mut answer = Answer::Right;
-    for (place, event) in script.events.iter().enumerate() {
-        let mut outcome = first.step(event);
-        if outcome == Err(WorldError::Memory) {
-            if !are_alike(&first, &second) {
-                return Ok(Answer::Wrong);
-            }
-            answer = Answer::Refused(place);
-            outcome = first.step(event);
-        }
-        let expected = second.step(event);
-        if expected == Err(WorldError::Memory) {
-            return Err(Memory);
-        }
-        if outcome.is_err() || outcome != expected || !are_alike(&first, &second) {
-            return Ok(Answer::Wrong);
-        }
-    }
-    Ok(if counts(&first) == sample.end {
+    step_in_both(alloc, &script, sample.end)
+}
+
+/// The events of a script in two worlds, which come to this end.
+fn step_in_both(alloc: Global, script: &Script, end: [usize; 8]) -> Result<Answer, Memory> {
+    let mut worlds = new_worlds(alloc, script)?;
+    let answer = steps_of_both(&mut worlds, script.events.as_slice())?;
+    Ok(if counts(&worlds.first) == end {
         answer
     } else {
         Answer::Wrong
     })
 }
 
+/// Two worlds in which nothing has happened.
+fn new_worlds(alloc: Global, script: &Script) -> Result<Worlds, Memory> {
+    let first = new_world(alloc, script)?;
+    Ok(Worlds {
+        first,
+        second: new_world(alloc, script)?,
+    })
+}
+
+/// A world with what the first line of a script says.
+fn new_world(alloc: Global, script: &Script) -> Result<World, Memory> {
+    World::with_limits(alloc, script.id, script.first, script.limits)
+}
+
+/// Events in two worlds that are alike.
+fn steps_of_both(worlds: &mut Worlds, events: &[Event]) -> Result<Answer, Memory> {
+    let mut answer = Answer::Right;
+    for (place, event) in events.iter().enumerate() {
+        match step_both(worlds, event)? {
+            Answer::Right => {}
+            Answer::Refused(_) => answer = Answer::Refused(place),
+            Answer::Wrong => return Ok(Answer::Wrong),
+        }
+    }
+    Ok(answer)
+}
+
+/// An event in two worlds that are alike.
+fn step_both(worlds: &mut Worlds, event: &Event) -> Result<Answer, Memory> {
+    let outcome = worlds.first.step(event);
+    if outcome != Err(WorldError::Memory) {
+        return Ok(Answer::right_if(follows(worlds, event, &outcome)?));
+    }
+    if !are_alike(&worlds.first, &worlds.second) {
+        return Ok(Answer::Wrong);
+    }
+    let outcome = worlds.first.step(event);
+    Ok(Answer::refused_if(follows(worlds, event, &outcome)?))
+}
+
+/// The second world does an event as the first did, and is like it then.
+fn follows(
+    worlds: &mut Worlds,
+    event: &Event,
+    outcome: &Result<Outcome, WorldError>,
+) -> Result<bool, Memory> {
+    let expected = worlds.second.step(event);
+    if expected == Err(WorldError::Memory) {
+        return Err(Memory);
+    }
+    Ok(outcome.is_ok() && *outcome == expected && are_alike(&worlds.first, &worlds.second))
+}
+
 /// The events of a sample, together: where memory is refused at one of them, those above it are done, and
 /// the rest is tried again.
 pub(crate) fn step_all(alloc: Global, sample: &Sample) -> Result<Answer, Memory> {
     let script = script_of(alloc, sample)?;
-    let mut world = World::with_limits(alloc, script.id, script.first, script.limits)?;
-    let mut answer = Answer::Right;
-    if let Err(error) = world.step_all(script.events.as_slice()) {
-        let Some(rest) = script.events.as_slice().get(error.place..) else {
-            return Ok(Answer::Wrong);
-        };
-        if error.fault != WorldError::Memory || world.step_all(rest).is_err() {
-            return Ok(Answer::Wrong);
-        }
-        answer = Answer::Refused(error.place);
-    }
-    if counts(&world) == sample.end {
-        Ok(answer)
+    let mut world = new_world(alloc, &script)?;
+    let answer = steps_together(&mut world, script.events.as_slice());
+    Ok(if counts(&world) == sample.end {
+        answer
     } else {
-        Ok(Answer::Wrong)
+        Answer::Wrong
+    })
+}
+
+/// Events together, with those that are left where memory is refused at one of them.
+fn steps_together(world: &mut World, events: &[Event]) -> Answer {
+    let Err(error) = world.step_all(events) else {
+        return Answer::Right;
+    };
+    let Some(rest) = events.get(error.place..) else {
+        return Answer::Wrong;
+    };
+    if error.fault != WorldError::Memory || world.step_all(rest).is_err() {
+        return Answer::Wrong;
     }
+    Answer::Refused(error.place)
 }
 
 /// Events that take no memory, at the end of a sample: those of the module alone, a delivery that adds
 /// nothing to the record, and refused ones.
 pub(crate) fn adding_nothing(alloc: Global) -> Result<Answer, Memory> {
     let script = script_of(alloc, &LOST_ANSWER)?;
-    let mut world = match World::run(alloc, script.id, script.first, script.events.as_slice()) {
-        Ok(world) => world,
-        Err(_) => return Err(Memory),
+    let Ok(mut world) = World::run(alloc, script.id, script.first, script.events.as_slice()) else {
+        return Err(Memory);
     };
-    let rows = [
-        (Event::Scan(0), Ok(Outcome::Quiet)),
-        (Event::LineSync, Ok(Outcome::Quiet)),
-        (Event::Raise(1), Ok(Outcome::Quiet)),
-        (
-            Event::ToCpu(4),
-            Ok(Outcome::Heard(Heard::Stale { block: 0 })),
-        ),
-        (Event::ToCpu(5), Err(WorldError::NotSent { index: 5 })),
-        (Event::ToModule(0), Err(WorldError::NotSent { index: 0 })),
-        (
-            Event::ToModule(3),
-            Err(WorldError::OutOfOrder { index: 3, last: 4 }),
-        ),
-        (
-            Event::Send(Command::Poll { block: 1 }),
-            Err(WorldError::PollIsOurs),
-        ),
-        (Event::Restart, Ok(Outcome::Quiet)),
-    ];
-    for (place, (event, expected)) in rows.iter().enumerate() {
-        let found = world.step(event);
-        if found == Err(WorldError::Memory) {
-            return Ok(Answer::Refused(place));
-        }
-        if found != *expected {
-            return Ok(Answer::Wrong);
+    let is_right = is_quiet(&mut world, &Event::Scan(0))
+        && is_quiet(&mut world, &Event::LineSync)
+        && is_quiet(&mut world, &Event::Raise(1))
+        && hears_a_stale_block(&mut world)
+        && refuses_deliveries(&mut world)
+        && refuses_a_poll(&mut world)
+        && is_quiet(&mut world, &Event::Restart);
+    Ok(Answer::right_if(is_right && counts(&world) == [4, 4, 4, 4, 2, 1, 0, 0]))
+}
+
+fn is_quiet(world: &mut World, event: &Event) -> bool {
+    world.step(event) == Ok(Outcome::Quiet)
+}
+
+fn hears_a_stale_block(world: &mut World) -> bool {
+    world.step(&Event::ToCpu(4)) == Ok(Outcome::Heard(Heard::Stale { block: 0 }))
+}
+
+fn refuses_deliveries(world: &mut World) -> bool {
+    let none_sent = [(Event::ToCpu(5), 5), (Event::ToModule(0), 0)];
+    for (event, index) in &none_sent {
+        if world.step(event) != Err(WorldError::NotSent { index: *index }) {
+            return false;
         }
     }
-    Ok(Answer::right_if(counts(&world) == [4, 4, 4, 4, 2, 1, 0, 0]))
+    world.step(&Event::ToModule(3)) == Err(WorldError::OutOfOrder { index: 3, last: 4 })
+}
+
+fn refuses_a_poll(world: &mut World) -> bool {
+    world.step(&Event::Send(Command::Poll { block: 1 })) == Err(WorldError::PollIsOurs)
 }
 
 /// The script of a sample, as far as there is memory for it.
