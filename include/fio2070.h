@@ -81,7 +81,7 @@ enum fio2070_fault_kind {
 struct fio2070_fault {
     uint8_t kind; /* an enum fio2070_fault_kind */
     uint8_t code; /* the first octet */
-    size_t needed;
+    uint16_t needed; /* at most 773 */
     size_t got;
 };
 
