@@ -36,9 +36,9 @@ pub writes-whole : (octets before after : List ℕ) (count : ℕ) → length oct
 writes-whole octets before after count long room is =
     let none : 0 + length octets ≡ length octets = omega arith in
     record {
-  room = λ le. (sym long, is ∙ ap (λ n. octets ++ drop n before) none);
-  no_room = λ lt. absurd (omega arith);
-}
+      room = λ le. (sym long, is ∙ ap (λ n. octets ++ drop n before) none);
+      no_room = λ lt. absurd (omega arith);
+    }
 
 -- where there is no room for them nothing is written
 pub writes-none : (octets before : List ℕ) (count : ℕ) → length octets ≡ count → length before < count

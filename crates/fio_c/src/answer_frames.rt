@@ -11,9 +11,7 @@ ghost use Rattle.fio_c.specs.Written.{Writes, WritesNothing, overwritten};
 
 use crate::blocks::Entry;
 use crate::written::{write_at, write_front, write_with_body};
-use fio_message::{
-    Answer, BLOCK_ENTRIES, EntryOctets, InputNumber, OtherAnswer, encode_answer,
-};
+use fio_message::{Answer, BLOCK_ENTRIES, EntryOctets, InputNumber, OtherAnswer, encode_answer};
 
 /// The type of a block answer (TEES 2009).
 const BLOCK: u8 = 182;
@@ -123,9 +121,14 @@ pub extern "C" fn fio2070_encode_block_answer(
 fn are_entries(entries: &[Entry]) -> bool
     ensures { result ≡ are_entries entries.now }
 {
-    if entries.len() > BLOCK_ENTRIES {
-        return false;
-    }
+    entries.len() <= BLOCK_ENTRIES && are_named(entries)
+}
+
+/// Whether a message can name the input of each entry. All are looked at, which the compiler does many
+/// at a time.
+fn are_named(entries: &[Entry]) -> bool
+    ensures { result ≡ list_all (λ entry. can_be_named entry.input) entries.now }
+{
     let mut named = true;
     for entry in entries {
         named = named & (entry.input < 128);

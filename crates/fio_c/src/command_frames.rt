@@ -76,9 +76,14 @@ pub extern "C" fn fio2070_encode_configure_inputs(
 fn are_items(items: &[ConfigurationItem]) -> bool
     ensures { result ≡ are_items items.now }
 {
-    if items.len() > CONFIGURATION_ITEMS {
-        return false;
-    }
+    items.len() <= CONFIGURATION_ITEMS && are_named(items)
+}
+
+/// Whether a message can name the input of each item. All are looked at, which the compiler does many
+/// at a time.
+fn are_named(items: &[ConfigurationItem]) -> bool
+    ensures { result ≡ list_all (λ item. can_be_named item.input) items.now }
+{
     let mut named = true;
     for item in items {
         named = named & (item.input < 128);

@@ -10,6 +10,6 @@ loop-entry-preserved c =
     record {
       counted = omega arith;
       written = part-more entry_is_part read_entry c.args.from loop.place loop.entry-index c.args.entries.now (record { input = 0; state = 0; stamp = 0 })
-      c.octets_of.result c.args.out.now loop.out c.write_at.new.out loop.invariant.counted c.loop-entry-test.true c.octets_of.ensures
-      c.requires.room loop.invariant.written c.write_at.ensures;
+          c.octets_of.result c.args.out.now loop.out c.write_at.new.out loop.invariant.counted c.loop-entry-test.true c.octets_of.ensures
+          c.requires.room loop.invariant.written c.write_at.ensures;
     }

@@ -10,6 +10,6 @@ loop-item-preserved c =
     record {
       counted = omega arith;
       written = part-more item_is_part read_item c.args.from loop.place loop.item-index c.args.items.now (record { input = 0; ignore = 0; leading = 0; trailing = 0 })
-      c.octets_of.result c.args.out.now loop.out c.write_at.new.out loop.invariant.counted c.loop-item-test.true c.octets_of.ensures
-      c.requires.room loop.invariant.written c.write_at.ensures;
+          c.octets_of.result c.args.out.now loop.out c.write_at.new.out loop.invariant.counted c.loop-item-test.true c.octets_of.ensures
+          c.requires.room loop.invariant.written c.write_at.ensures;
     }

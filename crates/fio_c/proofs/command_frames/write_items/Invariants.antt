@@ -1,7 +1,7 @@
-use Rattle.std.proofs.Common.{◌≡◌, ◌≤◌, ◌+◌, ◌*◌, length, take, true}
-use Rattle.std.specs.List.{flat_map, list_all}
+use Rattle.std.proofs.Common.{◌≡◌, ◌+◌, ◌*◌, take}
+use Rattle.std.specs.List.{flat_map}
 use Rattle.fio_message.specs.Octets.{item_octets}
-use Rattle.fio_c.specs.Flat.{can_be_named, read_items}
+use Rattle.fio_c.specs.Flat.{read_items}
 use Rattle.fio_c.specs.Written.{overwritten}
 use Rattle.fio_c.proofs.command_frames.write_items.Given as goal
 
