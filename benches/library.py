@@ -2,7 +2,8 @@
 
 `calls/library.c` makes the calls of the library as often as `calls/timings.rs` makes those of the crates, on the same
 inputs, in functions of the same names. Each of these functions is counted by callgrind at each call of it, in both
-programs, and the counts are paired in their order. Before each function the program in C says what it counts."""
+programs, and the counts are paired in their order. Before each function the program in C says what it counts. A
+function that is in C alone is counted beside the one below that does the same on the same inputs."""
 
 import os
 import re
@@ -12,8 +13,13 @@ import shutil
 import calls
 from programs import TOP, Failed, succeed
 
-FUNCTIONS = ['decode_commands', 'write_commands', 'decode_answers', 'write_answers', 'read_blocks', 'scan_filters',
-             'scan_module', 'receive_each', 'poll_each', 'write_polls', 'hear_each', 'hear_blocks']
+FUNCTIONS = ['decode_commands', 'copy_items', 'write_commands', 'decode_answers', 'write_answers', 'read_blocks',
+             'copy_entries', 'scan_filters', 'scan_module', 'receive_each', 'poll_each', 'write_polls', 'hear_each',
+             'hear_blocks']
+
+# Those that are in C alone, each with its case, and the function and the case below that do the same.
+BESIDE = {('copy_items', 'configure, 64 items'): ('decode_commands', 'configure, 64 items'),
+          ('copy_entries', '255 entries'): ('read_blocks', '255 entries, each read')}
 
 
 def build(folder):
@@ -41,16 +47,26 @@ def counts(program, function, folder):
     return [found[part] for part in sorted(found)]
 
 
+def counts_by_case(said, program, function, folder):
+    """The instructions of the last call of the function for each case, of which the program in C says so much."""
+    cases = [case for one, _, case, _ in said if one == function]
+    found = counts(program, function, folder)
+    if len(cases) != len(found):
+        raise Failed(f'{program.name}: {function}: {len(cases)} calls, counted {len(found)}')
+    return dict(zip(cases, found))
+
+
 def instructions(folder):
     """For each call of the library and each case: instructions in C, and in a program that makes the call below it."""
     ours, below = build(folder), calls.build_ours(folder)
     said = [line.split('\t') for line in succeed([ours]).splitlines()]
+    alone = [function for function, _ in BESIDE]
+    both_have = [function for function in FUNCTIONS if function not in alone]
+    in_c = {function: counts_by_case(said, ours, function, folder) for function in FUNCTIONS}
+    in_crates = {function: counts_by_case(said, below, function, folder) for function in both_have}
     found = {}
-    for function in FUNCTIONS:
-        names = [words for words in said if words[0] == function]
-        pair = [counts(program, function, folder) for program in [ours, below]]
-        if not len(names) == len(pair[0]) == len(pair[1]):
-            raise Failed(f'{function}: {len(names)} calls, counted {len(pair[0])} in C and {len(pair[1])} below')
-        for (_, call, case, count), *both in zip(names, *pair):
-            found[call, case] = [number / int(count) for number in both]
+    for function, call, case, count in sorted(said, key=lambda words: FUNCTIONS.index(words[0])):
+        below_it, its_case = BESIDE.get((function, case), (function, case))
+        both = in_c[function][case], in_crates[below_it][its_case]
+        found[call, case] = [number / int(count) for number in both]
     return found

@@ -79,9 +79,9 @@ enum fio2070_fault_kind {
 
 /* Numbers that a kind does not have are 0. */
 struct fio2070_fault {
-    uint8_t kind; /* an enum fio2070_fault_kind */
-    uint8_t code; /* the first octet */
-    size_t needed;
+    uint8_t kind;    /* an enum fio2070_fault_kind */
+    uint8_t code;    /* the first octet */
+    uint16_t needed; /* at most 773 */
     size_t got;
 };
 

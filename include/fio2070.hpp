@@ -58,7 +58,7 @@ public:
     constexpr explicit Fault(::fio2070_fault fault) : fault_(fault) {}
     constexpr ::fio2070_fault_kind kind() const { return static_cast<::fio2070_fault_kind>(fault_.kind); }
     constexpr std::uint8_t code() const { return fault_.code; }
-    constexpr std::size_t needed() const { return fault_.needed; }
+    constexpr std::uint16_t needed() const { return fault_.needed; }
     constexpr std::size_t got() const { return fault_.got; }
     /// As `fio2070 show` writes it.
     std::string text() const {

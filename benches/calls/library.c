@@ -1,6 +1,7 @@
 /* The calls of the library for C, each as often and on the same inputs as operations.rs and timings.rs have it, in
- * functions of the same names, so that both can be counted. A line is written before each of these functions is called:
- * the function, the call, what it is given, and how many calls it makes. */
+ * functions of the same names, so that both can be counted; copy_items and copy_entries do what decode_commands and
+ * read_blocks do there. A line is written before each of these functions is called: the function, the call, what it is
+ * given, and how many calls it makes. */
 #include "fio2070.h"
 
 #include <stdio.h>
@@ -71,7 +72,6 @@ static uint32_t octet_at(const uint8_t *octets, size_t length) {
 static struct fio2070_configuration_item items[FIO2070_MOST_ENTRIES];
 static struct fio2070_entry entries[FIO2070_MOST_ENTRIES];
 
-/* The items of a configuration, and its leading filter at the place. */
 COUNTED static uint32_t decode_commands(const struct frame *frames, unsigned count) {
     struct fio2070_command command;
     uint32_t sum = 0;
@@ -81,8 +81,17 @@ COUNTED static uint32_t decode_commands(const struct frame *frames, unsigned cou
         const struct frame *frame = &frames[turn % 2];
         if (fio2070_decode_command(frame->octets, frame->length, &command).kind != FIO2070_NO_FAULT) continue;
         sum += command.block + command.load + command.clear + command.timeout + command.levels[place] + command.body;
-        if (command.count == 0) continue;
-        fio2070_command_items(frame->octets, frame->length, items, FIO2070_MOST_ENTRIES);
+        sum += command.count;
+    }
+    return sum;
+}
+
+COUNTED static uint32_t copy_items(const struct frame *frames, unsigned count) {
+    uint32_t sum = 0;
+    unsigned turn;
+    for (turn = 0; turn < count; turn++) {
+        const struct frame *frame = &frames[turn % 2];
+        if (fio2070_command_items(frame->octets, frame->length, items, FIO2070_MOST_ENTRIES) == 0) continue;
         sum += items[place].leading;
     }
     return sum;
@@ -97,9 +106,7 @@ COUNTED static uint32_t decode_answers(const struct frame *frames, unsigned coun
         const struct frame *frame = &frames[turn % 2];
         if (fio2070_decode_answer(frame->octets, frame->length, &answer).kind != FIO2070_NO_FAULT) continue;
         sum += answer.flags + answer.status + answer.stamp + (uint32_t)(answer.inputs >> 40) + answer.body;
-        if (answer.count == 0) continue;
-        fio2070_block_entries(frame->octets, frame->length, entries, FIO2070_MOST_ENTRIES);
-        sum += entries[place].stamp;
+        sum += answer.count;
     }
     return sum;
 }
@@ -170,6 +177,17 @@ COUNTED static uint32_t write_answers(const struct fio2070_answer *answers, cons
     return sum;
 }
 
+COUNTED static uint32_t copy_entries(const struct frame *frames, unsigned count) {
+    uint32_t sum = 0;
+    unsigned turn;
+    for (turn = 0; turn < count; turn++) {
+        const struct frame *frame = &frames[turn % 2];
+        if (fio2070_block_entries(frame->octets, frame->length, entries, FIO2070_MOST_ENTRIES) == 0) continue;
+        sum += entries[place].stamp;
+    }
+    return sum;
+}
+
 COUNTED static uint32_t read_blocks(const struct frame *frames, unsigned count) {
     struct fio2070_block_header header = {0, 0, 0, 0};
     uint32_t sum = 0;
@@ -194,8 +212,12 @@ static void count_command(const char *name, const uint8_t *octets, size_t length
     frames[0] = frames[1] = frame_of(octets, length);
     for (turn = 0; turn < 2; turn++) {
         fio2070_decode_command(octets, length, &commands[turn]);
-        says("decode_commands", length > 100 ? "decode_command, command_items" : "decode_command", name, count);
+        says("decode_commands", "decode_command", name, count);
         kept += decode_commands(frames, count);
+    }
+    for (turn = 0; turn < 2 && octets[0] == FIO2070_CONFIGURE_INPUTS; turn++) {
+        says("copy_items", "command_items", name, count);
+        kept += copy_items(frames, count);
     }
     says("write_commands", "encode_..", name, count);
     kept += write_commands(commands, frames, &frame, count);
@@ -210,9 +232,10 @@ static void count_answer(const char *name, const uint8_t *octets, size_t length,
     frames[0] = frames[1] = frame_of(octets, length);
     for (turn = 0; turn < 2; turn++) {
         fio2070_decode_answer(octets, length, &answers[turn]);
-        says("decode_answers", length > 100 ? "decode_answer, block_entries" : "decode_answer", name, count);
+        says("decode_answers", "decode_answer", name, count);
         kept += decode_answers(frames, count);
     }
+    fio2070_block_entries(octets, length, entries, FIO2070_MOST_ENTRIES);
     says("write_answers", "encode_.._answer", name, count);
     kept += write_answers(answers, frames, &frame, count);
 }
@@ -257,6 +280,10 @@ static void count_blocks(void) {
         says("read_blocks", turn < 2 ? "read_block" : "read_block, block_entries",
              turn < 2 ? "no entry" : "255 entries, each read", count);
         kept += read_blocks(frames, count);
+    }
+    for (turn = 0; turn < 2; turn++) {
+        says("copy_entries", "block_entries", "255 entries", FEW);
+        kept += copy_entries(frames, FEW);
     }
 }
 

@@ -18,7 +18,7 @@ def _load() -> ctypes.CDLL:
 
 
 class CFault(ctypes.Structure):
-    _fields_ = [('kind', c_uint8), ('code', c_uint8), ('needed', c_size_t), ('got', c_size_t)]
+    _fields_ = [('kind', c_uint8), ('code', c_uint8), ('needed', c_uint16), ('got', c_size_t)]
 
 
 class CEntry(ctypes.Structure):

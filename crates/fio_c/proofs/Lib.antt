@@ -1,2 +1,4 @@
 pub mod Found
+pub mod Needs
+pub mod Overwriting
 pub mod Replies

@@ -1,5 +1,6 @@
 -- Faults as C sees them, and what reading octets does.
-use Rattle.std.specs.Prelude.{◌≡◌, ℕ, List, Result, Ok, Err}
+use Rattle.std.specs.Prelude.{◌≡◌, ◌≤◌, ℕ, List, Result, Ok, Err}
+use Rattle.fio_message.specs.declared.limits.TheConstants.{FRAME_OCTETS}
 use Rattle.fio_message.specs.declared.faults.DecodeError.{DecodeError}
 use Rattle.fio_message.specs.declared.faults.DecodeError.TheVariants.{Empty, TooLong, UnknownType, WrongLength}
 use Rattle.fio_message.specs.Answers.{block_length}
@@ -17,6 +18,11 @@ fault_of Empty = record no_fault { kind = 1 }
 fault_of (TooLong got) = record no_fault { kind = 2; got = got }
 fault_of (UnknownType code) = record no_fault { kind = 3; code = code }
 fault_of (WrongLength needed got) = record no_fault { kind = 4; needed = needed; got = got }
+
+-- what is needed in place of octets of a wrong length fits in a frame
+abbrev pub NeedFitsFrame : DecodeError → Type 0
+NeedFitsFrame (WrongLength needed got) = needed ≤ FRAME_OCTETS
+NeedFitsFrame other = Unit {0}
 
 -- What a decoder answers, as C sees it: the message is put into the caller's struct in its flat
 -- form, with no fault; or the struct stays as it was, with the fault.

@@ -1,5 +1,5 @@
 -- Octets and lists in arrays of the caller.
-use Rattle.std.specs.Prelude.{◌≡◌, ◌<◌, ◌≤◌, ℕ, List, ◌++◌, length, drop, Option, Some, None}
+use Rattle.std.specs.Prelude.{◌≡◌, ◌<◌, ◌≤◌, ℕ, List, ◌+◌, ◌++◌, length, take, drop, Option, Some, None}
 use Rattle.fio_message.specs.declared.answers.Answer.{Answer}
 use Rattle.fio_message.specs.Answers.{answer_octets}
 
@@ -10,6 +10,11 @@ pub record Writes (octets before after : List ℕ) (count : ℕ) : Type 0 where
       length octets ≤ length before
       → (count ≡ length octets) × (after ≡ octets ++ drop (length octets) before)
   pub no_room : length before < length octets → (count ≡ 0) × (after ≡ before)
+
+-- the buffer with these octets in it from the place on
+abbrev pub overwritten : ℕ → List ℕ → List ℕ → List ℕ
+overwritten place octets before =
+    take place before ++ (octets ++ drop (place + length octets) before)
 
 -- nothing is written, and the count is 0
 abbrev pub WritesNothing : List ℕ → List ℕ → ℕ → Type 0

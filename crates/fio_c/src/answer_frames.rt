@@ -1,20 +1,20 @@
 //! Answers, written into a buffer of the caller.
-ghost use Rattle.std.specs.Prelude.{◌≡◌, ◌<◌, ◌≤◌, length, map, Some, None, true, false, if◌then◌else◌};
+ghost use Rattle.std.specs.Prelude.{◌≡◌, ◌<◌, ◌≤◌, ◌+◌, ◌*◌, length, Some, None, true, false};
+ghost use Rattle.std.specs.List.{flat_map, list_all};
 ghost use Rattle.fio_message.specs.declared.limits.TheConstants.{BODY_OCTETS};
 ghost use Rattle.fio_message.specs.Answers.{answer_octets};
 ghost use Rattle.fio_message.specs.Octets.{entry_octets};
 ghost use Rattle.fio_message.specs.declared.answers.Answer.TheVariants as answers;
 ghost use Rattle.fio_message.specs.declared.answers.OtherAnswer.{OtherAnswer as Kind};
-ghost use Rattle.fio_c.specs.Flat.{are_entries, read_entries, kind_of_answer};
-ghost use Rattle.fio_c.specs.Written.{Writes, WritesNothing};
+ghost use Rattle.fio_c.specs.Flat.{are_entries, can_be_named, read_entry, read_entries, kind_of_answer};
+ghost use Rattle.fio_c.specs.Written.{Writes, WritesNothing, overwritten};
 
 use crate::blocks::Entry;
-use crate::written::{write_front, write_with_body};
-use arrayvec::ArrayVec;
-use fio_message::{
-    Answer, BLOCK_ENTRIES, BlockStatus, EntryOctets, InputNumber, KeptBlock, OtherAnswer,
-    encode_answer,
-};
+use crate::written::{write_at, write_front, write_with_body};
+use fio_message::{Answer, BLOCK_ENTRIES, EntryOctets, InputNumber, OtherAnswer, encode_answer};
+
+/// The type of a block answer (TEES 2009).
+const BLOCK: u8 = 182;
 
 /// Writes an answer, and returns how many octets it has: 0 where there is no room. Inlined, so that no
 /// answer and no frame is made where the type is known.
@@ -103,35 +103,66 @@ pub extern "C" fn fio2070_encode_block_answer(
         out.old out.new result }
     ensures refused { are_entries entries.now ≡ false → WritesNothing out.old out.new result }
 {
-    let Some(entries) = read_entries(entries) else {
+    if !are_entries(entries) {
         return 0;
-    };
-    let mut kept = KeptBlock::new();
-    let status = BlockStatus::from_octet(status);
-    kept.write(block, entries.as_slice(), &[], 255, status, stamp);
-    write_front(kept.as_slice(), out)
+    }
+    let length = 8 + 3 * entries.len();
+    if out.len() < length {
+        return 0;
+    }
+    let [a, b, c, d] = stamp.to_be_bytes();
+    write_at(0, &[BLOCK, block, entries.len() as u8], out);
+    write_entries(entries, 3, out);
+    write_at(length - 5, &[status, a, b, c, d], out);
+    length
 }
 
-/// The entries of a block as it carries them, `None` where there are too many or one names an input
-/// above 127.
-fn read_entries(entries: &[Entry]) -> Option<ArrayVec<EntryOctets, 255>>
-    ensures { result
-        ≡ (if are_entries entries.now
-        then Some (record { items = map entry_octets (read_entries entries.now) }) else None) }
+/// Whether these are the entries of a block: no more than there may be, each of an input below 128.
+fn are_entries(entries: &[Entry]) -> bool
+    ensures { result ≡ are_entries entries.now }
 {
-    if entries.len() > BLOCK_ENTRIES {
-        return None;
-    }
-    let mut read = ArrayVec::new();
+    entries.len() <= BLOCK_ENTRIES && are_named(entries)
+}
+
+/// Whether a message can name the input of each entry. All are looked at, which the compiler does many
+/// at a time.
+fn are_named(entries: &[Entry]) -> bool
+    ensures { result ≡ list_all (λ entry. can_be_named entry.input) entries.now }
+{
+    let mut named = true;
     for entry in entries {
-        let entry = fio_message::Entry {
-            input: InputNumber::new(entry.input)?,
+        named = named & (entry.input < 128);
+    }
+    named
+}
+
+/// Writes the entries of a block from the place on, three octets each.
+fn write_entries(entries: &[Entry], from: usize, out: &mut [u8])
+    requires named { list_all (λ entry. can_be_named entry.input) entries.now ≡ true }
+    requires room { from + 3 * length entries.now ≤ length out.old }
+    ensures { out.new ≡ overwritten from (flat_map entry_octets (read_entries entries.now)) out.old }
+{
+    let mut place = from;
+    for entry in entries {
+        write_at(place, &octets_of(entry), out);
+        place += 3;
+    }
+}
+
+/// The octets of an entry.
+fn octets_of(entry: &Entry) -> EntryOctets
+    requires { entry.now.input < 128 }
+    ensures { result ≡ entry_octets (read_entry entry.now) }
+{
+    match InputNumber::new(entry.input) {
+        Some(input) => fio_message::Entry {
+            input,
             level: entry.state != 0,
             stamp: entry.stamp,
-        };
-        read.push(entry.octets());
+        }
+        .octets(),
+        None => unreachable!(),
     }
-    Some(read)
 }
 
 /// Writes the answer to a watchdog command (TEES 2009, answer 186). Returns how many octets it has:

@@ -1,18 +1,23 @@
 //! Commands, written into a buffer of the caller.
-ghost use Rattle.std.specs.Prelude.{◌≡◌, ◌<◌, ◌≤◌, length, Some, None, true, false, if◌then◌else◌};
+ghost use Rattle.std.specs.Prelude.{◌≡◌, ◌<◌, ◌≤◌, ◌+◌, ◌*◌, length, Some, None, true, false, if◌then◌else◌};
+ghost use Rattle.std.specs.List.{flat_map, list_all};
 ghost use Rattle.fio_message.specs.declared.limits.TheConstants.{BODY_OCTETS};
 ghost use Rattle.fio_message.specs.Commands.{command_octets};
+ghost use Rattle.fio_message.specs.Octets.{item_octets};
 ghost use Rattle.fio_message.specs.declared.commands.OtherCommand.{OtherCommand as Kind};
 ghost use Rattle.fio_message.specs.declared.commands.Command.TheVariants as commands;
-ghost use Rattle.fio_c.specs.Flat.{are_items, read_items, kind_of_command};
-ghost use Rattle.fio_c.specs.Written.{Writes, WritesNothing};
+ghost use Rattle.fio_c.specs.Flat.{are_items, can_be_named, read_item, read_items, kind_of_command};
+ghost use Rattle.fio_c.specs.Written.{Writes, WritesNothing, overwritten};
 
 use crate::commands::ConfigurationItem;
-use crate::written::{write_front, write_with_body};
+use crate::written::{write_at, write_front, write_with_body};
 use arrayvec::ArrayVec;
 use fio_message::{
     CONFIGURATION_ITEMS, Command, InputItem, InputNumber, OtherCommand, encode_command,
 };
+
+/// The type of the command that configures inputs (TEES 2009).
+const CONFIGURE_INPUTS: u8 = 51;
 
 /// Writes a command, and returns how many octets it has: 0 where there is no room. Inlined, so that no
 /// command and no frame is made where the type is known.
@@ -54,10 +59,58 @@ pub extern "C" fn fio2070_encode_configure_inputs(
         out.old out.new result }
     ensures refused { are_items items.now ≡ false → WritesNothing out.old out.new result }
 {
-    match read_items(items) {
-        Some(items) => write_command(&Command::ConfigureInputs { items }, out),
-        None => 0,
+    if !are_items(items) {
+        return 0;
     }
+    let length = 2 + 3 * items.len();
+    if out.len() < length {
+        return 0;
+    }
+    write_at(0, &[CONFIGURE_INPUTS, items.len() as u8], out);
+    write_items(items, 2, out);
+    length
+}
+
+/// Whether these are the items of a configuration: no more than there may be, each of an input below
+/// 128.
+fn are_items(items: &[ConfigurationItem]) -> bool
+    ensures { result ≡ are_items items.now }
+{
+    items.len() <= CONFIGURATION_ITEMS && are_named(items)
+}
+
+/// Whether a message can name the input of each item. All are looked at, which the compiler does many
+/// at a time.
+fn are_named(items: &[ConfigurationItem]) -> bool
+    ensures { result ≡ list_all (λ item. can_be_named item.input) items.now }
+{
+    let mut named = true;
+    for item in items {
+        named = named & (item.input < 128);
+    }
+    named
+}
+
+/// Writes the items of a configuration from the place on, three octets each.
+fn write_items(items: &[ConfigurationItem], from: usize, out: &mut [u8])
+    requires named { list_all (λ item. can_be_named item.input) items.now ≡ true }
+    requires room { from + 3 * length items.now ≤ length out.old }
+    ensures { out.new ≡ overwritten from (flat_map item_octets (read_items items.now)) out.old }
+{
+    let mut place = from;
+    for item in items {
+        write_at(place, &octets_of(item), out);
+        place += 3;
+    }
+}
+
+/// The octets of an item.
+fn octets_of(item: &ConfigurationItem) -> [u8; 3]
+    requires { item.now.input < 128 }
+    ensures { result ≡ item_octets (read_item item.now) }
+{
+    let ignore = if item.ignore == 0 { 0 } else { 128 };
+    [ignore + item.input, item.leading, item.trailing]
 }
 
 /// The items of a configuration, `None` where there are too many or one names an input above 127.

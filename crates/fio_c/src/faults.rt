@@ -2,7 +2,7 @@
 ghost use Rattle.std.specs.Prelude.{◌≡◌, Some, None};
 ghost use Rattle.fio_message.specs.declared.faults.DecodeError.{DecodeError};
 ghost use Rattle.fio_message.specs.Texts.{fault_text};
-ghost use Rattle.fio_c.specs.Faults.{fault_of, no_fault};
+ghost use Rattle.fio_c.specs.Faults.{NeedFitsFrame, fault_of, no_fault};
 ghost use Rattle.fio_c.specs.Written.{Writes, WritesNothing};
 
 use crate::written::write_front;
@@ -18,8 +18,8 @@ pub struct Fault {
     pub kind: u8,
     /// The first octet, for kind 3.
     pub code: u8,
-    /// How many octets are needed, for kind 4.
-    pub needed: usize,
+    /// How many octets are needed, for kind 4: at most 773.
+    pub needed: u16,
     /// How many octets there are, for kinds 2 and 4.
     pub got: usize,
 }
@@ -32,8 +32,9 @@ pub(crate) const NO_FAULT: Fault = Fault {
     got: 0,
 };
 
-/// A fault of a decoder.
+/// A fault of a decoder, which needs no more octets than a frame has.
 pub(crate) fn fault_from(error: DecodeError) -> Fault
+    requires { NeedFitsFrame error }
     ensures { result ≡ fault_of error }
 {
     match error {
@@ -53,7 +54,7 @@ pub(crate) fn fault_from(error: DecodeError) -> Fault
         },
         DecodeError::WrongLength { needed, got } => Fault {
             kind: 4,
-            needed,
+            needed: needed as u16,
             got,
             ..NO_FAULT
         },
@@ -70,7 +71,7 @@ fn error_from(fault: &Fault) -> Option<DecodeError>
         2 => Some(DecodeError::TooLong { got: fault.got }),
         3 => Some(DecodeError::UnknownType { code: fault.code }),
         4 => Some(DecodeError::WrongLength {
-            needed: fault.needed,
+            needed: usize::from(fault.needed),
             got: fault.got,
         }),
         _ => None,

@@ -140,8 +140,6 @@ fn hear_block(poller: &mut Poller, view: &BlockView, items: &mut [RecordItem]) -
 }
 
 /// Hears octets that are no block answer.
-// Not inlined, so that room for an answer is cleared only where one is decoded.
-#[inline(never)]
 fn hear_other(octets: &[u8]) -> Heard
     requires { block_in octets.now ≡ None }
     ensures { (number : ℕ) → result ≡ flat_heard 0 (heard_as number (decoded_answer octets.now)) }

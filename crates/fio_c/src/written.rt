@@ -1,7 +1,7 @@
 //! Octets in a buffer of the caller.
-ghost use Rattle.std.specs.Prelude.{◌<◌, ◌≤◌, ◌∷◌, length};
+ghost use Rattle.std.specs.Prelude.{◌≡◌, ◌<◌, ◌≤◌, ◌+◌, ◌∷◌, length};
 ghost use Rattle.fio_message.specs.declared.limits.TheConstants.{BODY_OCTETS};
-ghost use Rattle.fio_c.specs.Written.{Writes, WritesNothing};
+ghost use Rattle.fio_c.specs.Written.{Writes, WritesNothing, overwritten};
 
 use fio_message::BODY_OCTETS;
 
@@ -36,4 +36,13 @@ pub(crate) fn write_with_body(code: u8, body: &[u8], out: &mut [u8]) -> usize
         }
         None => 0,
     }
+}
+
+/// Writes octets from the place on, where there is room for them.
+#[inline(always)]
+pub(crate) fn write_at(place: usize, octets: &[u8], out: &mut [u8])
+    requires { place + length octets.now ≤ length out.old }
+    ensures { out.new ≡ overwritten place octets.now out.old }
+{
+    out[place..place + octets.len()].copy_from_slice(octets);
 }

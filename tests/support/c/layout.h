@@ -12,10 +12,10 @@
 #define SIZE(type, expected) SAME(size_of_##type, sizeof(struct fio2070_##type), expected)
 #define OFFSET(type, field, expected) SAME(offset_of_##type##_##field, offsetof(struct fio2070_##type, field), expected)
 
-SIZE(fault, 24);
+SIZE(fault, 16);
 OFFSET(fault, code, 1);
-OFFSET(fault, needed, 8);
-OFFSET(fault, got, 16);
+OFFSET(fault, needed, 2);
+OFFSET(fault, got, 8);
 SIZE(block_header, 8);
 OFFSET(block_header, status, 1);
 OFFSET(block_header, count, 2);
@@ -52,7 +52,7 @@ OFFSET(record_item, input, 1);
 OFFSET(record_item, state, 2);
 OFFSET(record_item, stamp, 4);
 OFFSET(record_item, wide, 8);
-SIZE(heard, 32);
+SIZE(heard, 24);
 OFFSET(heard, code, 1);
 OFFSET(heard, number, 2);
 OFFSET(heard, status, 3);

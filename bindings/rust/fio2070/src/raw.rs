@@ -6,7 +6,7 @@
 pub struct Fault {
     pub kind: u8,
     pub code: u8,
-    pub needed: usize,
+    pub needed: u16,
     pub got: usize,
 }
 

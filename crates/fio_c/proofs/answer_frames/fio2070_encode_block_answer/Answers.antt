@@ -1,34 +1,41 @@
-use Rattle.std.proofs.Common.{◌≡◌, ◌≤◌, ◌++◌, ◌∙◌, ℕ, Bool, true, false, List, [], Option, Some, None, if◌then◌else◌, length, map, take, ap, subst, sym}
-use Rattle.std.proofs.lemmas.List.{append-nil, take_all}
-use Rattle.arrayvec.specs.ArrayVec.{ArrayVec}
+use Rattle.std.proofs.Common.{◌≡◌, ◌+◌, ◌*◌, ◌-◌, List, [], ◌∷◌, ◌++◌, length, refl, sym, ap, ◌∙◌, arith}
+use Rattle.std.specs.List.{flat_map}
+use Rattle.std.specs.Int.{w32, to_be_bytes}
+use Rattle.std.proofs.lemmas.List.{length-append, length-map}
 use Rattle.fio_message.specs.Octets.{entry_octets}
-use Rattle.fio_message.specs.Answers.{answer_octets}
-use Rattle.fio_message.specs.declared.answers.Answer.TheVariants as answers
-use Rattle.fio_message.specs.declared.fields.Entry.{Entry}
-use Rattle.fio_message.specs.KeptBlock.{block_octets}
-use Rattle.fio_message.proofs.Marks.{keeps_block_answers}
-use Rattle.fio_c.specs.Flat.{are_entries, read_entries}
-use Rattle.fio_c.specs.Written.{Writes}
+use Rattle.fio_message.proofs.PartKinds.{entry_is_part}
+use Rattle.fio_c.specs.declared.blocks.Entry.{Entry}
+use Rattle.fio_c.specs.Flat.{read_entry, read_entries}
+use Rattle.fio_c.specs.Written.{overwritten}
+use Rattle.fio_c.proofs.Overwriting.{length-read, overwritten-more, writes-none, writes-whole}
 use Rattle.fio_c.proofs.answer_frames.fio2070_encode_block_answer.Goals as goal
 
-found-items : {A : Type 0} (b : Bool) (found : Option (ArrayVec A)) (here there : ArrayVec A)
-    → found ≡ (if b then Some there else None) → found ≡ Some here → here.items ≡ there.items
-found-items true found here there given is = cc
-found-items false found here there given is = absurd (cc (given, is))
+long : (entries : List Entry) → length (flat_map entry_octets (read_entries entries)) ≡ 3 * length entries
+long entries = length-read entry_is_part read_entry entries
 
-block-octets : (number status stamp : ℕ) (entries : List Entry) (taken : List (List ℕ)) (octets : List ℕ)
-    → octets ≡ block_octets number (take 255 (taken ++ [])) status stamp
-    → taken ≡ map entry_octets entries → length taken ≤ 255
-    → octets ≡ answer_octets (answers.Block number (record { items = entries }) status stamp)
-block-octets number status stamp entries taken octets made is few =
-    made
-    ∙ ap (λ es. block_octets number es status stamp) (ap (take 255) (append-nil taken) ∙ take_all 255 taken few ∙ is)
-    ∙ keeps_block_answers number entries status stamp
+pub returns-then-out-length-clause-written : goal.returns-then-out-length-clause-written
+returns-then-out-length-clause-written c are =
+    let entries = c.args.entries.now in
+    let body = flat_map entry_octets (read_entries entries) in
+    let tail = c.args.status ∷ to_be_bytes w32 c.args.stamp in
+    let count = long entries in
+    let all = length-append body tail in
+    writes-none (182 ∷ c.args.block ∷ length (read_entries entries) ∷ (body ++ tail)) c.args.out.now (8 + 3 * length entries) (omega arith) (omega arith)
 
 pub returns-clause-written : goal.returns-clause-written
 returns-clause-written c are =
-    let given = c.args.entries.now in
-    let items = found-items (are_entries given) c.read_entries.result c.in-Some.entries _ c.read_entries.ensures c.in-Some.is in
-    let octets = block-octets c.args.block c.args.status c.args.stamp (read_entries given) c.as_slice.result.now c.as_slice-2.result.now
-    (c.as_slice-2.ensures ∙ c.write.ensures ∙ ap (λ status. block_octets c.args.block (take 255 (c.as_slice.result.now ++ [])) status c.args.stamp) c.from_octet-status.ensures) (c.as_slice.ensures.value ∙ items) c.as_slice.ensures.fits in
-    subst (λ (octets : List ℕ). Writes octets c.args.out.now c.write_front.new.out c.write_front.result) octets c.write_front.ensures
+    let entries = c.args.entries.now in
+    let body = flat_map entry_octets (read_entries entries) in
+    let tail = c.args.status ∷ to_be_bytes w32 c.args.stamp in
+    let before = c.args.out.now in
+    let head = 182 ∷ c.args.block ∷ length entries ∷ [] in
+    let count = long entries in
+    let all = length-append body tail in
+    let with_body : c.write_entries.new.out ≡ overwritten 0 (head ++ body) before =
+    overwritten-more 0 3 head body before c.write_at.new.out c.write_entries.new.out refl (omega arith) c.write_at.ensures c.write_entries.ensures in
+    let ending : c.write_at-2.new.out ≡ overwritten (8 + 3 * length entries - 5) tail c.write_entries.new.out =
+    rw c.to_be_bytes.ensures at c.write_at-2.ensures in
+    let after : c.write_at-2.new.out ≡ overwritten 0 ((head ++ body) ++ tail) before =
+    overwritten-more 0 (8 + 3 * length entries - 5) (head ++ body) tail before c.write_entries.new.out c.write_at-2.new.out (omega arith) (omega arith) with_body ending in
+    writes-whole (182 ∷ c.args.block ∷ length (read_entries entries) ∷ (body ++ tail)) before c.write_at-2.new.out (8 + 3 * length entries) (omega arith) (omega arith)
+    (after ∙ ap (λ n. overwritten 0 (182 ∷ c.args.block ∷ n ∷ (body ++ tail)) before) (sym (length-map entries read_entry)))
