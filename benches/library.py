@@ -14,7 +14,7 @@ import calls
 from programs import TOP, Failed, succeed
 
 FUNCTIONS = ['decode_commands', 'copy_items', 'write_commands', 'decode_answers', 'write_answers', 'read_blocks',
-             'copy_entries', 'scan_filters', 'scan_module', 'receive_each', 'poll_each', 'write_polls', 'hear_each',
+             'read_headers', 'copy_entries', 'scan_filters', 'scan_module', 'receive_each', 'poll_each', 'write_polls', 'hear_each',
              'hear_blocks']
 
 # Those that are in C alone, each with its case, and the function and the case below that do the same.

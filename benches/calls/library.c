@@ -177,6 +177,19 @@ COUNTED static uint32_t write_answers(const struct fio2070_answer *answers, cons
     return sum;
 }
 
+/* A block without its entries. */
+COUNTED static uint32_t read_headers(const struct frame *frames, unsigned count) {
+    struct fio2070_block_header header = {0, 0, 0, 0};
+    uint32_t sum = 0;
+    unsigned turn;
+    for (turn = 0; turn < count; turn++) {
+        const struct frame *frame = &frames[turn % 2];
+        if (fio2070_read_block(frame->octets, frame->length, &header).kind != FIO2070_NO_FAULT) return sum;
+        sum += header.stamp + header.number + header.status + header.count;
+    }
+    return sum;
+}
+
 COUNTED static uint32_t copy_entries(const struct frame *frames, unsigned count) {
     uint32_t sum = 0;
     unsigned turn;
@@ -273,6 +286,12 @@ static void count_messages(void) {
 static void count_blocks(void) {
     struct frame frames[2];
     int turn;
+    frames[0] = block_frame(7, 0);
+    frames[1] = block_frame(8, 0);
+    for (turn = 0; turn < 2; turn++) {
+        says("read_headers", "read_block", "by a call, no entry read", MANY);
+        kept += read_headers(frames, MANY);
+    }
     for (turn = 0; turn < 4; turn++) {
         unsigned count = turn < 2 ? MANY : FEW;
         frames[0] = block_frame(7, turn < 2 ? 0 : 255);

@@ -133,6 +133,29 @@ fn read_blocks(frames: &Both<Frame>, count: u32, place: usize) -> u32 {
     sum
 }
 
+/// Reads a block without its entries into room of the caller, by a call that is not inlined, as every call for C is.
+#[inline(never)]
+fn read_header(octets: &[u8], header: &mut (u8, u8, u8, u32)) -> Result<(), DecodeError> {
+    let block = read_block(octets)?;
+    *header = (block.block(), block.status(), block.len() as u8, block.stamp());
+    Ok(())
+}
+
+#[inline(never)]
+fn read_headers(frames: &Both<Frame>, count: u32) -> u32 {
+    let mut header = (0u8, 0u8, 0u8, 0u32);
+    let mut sum = 0u32;
+    for turn in 0..count {
+        if read_header(&frames[(turn % 2) as usize], &mut header).is_err() {
+            return sum;
+        }
+        let (number, status, entries, stamp) = header;
+        sum = sum.wrapping_add(stamp).wrapping_add(u32::from(number));
+        sum = sum.wrapping_add(u32::from(status)).wrapping_add(u32::from(entries));
+    }
+    sum
+}
+
 #[inline(never)]
 fn scan_filters(filters: &mut Filters, flips: u64, count: u32) -> u64 {
     let mut raw = 0u64;

@@ -4,7 +4,7 @@ use fio2070::{cpu as fio_cpu, input as fio_input, message as fio_message, module
 use fio_cpu::{Heard, Poller};
 use fio_input::Filters;
 use fio_message::{
-    Answer, Command, Frame, decode_answer, decode_command, encode_answer, encode_command, read_block,
+    Answer, Command, DecodeError, Frame, decode_answer, decode_command, encode_answer, encode_command, read_block,
 };
 use fio_module::Module;
 use fio_world::{CommandFrame, Event, World};
