@@ -14,8 +14,8 @@ import calls
 from programs import TOP, Failed, succeed
 
 FUNCTIONS = ['decode_commands', 'copy_items', 'write_commands', 'decode_answers', 'write_answers', 'read_blocks',
-             'read_headers', 'copy_entries', 'scan_filters', 'scan_module', 'receive_each', 'poll_each', 'write_polls', 'hear_each',
-             'hear_blocks']
+             'read_headers', 'copy_entries', 'scan_filters', 'scan_module', 'receive_each', 'poll_each',
+             'write_polls', 'hear_each', 'hear_blocks']
 
 # Those that are in C alone, each with its case, and the function and the case below that do the same.
 BESIDE = {('copy_items', 'configure, 64 items'): ('decode_commands', 'configure, 64 items'),
