@@ -56,49 +56,41 @@ const fn answer_of_type(code: u8) -> Answer
 fn flat_answer(answer: &fio_message::Answer) -> Answer
     ensures { result ≡ flat_answer answer.now }
 {
-    let flat = answer_of_type(answer.code());
+    let mut flat = answer_of_type(answer.code());
     match answer {
         fio_message::Answer::Status {
             flags,
             receive_errors,
             transmit_errors,
             stamp,
-        } => Answer {
-            flags: *flags,
-            receive_errors: *receive_errors,
-            transmit_errors: *transmit_errors,
-            stamp: *stamp,
-            ..flat
-        },
+        } => {
+            flat.flags = *flags;
+            flat.receive_errors = *receive_errors;
+            flat.transmit_errors = *transmit_errors;
+            flat.stamp = *stamp;
+        }
         fio_message::Answer::LoadCounter { status }
         | fio_message::Answer::ConfigureInputs { status }
-        | fio_message::Answer::Watchdog { status } => Answer {
-            status: *status,
-            ..flat
-        },
+        | fio_message::Answer::Watchdog { status } => flat.status = *status,
         fio_message::Answer::RawInputs { inputs, stamp }
-        | fio_message::Answer::FilteredInputs { inputs, stamp } => Answer {
-            inputs: *inputs,
-            stamp: *stamp,
-            ..flat
-        },
+        | fio_message::Answer::FilteredInputs { inputs, stamp } => {
+            flat.inputs = *inputs;
+            flat.stamp = *stamp;
+        }
         fio_message::Answer::Block {
             block,
             entries,
             status,
             stamp,
-        } => Answer {
-            block: *block,
-            count: entries.len() as u8,
-            status: *status,
-            stamp: *stamp,
-            ..flat
-        },
-        fio_message::Answer::Other { body, .. } => Answer {
-            body: body.len() as u16,
-            ..flat
-        },
+        } => {
+            flat.block = *block;
+            flat.count = entries.len() as u8;
+            flat.status = *status;
+            flat.stamp = *stamp;
+        }
+        fio_message::Answer::Other { body, .. } => flat.body = body.len() as u16,
     }
+    flat
 }
 
 /// Reads any answer. The entries of a block and the octets of a body stay where they are. A fault

@@ -68,41 +68,26 @@ const fn command_of_type(code: u8) -> Command
 fn flat_command(command: &fio_message::Command) -> Command
     ensures { result ≡ flat_command command.now }
 {
-    let flat = command_of_type(command.code());
+    let mut flat = command_of_type(command.code());
     match command {
-        fio_message::Command::Status { clear } => Command {
-            clear: *clear,
-            ..flat
-        },
-        fio_message::Command::LoadCounter { load } => Command {
-            load: *load,
-            ..flat
-        },
-        fio_message::Command::ConfigureInputs { items } => Command {
-            count: items.len() as u8,
-            ..flat
-        },
+        fio_message::Command::Status { clear } => flat.clear = *clear,
+        fio_message::Command::LoadCounter { load } => flat.load = *load,
+        fio_message::Command::ConfigureInputs { items } => flat.count = items.len() as u8,
         fio_message::Command::RawInputs
         | fio_message::Command::FilteredInputs
-        | fio_message::Command::Identify => flat,
-        fio_message::Command::Poll { block } => Command {
-            block: *block,
-            ..flat
-        },
-        fio_message::Command::SetOutputs { levels, controls } => Command {
-            levels: *levels,
-            controls: *controls,
-            ..flat
-        },
-        fio_message::Command::Watchdog { timeout } => Command {
-            timeout: *timeout,
-            ..flat
-        },
-        fio_message::Command::Other { body, .. } => Command {
-            body: body.len() as u16,
-            ..flat
-        },
+        | fio_message::Command::Identify => {}
+        fio_message::Command::Poll { block } => flat.block = *block,
+        fio_message::Command::SetOutputs { levels, controls } => {
+            flat = Command {
+                levels: *levels,
+                controls: *controls,
+                ..flat
+            };
+        }
+        fio_message::Command::Watchdog { timeout } => flat.timeout = *timeout,
+        fio_message::Command::Other { body, .. } => flat.body = body.len() as u16,
     }
+    flat
 }
 
 /// Reads any command. The items of a configuration and the octets of a body stay where they are. A
