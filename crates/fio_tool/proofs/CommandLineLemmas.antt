@@ -93,14 +93,15 @@ chosen-name words name e =
     let arguments = argument_words command_line words in
     entered-name (stop_after app.top.rules (names_of app) arguments) name e
 
--- a tool that is looked up by the name that words choose
-pub chosen-tool : (words : List Text) (name : Text) (tool : Option Tool)
-    → chosen_name words ≡ Some name
-    → IfSome tool (λ t. name_of t ≡ name) → IfNone tool ((t : Tool) → name_of t ≡ name → ⊥)
+-- a tool that is looked up by the name that words choose, if they choose one
+pub chosen-tool : (words : List Text) (name : Option Text) (tool : Option Tool)
+    → chosen_name words ≡ name
+    → IfSome tool (λ t. name ≡ Some (name_of t)) → IfNone tool ((t : Tool) → name ≡ Some (name_of t) → ⊥)
     → option_map name_of tool ≡ chosen_name words
-chosen-tool words name None chosen known unknown =
-    let is_known = chosen-name words name chosen in absurd (unknown is_known.0 is_known.1)
-chosen-tool words name (Some t) chosen known unknown = ap Some known ∙ sym chosen
+chosen-tool words None None chosen known unknown = sym chosen
+chosen-tool words (Some name) None chosen known unknown =
+    let is_known = chosen-name words name chosen in absurd (unknown is_known.0 (ap Some (sym is_known.1)))
+chosen-tool words name (Some t) chosen known unknown = sym (chosen ∙ known)
 
 -- a name that none of the tools up to the last has is no tool's
 pub none_named : (name : Text) (count : ℕ) → 3 ≤ count

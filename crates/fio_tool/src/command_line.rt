@@ -1,7 +1,8 @@
 //! The command line.
-ghost use Rattle.std.specs.Prelude.{◌≡◌, false, IfOk, IfSome, IfNone, option_map, map};
+ghost use Rattle.std.specs.Prelude.{◌≡◌, false, Some, IfOk, IfSome, IfNone, option_map, map};
 ghost use Rattle.clap.specs.Faults.{fault_of};
 ghost use Rattle.clap.specs.Kinds.{FailsBy};
+ghost use Rattle.clap.specs.Matches.{subcommand_name_of};
 ghost use Rattle.clap.specs.Simple.{app_of, new_shape, shape_of};
 ghost use Rattle.clap.specs.declared.builder.command.Command.TheViews.{out-Command as fields_of};
 ghost use Rattle.fio_tool.specs.CommandLine.{chosen_name, command_line, name_of};
@@ -9,7 +10,7 @@ ghost use Rattle.fio_tool.specs.declared.tools.Tool.{Tool};
 
 use crate::help;
 use crate::tools::Tool;
-use clap::{Command, Error};
+use clap::{ArgMatches, Command, Error};
 use std::alloc::{AllocError, Global};
 
 /// What `--version` prints after the program's name.
@@ -37,10 +38,17 @@ pub fn choose<'a>(alloc: Global, words: &'a [&'a str]) -> Result<Option<Tool>, E
 {
     let command = command_line(alloc)?;
     let matches = command.try_get_matches_from(words)?;
-    let Some(name) = matches.subcommand_name() else {
-        return Ok(None);
-    };
-    Ok(tool_named(name))
+    Ok(tool_met(&matches))
+}
+
+/// The tool whose subcommand was met, if one was.
+fn tool_met(matches: &ArgMatches<'_>) -> Option<Tool>
+    ensures known { IfSome result (λ tool.
+        subcommand_name_of matches.now ≡ Some (name_of tool)) }
+    ensures unknown { IfNone result ((tool : Tool) →
+        subcommand_name_of matches.now ≡ Some (name_of tool) → ⊥) }
+{
+    tool_named(matches.subcommand_name()?)
 }
 
 /// The command line, with a subcommand for each tool.

@@ -1,7 +1,8 @@
-use Rattle.std.proofs.Common.{◌≡◌, ◌≢◌, ℕ, ◌+◌, ◌<◌, List, [], ◌∷◌, ◌++◌, zero, suc, length, take, drop, get_or, refl, arith, append_assoc, add-one, false}
+use Rattle.std.proofs.Common.{◌≡◌, ◌≢◌, ℕ, ◌+◌, ◌<◌, List, [], ◌∷◌, ◌++◌, zero, suc, length, take, drop, get_or, refl, ap, ◌∙◌, arith, append_assoc, add-one, false}
 use Rattle.std.proofs.lemmas.Bool.{ne_eqb}
+use Rattle.std.proofs.lemmas.List.{take_more, flat_map_more}
 use Rattle.std.proofs.Math.Dec.{eqb}
-use Rattle.std.specs.List.{AllByRecursion}
+use Rattle.std.specs.List.{AllByRecursion, flat_map}
 use Rattle.fio_world.specs.Lines.{lines_of, text_of, IsOneLine}
 
 -- the first line feed ends the first line
@@ -47,3 +48,16 @@ pub lines_of-text_of : (lines : List (List ℕ)) (rest : List ℕ) → AllByRecu
 lines_of-text_of [] rest one = refl
 lines_of-text_of (line ∷ lines) rest one =
     rw (append_assoc, lines_of-line line (text_of lines ++ rest) one.0, lines_of-text_of lines rest one.1) refl
+
+-- the items so far, and the one at this place
+pub take-next : {X : Type 0} (items : List X) (place : ℕ) (item : X) → place < length items → item ≡ get_or items place item
+    → take place items ++ item ∷ [] ≡ take (place + 1) items
+take-next items place item within here = rw (take_more items place item within) (ap (λ one. take place items ++ one ∷ []) here)
+
+-- what the items so far give, and what the one at this place gives
+pub flat_map-next : {X A : Type 0} (f : X → List A) (front : List A) (items : List X) (place : ℕ) (item : X)
+    → place < length items → item ≡ get_or items place item
+    → (front ++ flat_map f (take place items)) ++ f item ≡ front ++ flat_map f (take (place + 1) items)
+flat_map-next f front items place item within here =
+    flat_map_more f front (take place items) item
+    ∙ ap (λ some. front ++ flat_map f some) (take-next items place item within here)

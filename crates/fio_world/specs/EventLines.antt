@@ -13,16 +13,26 @@ use Rattle.fio_world.specs.Forms.{exactly, begins}
 use Rattle.fio_world.specs.Hexadecimal.{octets_in, octet_of, inputs_of}
 use Rattle.fio_world.specs.Words.{after_prefix, number_in}
 
+-- the event of a line that delivers a frame
+abbrev pub delivery_in : List ℕ → Option Event
+delivery_in line =
+    begins (codes "to-module ") (λ word. option_map ToModule (number_in word)) line
+    (begins (codes "to-cpu ") (λ word. option_map ToCpu (number_in word)) line None)
+
+-- the event of a line that has a value behind its first word, and sends no command
+abbrev pub event_with_value : List ℕ → Option Event
+event_with_value line =
+    begins (codes "scan ") (λ word. option_map Scan (inputs_of word)) line
+    (begins (codes "raise ") (λ word. option_map Raise (octet_of word)) line
+    (delivery_in line))
+
 -- the event of a line that sends no command, where the module may restart or not
 abbrev pub plain_event : Bool → List ℕ → Option Event
 plain_event restarts line =
     exactly (codes "sync") (Some LineSync) line
     (exactly (codes "poll") (Some Poll) line
     (exactly (codes "restart") (then_some restarts Restart) line
-    (begins (codes "scan ") (λ word. option_map Scan (inputs_of word)) line
-    (begins (codes "raise ") (λ word. option_map Raise (octet_of word)) line
-    (begins (codes "to-module ") (λ word. option_map ToModule (number_in word)) line
-    (begins (codes "to-cpu ") (λ word. option_map ToCpu (number_in word)) line None))))))
+    (event_with_value line)))
 
 -- the command is sent, or the frame has this fault
 abbrev pub sending_at : ℕ → Result Command DecodeError → Result Event ScriptError

@@ -1,10 +1,13 @@
 //! Runs of scripts, and what is reported of them.
-ghost use Rattle.std.specs.Prelude.{◌≡◌, ◌≢◌, ◌⊎◌, ◌++◌, Err, map, IfOk, IfErr, OnOk, IsOkAnd};
+ghost use Rattle.std.specs.Prelude.{◌≡◌, ◌≢◌, ◌⊎◌, ◌++◌, ℕ, Err, map, IfOk, IfErr, OnOk, IsOkAnd};
+ghost use Rattle.fio_module.specs.Settings.{Settings};
 ghost use Rattle.fio_world.specs.Done.{outcome_in};
 ghost use Rattle.fio_world.specs.Lines.{lines_of};
+ghost use Rattle.fio_world.specs.Link.{Machine};
 ghost use Rattle.fio_world.specs.ReportLines.{outcome_line};
-ghost use Rattle.fio_world.specs.Reports.{report_of};
+ghost use Rattle.fio_world.specs.Reports.{after_text, report_from, report_of};
 ghost use Rattle.fio_world.specs.Scripts.{scenario_of, scenario_with, script_in, HasGoodFront, IsScript};
+ghost use Rattle.fio_world.specs.Worlds.{Shows};
 
 mod lines;
 
@@ -81,17 +84,36 @@ fn report_run<T: Happens>(
 {
     let mut world = World::with_limits(alloc, id, first, limits)?;
     let mut text = Vec::new(alloc);
+    let good = push_run(&mut text, &mut world, happenings)?;
+    Ok(Report { text, good })
+}
+
+/// Appends the lines of what happens to a world and of how that ends, and returns whether no event is
+/// refused.
+// Inlined, so that the world stays a local of the run.
+#[inline(always)]
+fn push_run<T: Happens>(
+    text: &mut Vec<u8>,
+    world: &mut World,
+    happenings: &[T],
+) -> Result<bool, Memory>
+    ensures { (settings : Settings) (first : ℕ) (machine : Machine)
+        → Shows settings first machine world.old
+        → IfOk result (λ good. after_text text.old.items
+        (report_from settings first 1 machine (map T.event happenings.now))
+        ≡ record { text = text.new.items; good = good }) }
+{
     for (place, happening) in happenings.iter().enumerate() {
-        match happening.happen(&mut world) {
-            Ok(done) => push_done(&mut text, place + 1, &world, done)?,
+        match happening.happen(world) {
+            Ok(done) => push_done(text, place + 1, world, done)?,
             Err(fault) => {
-                push_refusal(&mut text, place + 1, fault)?;
-                return Ok(Report { text, good: false });
+                push_refusal(text, place + 1, fault)?;
+                return Ok(false);
             }
         }
     }
-    push_ending(&mut text, &world)?;
-    Ok(Report { text, good: true })
+    push_ending(text, world)?;
+    Ok(true)
 }
 
 /// What the event with this number did, in the world after it.

@@ -1,7 +1,7 @@
 //! A script's further lines: one event each.
 ghost use Rattle.std.specs.Prelude.{◌≡◌, ◌≢◌, Ok, IfOk, IfErr, IfSome, option_map};
 ghost use Rattle.std.specs.Str.{bytes_eq};
-ghost use Rattle.fio_world.specs.EventLines.{event_at, frame_at, plain_event, IsReadAs};
+ghost use Rattle.fio_world.specs.EventLines.{delivery_in, event_at, event_with_value, frame_at, plain_event, IsReadAs};
 ghost use Rattle.fio_world.specs.Hexadecimal.{octets_in};
 ghost use Rattle.fio_world.specs.Lines.{lines_of};
 ghost use Rattle.fio_world.specs.Scripts.{events_of, HaveGoodFront};
@@ -123,12 +123,30 @@ fn read_plain<'a>(line: &'a [u8], restarts: bool) -> Option<Form<'a>>
     if line == b"restart".as_slice() {
         return restarts.then_some(Form::Restart);
     }
+    read_with_value(line)
+}
+
+/// The event of a line that has a value behind its first word, and sends no command.
+// Inlined, as it is called for each line that is not the same as the line above.
+#[inline(always)]
+fn read_with_value<'a>(line: &'a [u8]) -> Option<Form<'a>>
+    ensures { option_map event_of result ≡ event_with_value line.now }
+{
     if let Some(word) = after_prefix(line, b"scan ") {
         return Some(Form::Scan(read_inputs(word)?));
     }
     if let Some(word) = after_prefix(line, b"raise ") {
         return Some(Form::Raise(read_octet(word)?));
     }
+    read_delivery(line)
+}
+
+/// The event of a line that delivers a frame.
+// Inlined, as it is called for each line that is not the same as the line above.
+#[inline(always)]
+fn read_delivery<'a>(line: &'a [u8]) -> Option<Form<'a>>
+    ensures { option_map event_of result ≡ delivery_in line.now }
+{
     if let Some(word) = after_prefix(line, b"to-module ") {
         return Some(Form::ToModule(read_number(word)?));
     }

@@ -1,5 +1,6 @@
 //! The lines of a report, appended to its text.
-ghost use Rattle.std.specs.Prelude.{◌≡◌, ℕ, ◌++◌, IsSomeAnd, OnOk};
+ghost use Rattle.std.specs.Prelude.{◌≡◌, ◌≤◌, ℕ, ◌++◌, IsSomeAnd, OnOk, codes, decimal};
+ghost use Rattle.std.specs.List.{flat_map};
 ghost use Rattle.fio_module.specs.Settings.{Settings};
 ghost use Rattle.fio_world.specs.Link.{Machine};
 ghost use Rattle.fio_world.specs.ReportLines.{ending_lines, ending_text, heard_line, item_line, outcome_line, refusal_in, refused_line, sent_line};
@@ -44,13 +45,28 @@ pub(crate) fn push_heard(text: &mut Vec<u8>, number: usize, heard: Heard) -> Res
 {
     match heard {
         Heard::Block { entries, status } => push_taken(text, number, entries, status),
-        Heard::Stale { block } => push_line!(text; {number as u64} b" stale " {block} b"\n"),
-        Heard::Other { code } => push_line!(text; {number as u64} b" other " {code} b"\n"),
+        Heard::Stale { block } => push_untaken(text, number, b" stale ", block),
+        Heard::Other { code } => push_untaken(text, number, b" other ", code),
         Heard::Unreadable(fault) => {
             let line = format!(in *text.allocator(); "{number} unreadable {fault}\n")?;
             text.extend_from_slice(line.as_bytes())
         }
     }
+}
+
+/// The CPU received a frame that it does not take: why, in words of at most 40 octets, and the octet
+/// that says so.
+fn push_untaken<const N: usize>(
+    text: &mut Vec<u8>,
+    number: usize,
+    words: &[u8; N],
+    octet: u8,
+) -> Result<(), AllocError>
+    requires { N ≤ 40 }
+    ensures { OnOk result (text.new.items ≡ text.old.items
+        ++ (decimal number ++ (words.now ++ (decimal octet ++ codes "\n")))) }
+{
+    push_line!(text; {number as u64} (words) {octet} b"\n")
 }
 
 /// A block was taken.
@@ -117,6 +133,13 @@ fn push_counts(
         b"counter " {counter} b"\nnumber " {number} b"\nwaiting " {waiting as u64}
         b"\nrecord " {items.len() as u64} b"\n"
     )?;
+    push_items(text, items)
+}
+
+/// The items of the record.
+fn push_items(text: &mut Vec<u8>, items: &[Item]) -> Result<(), AllocError>
+    ensures { OnOk result (text.new.items ≡ text.old.items ++ flat_map item_line items.now) }
+{
     let mut entry_lines = EntryLines::new();
     for item in items {
         push_item(text, &mut entry_lines, *item)?;

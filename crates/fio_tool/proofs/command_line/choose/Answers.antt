@@ -1,4 +1,5 @@
-use Rattle.std.proofs.Common.{◌≡◌, ◌∙◌, sym, ap, subst, option_map, map, List, ℕ, [], Some}
+use Rattle.std.proofs.Common.{◌≡◌, ◌∙◌, sym, ap, subst, option_map, map, List, ℕ, []}
+use Rattle.clap.specs.Matches.{subcommand_name_of}
 use Rattle.clap.specs.Simple.{App, is_simple, subcommand_of}
 use Rattle.clap.specs.Faults.{fault_of, is_simple_and_free}
 use Rattle.fio_tool.specs.CommandLine.{chosen_name}
@@ -9,14 +10,13 @@ pub returns-clause-tool : goal.returns-clause-tool
 returns-clause-tool c =
     let app = c.in_ok-command.ensures in
     let m = c.in_ok-matches.matches in
-    let name = c.in-Some.name.now in
     let words : List (List ℕ) = map (λ word. word.now) c.args.words.now in
     let met = (c.in_ok-matches.ensures.matches (ap is_simple app ∙ command_line-is_simple)).1
     ∙ ap (λ (a : App). subcommand_of a words) app in
-    let chosen : chosen_name words ≡ Some name =
-    sym (ap (option_map (λ entry. entry.0)) met) ∙ name-of_rows m ∙ sym c.in-Some.ensures in
-    let named = c.tool_named.ensures in
-    chosen-tool words name c.tool_named.result chosen named.known named.unknown
+    let chosen : chosen_name words ≡ subcommand_name_of m =
+    sym (ap (option_map (λ entry. entry.0)) met) ∙ name-of_rows m in
+    let found = c.tool_met.ensures in
+    chosen-tool words (subcommand_name_of m) c.tool_met.result chosen found.known found.unknown
 
 pub returns-clause-fault : goal.returns-clause-fault
 returns-clause-fault c =

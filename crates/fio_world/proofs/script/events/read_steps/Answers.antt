@@ -1,5 +1,4 @@
 use Rattle.std.proofs.Common.{◌<◌, sym, subst, ◌∙◌, vec_len, rules, arith}
-use Rattle.std.proofs.lemmas.Grind.{common_steps}
 use Rattle.std.proofs.lemmas.List.{length_push}
 use Rattle.std.proofs.lemmas.Result.{err_from_is_err_and}
 use Rattle.fio_world.proofs.ReadingLemmas.{read_on-start, read_on-end, read_on-event, read_on-fault, HaveRead-start, HaveRead-event, good_front, no_memory, more_than_none, is_read_as}
@@ -53,4 +52,4 @@ returns-in_err-push-clause-memory c is_memory =
     good_front c.args.restarts (lines_of c.args.text.now) _ _ read (rw (length_push c.lines.steps.items c.in_ok-step.step) (omega (arith, few))) (more_than_none c.lines.steps.items c.in_ok-step.step)
 
 pub returns-clause-ok : goal.returns-clause-ok
-returns-clause-ok c = grind (arith, common_steps, read_on-end)
+returns-clause-ok c = sym c.lines.invariant.events ∙ rw c.in-None.ensures.steps.0 (read_on-end c.lines.steps.items (vec_len c.lines.steps) c.args.restarts)

@@ -1,0 +1,7 @@
+use Rattle.fio_world.proofs.LineLemmas.{take-next}
+use Rattle.fio_world.proofs.script.events_of.Goals as goal
+
+pub steps-preserved : goal.steps-preserved
+steps-preserved c =
+    rw (c.in_ok-push.ensures.items, c.steps.invariant, c.event.ensures)
+    (take-next _ _ _ c.steps-test.true c.step-item.is)
