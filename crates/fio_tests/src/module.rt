@@ -1,5 +1,6 @@
 //! The worked examples of the module's description: calls of a module in turn, with what they return.
 use fio_module::{Limits, Module};
+use std::process::Abort;
 use std::test::Fail;
 
 /// A call of a module.
@@ -165,20 +166,26 @@ fn holds(module: &mut Module, call: &Call) -> bool {
     }
 }
 
-/// The place of the first call that does not return what it should.
-fn first_wrong(module: &mut Module, calls: &[Call]) -> Option<usize> {
-    calls.iter().position(|call| !holds(module, call))
+/// Fails the test at the first call that does not return what it should.
+fn expect_all(rt: &impl Abort, module: &mut Module, calls: &[Call]) {
+    for (place, call) in calls.iter().enumerate() {
+        assert!(*rt; holds(module, call), "call {place}");
+    }
 }
 
 #[test]
 fn calls_in_turn(rt: HostRuntime) -> Result<(), Fail> {
     for calls in [COMMANDS.as_slice(), POLLS.as_slice(), RESTART.as_slice()] {
-        let mut module = Module::new(rt.alloc(), 2)?;
-        assert_eq!(rt; first_wrong(&mut module, calls), None);
+        expect_all(&rt, &mut Module::new(rt.alloc(), 2)?, calls);
     }
+    Ok(())
+}
+
+#[test]
+fn one_entry_a_block(rt: HostRuntime) -> Result<(), Fail> {
     let limits = Limits::new(1, 1024).ok_or("in range")?;
     let mut module = Module::with_limits(rt.alloc(), 2, limits)?;
-    assert_eq!(rt; first_wrong(&mut module, &ONE_ENTRY_A_BLOCK), None);
+    expect_all(&rt, &mut module, &ONE_ENTRY_A_BLOCK);
     Ok(())
 }
 

@@ -1,7 +1,7 @@
 use fio_message::DecodeError;
 use fio_world::push_fault;
 use fio_world::text::Hexadecimal;
-use std::alloc::Global;
+use std::alloc::{AllocError, Global};
 use std::test::Fail;
 
 const FAULTS: [(DecodeError, &str); 4] = [
@@ -17,39 +17,40 @@ const FAULTS: [(DecodeError, &str); 4] = [
     ),
 ];
 
-/// Whether a fault has these words, each way that it is written.
-fn has_words(alloc: Global, fault: &DecodeError, expected: &str) -> Result<bool, Fail> {
+/// Whether a fault is displayed in these words, and has them.
+fn has_words(alloc: Global, fault: &DecodeError, expected: &str) -> Result<bool, AllocError> {
     let words = format!(in alloc; "{fault}")?;
+    Ok(words.as_str() == expected && fault.words().as_str() == expected)
+}
+
+/// Whether a fault is written in these words below a text.
+fn is_pushed(alloc: Global, fault: &DecodeError, expected: &[u8]) -> Result<bool, Fail> {
     let mut text = Vec::from_slice(alloc, b"line 3: ")?;
     push_fault(&mut text, fault)?;
     let (front, rest) = text.as_slice().split_at(8);
-    Ok(
-        words.as_str() == expected
-            && fault.words().as_str() == expected
-            && front == b"line 3: ".as_slice()
-            && rest == expected.as_bytes(),
-    )
+    Ok(front == b"line 3: ".as_slice() && rest == expected)
 }
 
 #[test]
 fn words_of_refusals(rt: HostRuntime) -> Result<(), Fail> {
     for (fault, expected) in FAULTS {
         assert!(rt; has_words(rt.alloc(), &fault, expected)?);
+        assert!(rt; is_pushed(rt.alloc(), &fault, expected.as_bytes())?);
     }
     Ok(())
 }
 
+/// Whether octets are displayed as these digits.
+fn has_digits(alloc: Global, octets: &[u8], expected: &str) -> Result<bool, AllocError> {
+    let digits = Hexadecimal(octets);
+    let digits = format!(in alloc; "{digits}")?;
+    Ok(digits.as_str() == expected)
+}
+
 #[test]
 fn octets_as_digits(rt: HostRuntime) -> Result<(), Fail> {
-    let cases: [(&[u8], &str); 3] = [
-        (b"", ""),
-        (&[0x36, 5], "3605"),
-        (&[0, 0x0f, 0xf0, 0xab, 0xff], "000ff0abff"),
-    ];
-    for (octets, expected) in cases {
-        let digits = Hexadecimal(octets);
-        let digits = format!(in rt.alloc(); "{digits}")?;
-        assert_eq!(rt; digits.as_str(), expected);
-    }
+    assert!(rt; has_digits(rt.alloc(), b"", "")?);
+    assert!(rt; has_digits(rt.alloc(), &[0x36, 5], "3605")?);
+    assert!(rt; has_digits(rt.alloc(), &[0, 0x0f, 0xf0, 0xab, 0xff], "000ff0abff")?);
     Ok(())
 }
