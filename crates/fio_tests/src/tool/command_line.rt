@@ -3,36 +3,43 @@ use fio_tool::{Tool, choose, run_program};
 use std::alloc::Global;
 use std::process::Abort;
 
-/// The tool that words name, if any; none where the words have a fault.
-fn chosen(alloc: Global, words: &[&str]) -> Option<Option<Tool>> {
-    choose(alloc, words).ok()
-}
-
-/// Words, and the tool that they name.
-const TOOLS: [(&[&str], Option<Option<Tool>>); 11] = [
-    (&["fio2070", "show"], Some(Some(Tool::Show))),
-    (&["fio2070", "simulate"], Some(Some(Tool::Simulate))),
-    (&["fio2070", "check"], Some(Some(Tool::Check))),
-    (&["fio2070"], Some(None)),
-    (&["fio2070", "other"], None),
-    (&["fio2070", "help"], None),
-    (&["fio2070", "Show"], None),
-    (&["fio2070", "--help"], None),
-    (&["fio2070", "--version"], None),
-    (&["fio2070", "-x"], None),
-    (&["fio2070", "show", "x"], None),
+/// Words, and the tool that they name, if any.
+const TOOLS: [(&str, Option<Tool>); 9] = [
+    ("show", Some(Tool::Show)),
+    ("simulate", Some(Tool::Simulate)),
+    ("check", Some(Tool::Check)),
+    ("other", None),
+    ("help", None),
+    ("Show", None),
+    ("--help", None),
+    ("--version", None),
+    ("-x", None),
 ];
 
-/// Fails the test where its row does not hold, and shows the words.
-fn expect_words(rt: &impl Abort, words: &[&str], holds: bool) {
-    assert!(*rt; holds, "{words:?}");
+/// Whether a word names this tool, or has a fault where there is none.
+fn names(alloc: Global, word: &str, tool: Option<Tool>) -> bool {
+    match choose(alloc, &["fio2070", word]) {
+        Ok(found) => found.is_some() && found == tool,
+        Err(_) => tool.is_none(),
+    }
+}
+
+/// Fails the test where its row does not hold, and shows the word.
+fn expect_word(rt: &impl Abort, word: &str, holds: bool) {
+    assert!(*rt; holds, "{word}");
 }
 
 #[test]
 fn tools_of_words(rt: HostRuntime) {
-    for (words, tool) in TOOLS {
-        expect_words(&rt, words, chosen(rt.alloc(), words) == tool);
+    for (word, tool) in TOOLS {
+        expect_word(&rt, word, names(rt.alloc(), word, tool));
     }
+}
+
+#[test]
+fn no_word_and_one_too_many(rt: HostRuntime) {
+    assert!(rt; matches!(choose(rt.alloc(), &["fio2070"]), Ok(None)));
+    assert!(rt; choose(rt.alloc(), &["fio2070", "show", "x"]).is_err());
 }
 
 /// Whether the program, given these words and this input, ends with this status and a text that
@@ -43,42 +50,39 @@ fn runs(alloc: Global, words: &[&str], input: &[u8], status: u8, text: &str) -> 
     ended == status && sink.flushes == 1 && sink.octets.as_slice().starts_with(text.as_bytes())
 }
 
-/// Words, an input, the status that the program ends with, and what its text begins with.
-type Row = (&'static [&'static str], &'static [u8], u8, &'static str);
-
-const RUNS: [Row; 10] = [
-    (&["fio2070", "show"], b"3605", 0, "poll block 5\n"),
-    (&["fio2070", "show"], b"zz", 1, "line 1: bad line\n"),
-    (&["fio2070", "simulate"], b"", 1, "line 1: bad header\n"),
-    (&["fio2070", "check"], b"> 3605", 0, "good 1 frames\n"),
+/// A word, an input, the status that the program ends with, and what its text begins with.
+const RUNS: [(&str, &[u8], u8, &str); 9] = [
+    ("show", b"3605", 0, "poll block 5\n"),
+    ("show", b"zz", 1, "line 1: bad line\n"),
+    ("simulate", b"", 1, "line 1: bad header\n"),
+    ("check", b"> 3605", 0, "good 1 frames\n"),
+    ("check", b"> 33", 1, "line 1 breaks readable\n"),
     (
-        &["fio2070", "check"],
-        b"> 33",
-        1,
-        "line 1 breaks readable\n",
-    ),
-    (&["fio2070"], b"3605", 2, "fio2070: no subcommand\n"),
-    (
-        &["fio2070", "other"],
+        "other",
         b"3605",
         2,
         "error: unrecognized subcommand 'other'",
     ),
-    (
-        &["fio2070", "help"],
-        b"3605",
-        2,
-        "error: unrecognized subcommand 'help'",
-    ),
-    (&["fio2070", "--help"], b"3605", 0, "Reads the messages"),
-    (&["fio2070", "--version"], b"3605", 0, "fio2070 1.0.0\n"),
+    ("help", b"3605", 2, "error: unrecognized subcommand 'help'"),
+    ("--help", b"3605", 0, "Reads the messages"),
+    ("--version", b"3605", 0, "fio2070 1.0.0\n"),
 ];
 
 #[test]
 fn statuses_of_the_program(rt: HostRuntime) {
-    for (words, input, status, text) in RUNS {
-        expect_words(&rt, words, runs(rt.alloc(), words, input, status, text));
+    for (word, input, status, text) in RUNS {
+        let holds = runs(rt.alloc(), &["fio2070", word], input, status, text);
+        expect_word(&rt, word, holds);
     }
+    assert!(rt;
+        runs(
+            rt.alloc(),
+            &["fio2070"],
+            b"3605",
+            2,
+            "fio2070: no subcommand\n"
+        )
+    );
 }
 
 /// Whether the program, given these words, reports that its first read failed.
@@ -98,18 +102,12 @@ fn reports_write_fault(alloc: Global, words: &[&str]) -> bool {
         && sink.octets.as_slice() == b"fio2070: write fault\n".as_slice()
 }
 
-/// The words that name the tools.
-const NAMES: [&[&str]; 3] = [
-    &["fio2070", "show"],
-    &["fio2070", "simulate"],
-    &["fio2070", "check"],
-];
-
 /// The tools read and write at their first call here.
 #[test]
 fn faults_are_reported(rt: HostRuntime) {
-    for words in NAMES {
-        expect_words(&rt, words, reports_read_fault(rt.alloc(), words));
-        expect_words(&rt, words, reports_write_fault(rt.alloc(), words));
+    for word in ["show", "simulate", "check"] {
+        let words = ["fio2070", word];
+        expect_word(&rt, word, reports_read_fault(rt.alloc(), &words));
+        expect_word(&rt, word, reports_write_fault(rt.alloc(), &words));
     }
 }

@@ -1,9 +1,7 @@
 //! More frames and events than sixteen bits count, the most events of a script, and a long word.
-use fio_message::Memory;
 use fio_world::text::read_octets;
 use fio_world::{Event, Report, Script, World, read_script, report};
 use std::alloc::{AllocError, Global};
-use std::test::Fail;
 
 /// One more than sixteen bits count.
 const MANY: usize = 65_537;
@@ -26,11 +24,17 @@ fn has_polled(world: &World, count: usize) -> bool {
         && world.poller().number() == 1
 }
 
+/// Whether so many polls in a new world are all done.
+fn polls_are_done(alloc: Global, count: usize) -> bool {
+    match World::new(alloc, 2, 0) {
+        Ok(mut world) => poll(&mut world, count) && has_polled(&world, count),
+        Err(_) => false,
+    }
+}
+
 #[test]
-fn many_frames_each_way(rt: HostRuntime) -> Result<(), Fail> {
-    let mut world = World::new(rt.alloc(), 2, 0)?;
-    assert!(rt; poll(&mut world, MANY) && has_polled(&world, MANY));
-    Ok(())
+fn many_frames_each_way(rt: HostRuntime) {
+    assert!(rt; polls_are_done(rt.alloc(), MANY));
 }
 
 /// So many scans of ones. Like the next function it has no contract, so that no proof of a test writes
@@ -52,19 +56,25 @@ fn polls(alloc: Global, count: usize) -> Result<Vec<u8>, AllocError> {
     Ok(text)
 }
 
-/// The counter after these events at once.
-fn counted(alloc: Global, events: &[Event]) -> Option<u32> {
+/// Whether the counter is as expected after these events at once.
+fn counts(alloc: Global, events: &[Event], expected: u32) -> bool {
     match World::run(alloc, 2, 0, events) {
-        Ok(world) => Some(world.module().counter()),
-        Err(_) => None,
+        Ok(world) => world.module().counter() == expected,
+        Err(_) => false,
+    }
+}
+
+/// Whether so many scans at once are counted.
+fn scans_are_counted(alloc: Global, count: usize, expected: u32) -> bool {
+    match scans(alloc, count) {
+        Ok(events) => counts(alloc, events.as_slice(), expected),
+        Err(_) => false,
     }
 }
 
 #[test]
-fn many_events_at_once(rt: HostRuntime) -> Result<(), Fail> {
-    let events = scans(rt.alloc(), MANY)?;
-    assert!(rt; counted(rt.alloc(), events.as_slice()) == Some(65_537));
-    Ok(())
+fn many_events_at_once(rt: HostRuntime) {
+    assert!(rt; scans_are_counted(rt.alloc(), MANY, 65_537));
 }
 
 /// The end of the report of 10,000 polls.
@@ -77,16 +87,32 @@ fn is_of_polls(report: &Report) -> bool {
 }
 
 /// Whether a script has 10,000 events and their report.
-fn has_polls(alloc: Global, script: &Script) -> Result<bool, Memory> {
-    Ok(script.events.len() == 10_000 && is_of_polls(&report(alloc, script)?))
+fn has_polls(alloc: Global, script: &Script) -> bool {
+    match report(alloc, script) {
+        Ok(report) => script.events.len() == 10_000 && is_of_polls(&report),
+        Err(_) => false,
+    }
+}
+
+/// Whether a text spells a script of 10,000 polls.
+fn spells_polls(alloc: Global, text: &[u8]) -> bool {
+    match read_script(alloc, text) {
+        Ok(script) => has_polls(alloc, &script),
+        Err(_) => false,
+    }
+}
+
+/// Whether the text of 10,000 polls does.
+fn polls_are_reported(alloc: Global) -> bool {
+    match polls(alloc, 10_000) {
+        Ok(text) => spells_polls(alloc, text.as_slice()),
+        Err(_) => false,
+    }
 }
 
 #[test]
-fn report_of_the_most_events(rt: HostRuntime) -> Result<(), Fail> {
-    let text = polls(rt.alloc(), 10_000)?;
-    let script = read_script(rt.alloc(), text.as_slice())?;
-    assert!(rt; has_polls(rt.alloc(), &script)?);
-    Ok(())
+fn report_of_the_most_events(rt: HostRuntime) {
+    assert!(rt; polls_are_reported(rt.alloc()));
 }
 
 /// So many digits 3.
@@ -105,18 +131,23 @@ fn are_threes(octets: &[u8], count: usize) -> bool {
 }
 
 /// Whether a word of digits 3 spells half as many octets 0x33.
-fn spells_threes(alloc: Global, word: &[u8]) -> Result<bool, Memory> {
-    Ok(match read_octets(alloc, word)? {
-        Some(octets) => are_threes(octets.as_slice(), word.len() / 2),
-        None => false,
-    })
+fn spells_threes(alloc: Global, word: &[u8]) -> bool {
+    match read_octets(alloc, word) {
+        Ok(Some(octets)) => are_threes(octets.as_slice(), word.len() / 2),
+        _ => false,
+    }
+}
+
+/// Whether so many digits do.
+fn digits_are_read(alloc: Global, count: usize) -> bool {
+    match digits(alloc, count) {
+        Ok(word) => word.len() == count && spells_threes(alloc, word.as_slice()),
+        Err(_) => false,
+    }
 }
 
 #[test]
-fn a_word_of_many_digits(rt: HostRuntime) -> Result<(), Fail> {
-    for count in [65_536, 1_048_576] {
-        let word = digits(rt.alloc(), count)?;
-        assert!(rt; word.len() == count && spells_threes(rt.alloc(), word.as_slice())?);
-    }
-    Ok(())
+fn a_word_of_many_digits(rt: HostRuntime) {
+    assert!(rt; digits_are_read(rt.alloc(), 65_536));
+    assert!(rt; digits_are_read(rt.alloc(), 1_048_576));
 }

@@ -1,32 +1,27 @@
 use crate::rows::expect_row;
 use fio_world::text::{is_skipped, numbered_lines, split_line};
 
-/// A text, its first line and what is below it.
-type Row = (&'static [u8], Option<(&'static [u8], &'static [u8])>);
-
-const FIRST_LINES: [Row; 6] = [
-    (b"", None),
-    (b"\n", Some((b"", b""))),
-    (b"ab", Some((b"ab", b""))),
-    (b"ab\n", Some((b"ab", b""))),
-    (b"ab\ncd\n", Some((b"ab", b"cd\n"))),
-    (b"ab\r\n\ncd", Some((b"ab\r", b"\ncd"))),
+/// Texts, their first lines and what is below these.
+const FIRST_LINES: [(&[u8], &[u8], &[u8]); 5] = [
+    (b"\n", b"", b""),
+    (b"ab", b"ab", b""),
+    (b"ab\n", b"ab", b""),
+    (b"ab\ncd\n", b"ab", b"cd\n"),
+    (b"ab\r\n\ncd", b"ab\r", b"\ncd"),
 ];
 
 #[test]
 fn first_lines(rt: HostRuntime) {
-    for (text, expected) in FIRST_LINES {
-        expect_row(&rt, text, split_line(text) == expected);
+    for (text, line, below) in FIRST_LINES {
+        expect_row(&rt, text, split_line(text) == Some((line, below)));
     }
+    assert!(rt; split_line(b"").is_none());
 }
 
 #[test]
 fn skipped_lines(rt: HostRuntime) {
-    assert!(rt; is_skipped(b""));
-    assert!(rt; is_skipped(b"# 3605"));
-    assert!(rt; !is_skipped(b" # 3605"));
-    assert!(rt; !is_skipped(b"\r"));
-    assert!(rt; !is_skipped(b"3605"));
+    assert!(rt; is_skipped(b"") && is_skipped(b"# 3605"));
+    assert!(rt; !is_skipped(b" # 3605") && !is_skipped(b"\r") && !is_skipped(b"3605"));
 }
 
 const NUMBERED: [(usize, &[u8]); 3] = [(4, b"3605"), (6, b"\r"), (7, b"zz")];

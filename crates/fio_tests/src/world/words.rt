@@ -1,11 +1,9 @@
 use crate::rows::expect_row;
-use fio_message::Memory;
 use fio_world::text::{
     after_prefix, read_inputs, read_number, read_octet, read_octets, read_small_number,
     split_at_blank,
 };
 use std::alloc::Global;
-use std::test::Fail;
 
 /// Words, the numbers that they spell, and those below 256.
 const NUMBERS: [(&[u8], Option<usize>, Option<u8>); 12] = [
@@ -23,79 +21,65 @@ const NUMBERS: [(&[u8], Option<usize>, Option<u8>); 12] = [
     (b"5a", None, None),
 ];
 
+/// Whether a word spells this number, if any, and this one below 256.
+fn spells_number(word: &[u8], number: Option<usize>, small: Option<u8>) -> bool {
+    read_number(word) == number && read_small_number(word) == small
+}
+
 #[test]
 fn numbers(rt: HostRuntime) {
     for (word, number, small) in NUMBERS {
-        expect_row(&rt, word, read_number(word) == number);
-        expect_row(&rt, word, read_small_number(word) == small);
+        expect_row(&rt, word, spells_number(word, number, small));
     }
 }
 
-/// Words, and the octets that they spell.
-const OCTETS: [(&[u8], Option<&[u8]>); 8] = [
-    (b"", None),
-    (b"3", None),
-    (b"36", Some(&[0x36])),
-    (b"B1ff", Some(&[0xb1, 0xff])),
-    (b"b1fF0", None),
-    (b"zz", None),
-    (b"36 05", None),
-    (b"3605\r", None),
-];
+/// Words that spell no octets.
+const NO_OCTETS: [&[u8]; 6] = [b"", b"3", b"b1fF0", b"zz", b"36 05", b"3605\r"];
 
-/// Whether a word spells these octets, if any.
-fn spells(alloc: Global, word: &[u8], expected: Option<&[u8]>) -> Result<bool, Memory> {
-    Ok(match read_octets(alloc, word)? {
-        Some(octets) => expected == Some(octets.as_slice()),
-        None => expected.is_none(),
-    })
+/// Whether a word spells no octets.
+fn spells_none(alloc: Global, word: &[u8]) -> bool {
+    matches!(read_octets(alloc, word), Ok(None))
 }
 
-#[test]
-fn hexadecimal_words(rt: HostRuntime) -> Result<(), Fail> {
-    for (word, expected) in OCTETS {
-        expect_row(&rt, word, spells(rt.alloc(), word, expected)?);
+/// Whether a word spells these octets.
+fn spells(alloc: Global, word: &[u8], expected: &[u8]) -> bool {
+    match read_octets(alloc, word) {
+        Ok(Some(octets)) => octets.as_slice() == expected,
+        _ => false,
     }
-    Ok(())
 }
 
 #[test]
-fn words_of_an_octet(rt: HostRuntime) {
-    assert!(rt; read_octet(b"0a") == Some(10));
-    assert!(rt; read_octet(b"0A") == Some(10));
-    assert!(rt; read_octet(b"a").is_none());
-    assert!(rt; read_octet(b"0a0a").is_none());
+fn hexadecimal_words(rt: HostRuntime) {
+    for word in NO_OCTETS {
+        expect_row(&rt, word, spells_none(rt.alloc(), word));
+    }
+    assert!(rt; spells(rt.alloc(), b"36", &[0x36]));
+    assert!(rt; spells(rt.alloc(), b"B1ff", &[0xb1, 0xff]));
+}
+
+#[test]
+fn hexadecimal_words_of_one_length(rt: HostRuntime) {
+    assert!(rt; read_octet(b"0a") == Some(10) && read_octet(b"0A") == Some(10));
+    assert!(rt; read_octet(b"a").is_none() && read_octet(b"0a0a").is_none());
     assert!(rt; read_octet(b"0g").is_none());
-}
-
-#[test]
-fn words_of_inputs(rt: HostRuntime) {
     assert!(rt; read_inputs(b"0100000000000000") == Some(1));
     assert!(rt; read_inputs(b"0000000000000080") == Some(1 << 63));
     assert!(rt; read_inputs(b"FEffffffffffffff") == Some(!1));
-    assert!(rt; read_inputs(b"00").is_none());
-    assert!(rt; read_inputs(b"000000000000000000").is_none());
+    assert!(rt; read_inputs(b"00").is_none() && read_inputs(b"000000000000000000").is_none());
 }
 
 #[test]
 fn parts_of_lines(rt: HostRuntime) {
-    let line: &[u8] = b"to-module 5 6";
+    let line = b"to-module 5 6";
     assert!(rt; after_prefix(line, b"to-module ") == Some(b"5 6".as_slice()));
     assert!(rt; after_prefix(line, b"to-cpu ").is_none());
     assert!(rt; after_prefix(b"to", b"to-module ").is_none());
+    assert!(rt; is_split(b"5 6 7", b"5", b"6 7") && is_split(b" 5", b"", b"5"));
+    assert!(rt; is_split(b"5 ", b"5", b"") && split_at_blank(b"56").is_none());
 }
 
-/// Lines, and what stands before and behind their first blank.
-const PARTS: [(&[u8], Option<(&[u8], &[u8])>); 4] = [
-    (b"5 6 7", Some((b"5", b"6 7"))),
-    (b" 5", Some((b"", b"5"))),
-    (b"5 ", Some((b"5", b""))),
-    (b"56", None),
-];
-
-#[test]
-fn lines_split_at_a_blank(rt: HostRuntime) {
-    for (line, expected) in PARTS {
-        expect_row(&rt, line, split_at_blank(line) == expected);
-    }
+/// Whether these stand before and behind the first blank of a line.
+fn is_split(line: &[u8], front: &[u8], rest: &[u8]) -> bool {
+    split_at_blank(line) == Some((front, rest))
 }
