@@ -67,7 +67,7 @@ fn is_used(module: &mut Module) -> bool {
 
 /// Each of the octets above is answered as it should be.
 fn answers_all(module: &mut Module) -> bool {
-    for (octets, expected) in ANSWERS {
+    for (octets, expected) in &ANSWERS {
         if !is_answered(module, octets, expected) {
             return false;
         }

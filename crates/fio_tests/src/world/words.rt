@@ -59,10 +59,14 @@ fn hexadecimal_words(rt: HostRuntime) {
 }
 
 #[test]
-fn hexadecimal_words_of_one_length(rt: HostRuntime) {
+fn words_of_an_octet(rt: HostRuntime) {
     assert!(rt; read_octet(b"0a") == Some(10) && read_octet(b"0A") == Some(10));
     assert!(rt; read_octet(b"a").is_none() && read_octet(b"0a0a").is_none());
     assert!(rt; read_octet(b"0g").is_none());
+}
+
+#[test]
+fn words_of_inputs(rt: HostRuntime) {
     assert!(rt; read_inputs(b"0100000000000000") == Some(1));
     assert!(rt; read_inputs(b"0000000000000080") == Some(1 << 63));
     assert!(rt; read_inputs(b"FEffffffffffffff") == Some(!1));
