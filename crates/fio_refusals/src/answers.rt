@@ -1,7 +1,7 @@
 //! What a call came to.
 
 /// How a call answered.
-#[derive(Clone, Copy, Debug, Drop, PartialEq, Eq)]
+#[derive(Clone, Copy, Drop)]
 pub(crate) enum Answer {
     /// As it does where memory is there.
     Right,

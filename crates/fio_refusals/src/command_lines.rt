@@ -15,8 +15,16 @@ pub(crate) fn tool(alloc: Global) -> Answer {
 /// Words that name none.
 pub(crate) fn other(alloc: Global) -> Answer {
     match choose(alloc, &["fio2070", "other"]) {
-        Err(error) if error.kind() == ErrorKind::InvalidSubcommand => Answer::Right,
-        Err(error) => Answer::refused_if(error.kind() == ErrorKind::OutOfMemory),
+        Err(error) => unknown(error.kind()),
         Ok(_) => Answer::Wrong,
+    }
+}
+
+/// The word is not known, or memory ran out.
+fn unknown(kind: ErrorKind) -> Answer {
+    if kind == ErrorKind::InvalidSubcommand {
+        Answer::Right
+    } else {
+        Answer::refused_if(kind == ErrorKind::OutOfMemory)
     }
 }

@@ -52,23 +52,32 @@ pub(crate) fn gap(alloc: Global) -> Answer {
 
 /// Octets that add no item to the record: of no answer, of another one, of an old block, and of a block
 /// without entries.
+const NOTHING: [(&[u8], Heard); 4] = [
+    (
+        &[0x36, 5],
+        Heard::Unreadable(DecodeError::UnknownType { code: 54 }),
+    ),
+    (&[0xb3, 0], Heard::Other { code: 179 }),
+    (
+        &[0xb6, 4, 1, 0x8c, 3, 0xe7, 0, 0, 0, 3, 0xe8],
+        Heard::Stale { block: 4 },
+    ),
+    (
+        &[0xb6, 5, 0, 0, 0, 0, 3, 0xe8],
+        Heard::Block {
+            entries: 0,
+            status: 0,
+        },
+    ),
+];
+
+/// A poller that hears them.
 pub(crate) fn nothing(alloc: Global) -> Answer {
-    let mut poller = Poller::new(alloc, 5);
-    let unknown = DecodeError::UnknownType { code: 54 };
-    let empty = Heard::Block {
-        entries: 0,
-        status: 0,
-    };
-    let rows: [(&[u8], Heard); 4] = [
-        (&[0x36, 5], Heard::Unreadable(unknown)),
-        (&[0xb3, 0], Heard::Other { code: 179 }),
-        (
-            &[0xb6, 4, 1, 0x8c, 3, 0xe7, 0, 0, 0, 3, 0xe8],
-            Heard::Stale { block: 4 },
-        ),
-        (&[0xb6, 5, 0, 0, 0, 0, 3, 0xe8], empty),
-    ];
-    for (octets, expected) in rows {
+    hear_nothing(&mut Poller::new(alloc, 5))
+}
+
+fn hear_nothing(poller: &mut Poller) -> Answer {
+    for (octets, expected) in NOTHING {
         match poller.hear(octets) {
             Ok(heard) if heard == expected => (),
             Err(Memory) => return Answer::refused_if(poller.items().is_empty()),
@@ -78,10 +87,14 @@ pub(crate) fn nothing(alloc: Global) -> Answer {
     Answer::right_if(poller.number() == 6 && poller.items().is_empty())
 }
 
+/// A poller at block 5 hears octets.
+fn hear(alloc: Global, octets: &[u8], items: usize, expected: Heard) -> Answer {
+    hear_again(&mut Poller::new(alloc, 5), octets, items, expected)
+}
+
 /// The octets are taken, at last the second time, and so many items are recorded. Where memory was
 /// refused, the record was empty then and the number was as before.
-fn hear(alloc: Global, octets: &[u8], items: usize, expected: Heard) -> Answer {
-    let mut poller = Poller::new(alloc, 5);
+fn hear_again(poller: &mut Poller, octets: &[u8], items: usize, expected: Heard) -> Answer {
     let mut heard = poller.hear(octets);
     let mut answer = Answer::Right;
     if heard == Err(Memory) {

@@ -44,14 +44,26 @@ struct Rows<'a> {
 impl Rows<'_> {
     /// Reports how a call answered, or that memory was refused before it was made.
     fn report(&mut self, name: &str, answer: Result<Answer, Memory>) {
-        let written = match answer {
-            Ok(Answer::Right) => println!(self.rt; "{name}: right"),
-            Ok(Answer::Refused(place)) => println!(self.rt; "{name}: refused at {place}"),
-            Ok(Answer::Wrong) => println!(self.rt; "{name}: wrong"),
-            Err(Memory) => println!(self.rt; "{name}: not begun"),
+        let is_right = match answer {
+            Ok(Answer::Right) => self.writes(name, "right"),
+            Ok(Answer::Refused(place)) => self.writes_place(name, place),
+            Ok(Answer::Wrong) => {
+                self.writes(name, "wrong");
+                false
+            }
+            Err(Memory) => self.writes(name, "not begun"),
         };
-        let is_wrong = matches!(answer, Ok(Answer::Wrong)) || written.is_err();
-        self.are_right = self.are_right && !is_wrong;
+        self.are_right = self.are_right && is_right;
+    }
+
+    /// Writes how a call answered, and returns whether that is done.
+    fn writes(&self, name: &str, answer: &str) -> bool {
+        println!(self.rt; "{name}: {answer}").is_ok()
+    }
+
+    /// Writes where memory was refused, and returns whether that is done.
+    fn writes_place(&self, name: &str, place: usize) -> bool {
+        println!(self.rt; "{name}: refused at {place}").is_ok()
     }
 }
 

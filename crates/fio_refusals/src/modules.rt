@@ -18,13 +18,10 @@ pub(crate) fn with_limits(alloc: Global) -> Answer {
 }
 
 fn made(module: Result<Module, Memory>) -> Answer {
-    let Ok(mut module) = module else {
-        return Answer::Refused(0);
-    };
-    let Some(frame) = module.receive(&[0x3c]) else {
-        return Answer::Wrong;
-    };
-    Answer::right_if(frame.as_slice() == [0xbc, 2].as_slice())
+    match module {
+        Ok(mut module) => Answer::right_if(is_answered(&mut module, &[0x3c], &[0xbc, 2])),
+        Err(Memory) => Answer::Refused(0),
+    }
 }
 
 /// Octets, and what a module answers to them, whose inputs report each change: nothing where nothing stands.
@@ -55,12 +52,27 @@ const ANSWERS: [(&[u8], &[u8]); 12] = [
 /// Every call that takes no memory, on a module in which more entries wait than may.
 pub(crate) fn others(alloc: Global) -> Result<Answer, Memory> {
     let mut module = Module::new(alloc, 2)?;
-    let is_right = is_answered(&mut module, &opens_all_inputs(), &[0xb3, 0])
-        && ANSWERS.iter().all(|(octets, expected)| is_answered(&mut module, octets, expected))
-        && overflows(&mut module)
-        && sends_a_block(&mut module)
-        && restarts(&mut module);
-    Ok(Answer::right_if(is_right))
+    Ok(Answer::right_if(is_open(&mut module) && is_used(&mut module)))
+}
+
+/// The module takes the configuration.
+fn is_open(module: &mut Module) -> bool {
+    is_answered(module, &opens_all_inputs(), &[0xb3, 0])
+}
+
+/// The calls below it are answered as they should be.
+fn is_used(module: &mut Module) -> bool {
+    answers_all(module) && overflows(module) && sends_a_block(module) && restarts(module)
+}
+
+/// Each of the octets above is answered as it should be.
+fn answers_all(module: &mut Module) -> bool {
+    for (octets, expected) in &ANSWERS {
+        if !is_answered(module, octets, expected) {
+            return false;
+        }
+    }
+    true
 }
 
 /// Of 1,152 entries 1,024 wait, and the counter, which is to be loaded with 5, counts on from there.

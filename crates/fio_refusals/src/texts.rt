@@ -6,22 +6,25 @@ use crate::samples::{
 use fio_message::{DecodeError, Memory};
 use fio_tool::{TraceError, Verdict, check_trace, read_trace};
 use fio_world::text::read_octets;
-use fio_world::{ScriptError, push_fault, read_script, report, report_text};
+use fio_world::{Script, ScriptError, push_fault, read_script, report, report_text};
 use std::alloc::Global;
 
 /// The words of a refusal at the end of a text, or the text as it was.
 pub(crate) fn push_words(alloc: Global) -> Result<Answer, Memory> {
-    let mut text = Vec::from_slice(alloc, b"abc")?;
+    Ok(push(&mut Vec::from_slice(alloc, b"abc")?))
+}
+
+fn push(text: &mut Vec<u8>) -> Answer {
     let fault = DecodeError::WrongLength {
         needed: 14,
         got: 11,
     };
-    Ok(match push_fault(&mut text, &fault) {
+    match push_fault(text, &fault) {
         Ok(()) => {
             Answer::right_if(text.as_slice() == b"abcwrong length needed 14 got 11".as_slice())
         }
         Err(Memory) => Answer::refused_if(text.as_slice() == b"abc".as_slice()),
-    })
+    }
 }
 
 /// The octets of a word.
@@ -43,15 +46,19 @@ pub(crate) fn script(alloc: Global) -> Answer {
 
 /// The report of that script.
 pub(crate) fn reported(alloc: Global) -> Result<Answer, Memory> {
-    let Ok(script) = read_script(alloc, LOST_ANSWER.script) else {
-        return Err(Memory);
-    };
-    Ok(match report(alloc, &script) {
+    match read_script(alloc, LOST_ANSWER.script) {
+        Ok(script) => Ok(reported_of(alloc, &script)),
+        Err(_) => Err(Memory),
+    }
+}
+
+fn reported_of(alloc: Global, script: &Script) -> Answer {
+    match report(alloc, script) {
         Ok(report) => {
             Answer::right_if(report.good && report.text.as_slice() == LOST_ANSWER_REPORT)
         }
         Err(Memory) => Answer::Refused(0),
-    })
+    }
 }
 
 /// The same report from the text of the script.

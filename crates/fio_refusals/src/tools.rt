@@ -36,34 +36,42 @@ pub(crate) fn text(alloc: Global, tool: Tool) -> Answer {
 
 /// The text of what is read is written, or nothing is.
 pub(crate) fn streams(alloc: Global, tool: Tool) -> Result<Answer, Memory> {
+    Ok(stream(alloc, tool, &mut Vec::with_capacity(alloc, ROOM)?))
+}
+
+fn stream(alloc: Global, tool: Tool, written: &mut Vec<u8>) -> Answer {
     let (mut input, expected) = sample(tool);
-    let mut written = Vec::with_capacity(alloc, ROOM)?;
     let ending = match tool {
-        Tool::Show => show(alloc, &mut input, &mut written),
-        Tool::Simulate => simulate(alloc, &mut input, &mut written),
-        Tool::Check => check(alloc, &mut input, &mut written),
+        Tool::Show => show(alloc, &mut input, written),
+        Tool::Simulate => simulate(alloc, &mut input, written),
+        Tool::Check => check(alloc, &mut input, written),
     };
-    Ok(match ending {
+    match ending {
         Ok(Ending::Good) => Answer::right_if(written.as_slice() == expected),
         Err(ToolFault::Memory) => Answer::refused_if(written.is_empty()),
         _ => Answer::Wrong,
-    })
+    }
 }
 
 /// The text of what is read and status 0, or what the program says where memory runs out and status 3.
 pub(crate) fn program(alloc: Global, tool: Tool) -> Result<Answer, Memory> {
+    Ok(run(alloc, tool, &mut Vec::with_capacity(alloc, ROOM)?))
+}
+
+fn run(alloc: Global, tool: Tool, written: &mut Vec<u8>) -> Answer {
     let (mut input, expected) = sample(tool);
-    let word = match tool {
-        Tool::Show => "show",
-        Tool::Simulate => "simulate",
-        Tool::Check => "check",
-    };
-    let mut written = Vec::with_capacity(alloc, ROOM)?;
-    let words = ["fio2070", word];
-    let status = run_program(alloc, &words, &mut input, &mut written);
-    Ok(match status {
+    let words = ["fio2070", word_of(tool)];
+    match run_program(alloc, &words, &mut input, written) {
         0 => Answer::right_if(written.as_slice() == expected),
         3 => Answer::refused_if(written.as_slice() == b"fio2070: out of memory\n".as_slice()),
         _ => Answer::Wrong,
-    })
+    }
+}
+
+fn word_of(tool: Tool) -> &'static str {
+    match tool {
+        Tool::Show => "show",
+        Tool::Simulate => "simulate",
+        Tool::Check => "check",
+    }
 }

@@ -3,16 +3,9 @@ use crate::answers::Answer;
 use crate::samples::{LOST_ANSWER, Sample};
 use fio_cpu::Heard;
 use fio_message::{Command, Memory};
-use fio_module::Limits;
+use fio_module::{Limits, Module};
 use fio_world::{Event, Outcome, RunError, Script, World, WorldError, read_script};
 use std::alloc::Global;
-
-/// Two worlds to which the same happens.
-#[derive(Drop)]
-struct Worlds {
-    first: World,
-    second: World,
-}
 
 /// A world in which nothing has happened.
 pub(crate) fn new(alloc: Global) -> Answer {
@@ -36,14 +29,20 @@ fn made(world: Result<World, Memory>) -> Answer {
 
 /// The events of a sample, run at once with the limits of TEES 2009.
 pub(crate) fn run(alloc: Global, sample: &Sample) -> Result<Answer, Memory> {
-    let script = script_of(alloc, sample)?;
+    Ok(run_script(alloc, &script_of(alloc, sample)?, sample))
+}
+
+fn run_script(alloc: Global, script: &Script, sample: &Sample) -> Answer {
     let ran = World::run(alloc, script.id, script.first, script.events.as_slice());
-    Ok(ended(&ran, &script, sample))
+    ended(&ran, script, sample)
 }
 
 /// The events of a sample, run at once with its limits.
 pub(crate) fn run_with_limits(alloc: Global, sample: &Sample) -> Result<Answer, Memory> {
-    let script = script_of(alloc, sample)?;
+    Ok(run_limited_script(alloc, &script_of(alloc, sample)?, sample))
+}
+
+fn run_limited_script(alloc: Global, script: &Script, sample: &Sample) -> Answer {
     let ran = World::run_with_limits(
         alloc,
         script.id,
@@ -51,7 +50,7 @@ pub(crate) fn run_with_limits(alloc: Global, sample: &Sample) -> Result<Answer, 
         script.limits,
         script.events.as_slice(),
     );
-    Ok(ended(&ran, &script, sample))
+    ended(&ran, script, sample)
 }
 
 /// A run comes to the end of its sample, or says after how many events memory was refused.
@@ -68,28 +67,24 @@ fn ended(ran: &Result<World, RunError>, script: &Script, sample: &Sample) -> Ans
 /// The events of a sample, one after the other, in two worlds. One of them does each event first, and
 /// where memory is refused to it, it is still like the other, and does the same event then.
 pub(crate) fn step(alloc: Global, sample: &Sample) -> Result<Answer, Memory> {
-    let script = script_of(alloc, sample)?;
-    step_in_both(alloc, &script, sample.end)
+    step_in_both(alloc, &script_of(alloc, sample)?, sample.end)
 }
 
 /// The events of a script in two worlds, which come to this end.
 fn step_in_both(alloc: Global, script: &Script, end: [usize; 8]) -> Result<Answer, Memory> {
-    let mut worlds = new_worlds(alloc, script)?;
-    let answer = steps_of_both(&mut worlds, script.events.as_slice())?;
-    Ok(if counts(&worlds.first) == end {
-        answer
-    } else {
-        Answer::Wrong
-    })
+    let mut first = new_world(alloc, script)?;
+    step_beside(&mut first, alloc, script, end)
 }
 
-/// Two worlds in which nothing has happened.
-fn new_worlds(alloc: Global, script: &Script) -> Result<Worlds, Memory> {
-    let first = new_world(alloc, script)?;
-    Ok(Worlds {
-        first,
-        second: new_world(alloc, script)?,
-    })
+/// The events of a script in a world and in one beside it.
+fn step_beside(
+    first: &mut World,
+    alloc: Global,
+    script: &Script,
+    end: [usize; 8],
+) -> Result<Answer, Memory> {
+    let mut second = new_world(alloc, script)?;
+    step_to(first, &mut second, script.events.as_slice(), end)
 }
 
 /// A world with what the first line of a script says.
@@ -97,11 +92,30 @@ fn new_world(alloc: Global, script: &Script) -> Result<World, Memory> {
     World::with_limits(alloc, script.id, script.first, script.limits)
 }
 
+/// Events in two worlds that are alike, which come to this end.
+fn step_to(
+    first: &mut World,
+    second: &mut World,
+    events: &[Event],
+    end: [usize; 8],
+) -> Result<Answer, Memory> {
+    let answer = steps_of_both(first, second, events)?;
+    Ok(if counts(first) == end {
+        answer
+    } else {
+        Answer::Wrong
+    })
+}
+
 /// Events in two worlds that are alike.
-fn steps_of_both(worlds: &mut Worlds, events: &[Event]) -> Result<Answer, Memory> {
+fn steps_of_both(
+    first: &mut World,
+    second: &mut World,
+    events: &[Event],
+) -> Result<Answer, Memory> {
     let mut answer = Answer::Right;
     for (place, event) in events.iter().enumerate() {
-        match step_both(worlds, event)? {
+        match step_both(first, second, event)? {
             Answer::Right => {}
             Answer::Refused(_) => answer = Answer::Refused(place),
             Answer::Wrong => return Ok(Answer::Wrong),
@@ -111,38 +125,43 @@ fn steps_of_both(worlds: &mut Worlds, events: &[Event]) -> Result<Answer, Memory
 }
 
 /// An event in two worlds that are alike.
-fn step_both(worlds: &mut Worlds, event: &Event) -> Result<Answer, Memory> {
-    let outcome = worlds.first.step(event);
+fn step_both(first: &mut World, second: &mut World, event: &Event) -> Result<Answer, Memory> {
+    let outcome = first.step(event);
     if outcome != Err(WorldError::Memory) {
-        return Ok(Answer::right_if(follows(worlds, event, &outcome)?));
+        return Ok(Answer::right_if(follows(first, second, event, &outcome)?));
     }
-    if !are_alike(&worlds.first, &worlds.second) {
+    if !are_alike(first, second) {
         return Ok(Answer::Wrong);
     }
-    let outcome = worlds.first.step(event);
-    Ok(Answer::refused_if(follows(worlds, event, &outcome)?))
+    let outcome = first.step(event);
+    Ok(Answer::refused_if(follows(first, second, event, &outcome)?))
 }
 
 /// The second world does an event as the first did, and is like it then.
 fn follows(
-    worlds: &mut Worlds,
+    first: &World,
+    second: &mut World,
     event: &Event,
     outcome: &Result<Outcome, WorldError>,
 ) -> Result<bool, Memory> {
-    let expected = worlds.second.step(event);
+    let expected = second.step(event);
     if expected == Err(WorldError::Memory) {
         return Err(Memory);
     }
-    Ok(outcome.is_ok() && *outcome == expected && are_alike(&worlds.first, &worlds.second))
+    Ok(outcome.is_ok() && *outcome == expected && are_alike(first, second))
 }
 
 /// The events of a sample, together: where memory is refused at one of them, those above it are done, and
 /// the rest is tried again.
 pub(crate) fn step_all(alloc: Global, sample: &Sample) -> Result<Answer, Memory> {
-    let script = script_of(alloc, sample)?;
-    let mut world = new_world(alloc, &script)?;
+    step_script(alloc, &script_of(alloc, sample)?, sample.end)
+}
+
+/// The events of a script, together, in a world that comes to this end.
+fn step_script(alloc: Global, script: &Script, end: [usize; 8]) -> Result<Answer, Memory> {
+    let mut world = new_world(alloc, script)?;
     let answer = steps_together(&mut world, script.events.as_slice());
-    Ok(if counts(&world) == sample.end {
+    Ok(if counts(&world) == end {
         answer
     } else {
         Answer::Wrong
@@ -166,18 +185,25 @@ fn steps_together(world: &mut World, events: &[Event]) -> Answer {
 /// Events that take no memory, at the end of a sample: those of the module alone, a delivery that adds
 /// nothing to the record, and refused ones.
 pub(crate) fn adding_nothing(alloc: Global) -> Result<Answer, Memory> {
-    let script = script_of(alloc, &LOST_ANSWER)?;
-    let Ok(mut world) = World::run(alloc, script.id, script.first, script.events.as_slice()) else {
-        return Err(Memory);
-    };
-    let is_right = is_quiet(&mut world, &Event::Scan(0))
-        && is_quiet(&mut world, &Event::LineSync)
-        && is_quiet(&mut world, &Event::Raise(1))
-        && hears_a_stale_block(&mut world)
-        && refuses_deliveries(&mut world)
-        && refuses_a_poll(&mut world)
-        && is_quiet(&mut world, &Event::Restart);
-    Ok(Answer::right_if(is_right && counts(&world) == [4, 4, 4, 4, 2, 1, 0, 0]))
+    add_nothing(alloc, &script_of(alloc, &LOST_ANSWER)?)
+}
+
+fn add_nothing(alloc: Global, script: &Script) -> Result<Answer, Memory> {
+    match World::run(alloc, script.id, script.first, script.events.as_slice()) {
+        Ok(mut world) => Ok(Answer::right_if(adds_nothing(&mut world))),
+        Err(_) => Err(Memory),
+    }
+}
+
+fn adds_nothing(world: &mut World) -> bool {
+    is_quiet(world, &Event::Scan(0))
+        && is_quiet(world, &Event::LineSync)
+        && is_quiet(world, &Event::Raise(1))
+        && hears_a_stale_block(world)
+        && refuses_deliveries(world)
+        && refuses_a_poll(world)
+        && is_quiet(world, &Event::Restart)
+        && counts(world) == [4, 4, 4, 4, 2, 1, 0, 0]
 }
 
 fn is_quiet(world: &mut World, event: &Event) -> bool {
@@ -225,10 +251,26 @@ fn counts(world: &World) -> [usize; 8] {
 fn are_alike(one: &World, other: &World) -> bool {
     counts(one) == counts(other)
         && one.poller().items() == other.poller().items()
-        && one.module().filtered() == other.module().filtered()
-        && one.module().watchdog_ms() == other.module().watchdog_ms()
-        && one.module().outputs() == other.module().outputs()
-        && (0..=one.sent_to_module()).all(|index| one.frame_to_module(index)
-            == other.frame_to_module(index))
-        && (0..=one.sent_to_cpu()).all(|index| one.frame_to_cpu(index) == other.frame_to_cpu(index))
+        && are_modules_alike(one.module(), other.module())
+        && are_frames_alike(one, other)
+}
+
+fn are_modules_alike(one: &Module, other: &Module) -> bool {
+    one.filtered() == other.filtered()
+        && one.watchdog_ms() == other.watchdog_ms()
+        && one.outputs() == other.outputs()
+}
+
+fn are_frames_alike(one: &World, other: &World) -> bool {
+    for index in 0..=one.sent_to_module() {
+        if one.frame_to_module(index) != other.frame_to_module(index) {
+            return false;
+        }
+    }
+    for index in 0..=one.sent_to_cpu() {
+        if one.frame_to_cpu(index) != other.frame_to_cpu(index) {
+            return false;
+        }
+    }
+    true
 }

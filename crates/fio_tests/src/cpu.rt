@@ -12,33 +12,76 @@ fn full_block() -> [u8; 773] {
     octets
 }
 
-/// What a new poller hears in an answer, the number that it polls with then, and how many items it has.
-fn heard(alloc: Global, first: u8, octets: &[u8]) -> Option<(Heard, u8, usize)> {
+/// Whether a new poller hears this in octets, polls with this number then and has so many items.
+fn hears(alloc: Global, first: u8, octets: &[u8], answer: Heard, number: u8, items: usize) -> bool {
     let mut poller = Poller::new(alloc, first);
-    let heard = poller.hear(octets).ok()?;
-    Some((heard, poller.number(), poller.items().len()))
+    poller.hear(octets) == Ok(answer) && poller.number() == number && poller.items().len() == items
 }
+
+/// A first number, octets, what a poller hears in them, the number that it polls with then, and how many
+/// items it has.
+type Row = (u8, &'static [u8], Heard, u8, usize);
+
+const ROWS: [Row; 6] = [
+    (
+        5,
+        &[0xb6, 5, 1, 0x8c, 3, 0xe7, 0, 0, 0, 3, 0xe8],
+        Heard::Block {
+            entries: 1,
+            status: 0,
+        },
+        6,
+        1,
+    ),
+    (
+        4,
+        &[0xb6, 5, 1, 0x8c, 3, 0xe7, 0, 0, 0, 3, 0xe8],
+        Heard::Stale { block: 5 },
+        4,
+        0,
+    ),
+    (0, &[0xb3, 0], Heard::Other { code: 179 }, 0, 0),
+    (
+        0,
+        &[0x36, 5],
+        Heard::Unreadable(DecodeError::UnknownType { code: 54 }),
+        0,
+        0,
+    ),
+    // A lost entry is an item too: the gap mark.
+    (
+        0,
+        &[0xb6, 0, 0, 4, 0, 0, 0, 0],
+        Heard::Block {
+            entries: 0,
+            status: 4,
+        },
+        1,
+        1,
+    ),
+    (
+        255,
+        &[0xb6, 255, 0, 0, 0, 0, 0, 0],
+        Heard::Block {
+            entries: 0,
+            status: 0,
+        },
+        0,
+        0,
+    ),
+];
 
 /// Worked examples. The items of a record, and blocks heard again, are in the reports of `tests/scripts`.
 #[test]
 fn hears_octets(rt: HostRuntime) {
-    let full = full_block();
-    let poll = DecodeError::UnknownType { code: 54 };
-    let taken = |entries, status| Heard::Block { entries, status };
-    let one_entry = [0xb6, 5, 1, 0x8c, 3, 0xe7, 0, 0, 0, 3, 0xe8];
-    let cases: [(u8, &[u8], Heard, u8, usize); 7] = [
-        (5, &one_entry, taken(1, 0), 6, 1),
-        (4, &one_entry, Heard::Stale { block: 5 }, 4, 0),
-        (0, &[0xb3, 0], Heard::Other { code: 179 }, 0, 0),
-        (0, &[0x36, 5], Heard::Unreadable(poll), 0, 0),
-        // A lost entry is an item too: the gap mark.
-        (0, &[0xb6, 0, 0, 4, 0, 0, 0, 0], taken(0, 4), 1, 1),
-        (255, &[0xb6, 255, 0, 0, 0, 0, 0, 0], taken(0, 0), 0, 0),
-        (5, &full, taken(255, 8), 6, 255),
-    ];
-    for (first, octets, answer, number, items) in cases {
-        assert!(rt; heard(rt.alloc(), first, octets) == Some((answer, number, items)));
+    for (first, octets, answer, number, items) in ROWS {
+        assert!(rt; hears(rt.alloc(), first, octets, answer, number, items));
     }
+    let answer = Heard::Block {
+        entries: 255,
+        status: 8,
+    };
+    assert!(rt; hears(rt.alloc(), 5, &full_block(), answer, 6, 255));
 }
 
 #[test]

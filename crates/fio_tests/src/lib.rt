@@ -17,6 +17,9 @@ mod message;
 /// The module: the profile's commands and the octets of their answers.
 #[cfg(test)]
 mod module;
+/// How a row of a table fails its test.
+#[cfg(test)]
+mod rows;
 /// The tools over readers and writers: docs/FORMATS.md for the texts, and failing ends.
 #[cfg(test)]
 mod tool;

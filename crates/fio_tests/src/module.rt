@@ -1,6 +1,7 @@
 //! The worked examples of the module's description: calls of a module in turn, with what they return.
 use fio_module::{Limits, Module};
-use std::test::Fail;
+use std::alloc::Global;
+use std::process::Abort;
 
 /// A call of a module.
 enum Call {
@@ -165,21 +166,32 @@ fn holds(module: &mut Module, call: &Call) -> bool {
     }
 }
 
-/// The place of the first call that does not return what it should.
-fn first_wrong(module: &mut Module, calls: &[Call]) -> Option<usize> {
-    calls.iter().position(|call| !holds(module, call))
+/// Fails the test at the first call that does not return what it should.
+fn expect_all(rt: &impl Abort, module: &mut Module, calls: &[Call]) {
+    for (place, call) in calls.iter().enumerate() {
+        assert!(*rt; holds(module, call), "call {place}");
+    }
+}
+
+/// Makes the calls of a new module.
+fn expect_of_new(rt: &impl Abort, alloc: Global, calls: &[Call]) {
+    let mut module = Module::new(alloc, 2).expect(rt, "a module");
+    expect_all(rt, &mut module, calls);
+}
+
+/// Makes the calls of a new module whose blocks have one entry.
+fn expect_of_small(rt: &impl Abort, alloc: Global, calls: &[Call]) {
+    let limits = Limits::new(1, 1024).expect(rt, "in range");
+    let mut module = Module::with_limits(alloc, 2, limits).expect(rt, "a module");
+    expect_all(rt, &mut module, calls);
 }
 
 #[test]
-fn calls_in_turn(rt: HostRuntime) -> Result<(), Fail> {
-    for calls in [COMMANDS.as_slice(), POLLS.as_slice(), RESTART.as_slice()] {
-        let mut module = Module::new(rt.alloc(), 2)?;
-        assert_eq!(rt; first_wrong(&mut module, calls), None);
-    }
-    let limits = Limits::new(1, 1024).ok_or("in range")?;
-    let mut module = Module::with_limits(rt.alloc(), 2, limits)?;
-    assert_eq!(rt; first_wrong(&mut module, &ONE_ENTRY_A_BLOCK), None);
-    Ok(())
+fn calls_in_turn(rt: HostRuntime) {
+    expect_of_new(&rt, rt.alloc(), &COMMANDS);
+    expect_of_new(&rt, rt.alloc(), &POLLS);
+    expect_of_new(&rt, rt.alloc(), &RESTART);
+    expect_of_small(&rt, rt.alloc(), &ONE_ENTRY_A_BLOCK);
 }
 
 #[test]

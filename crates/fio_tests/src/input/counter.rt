@@ -1,4 +1,5 @@
 use fio_input::Counter;
+use std::process::Abort;
 
 /// One call of a counter.
 enum Call {
@@ -19,25 +20,33 @@ fn counted(calls: &[Call]) -> u32 {
     counter.now()
 }
 
+use Call::*;
+
+/// Calls, and the number that they lead to.
+const CASES: [(&[Call], u32); 9] = [
+    (&[], 0),
+    (&[Tick, Tick], 2),
+    // A line sync with nothing asked changes nothing.
+    (&[Tick, LineSync], 1),
+    // A load happens at the line sync, and not when it is asked for.
+    (&[AskLoad(0xffff)], 0),
+    (&[AskLoad(0xffff), AskLoad(5), LineSync], 5),
+    (&[AskLoad(0xffff), AskLoad(5), LineSync, Tick], 6),
+    (&[AskLoad(0xffff), AskLoad(5), LineSync, Tick, LineSync], 6),
+    // The later of two loads asked for counts.
+    (&[AskLoad(5), AskLoad(9), LineSync, Tick], 10),
+    // After the greatest number comes 0.
+    (&[AskLoad(u32::MAX), LineSync, Tick], 0),
+];
+
+/// Fails the test where a number is not the expected one.
+fn expect_number(rt: &impl Abort, number: u32, expected: u32) {
+    assert!(*rt; number == expected, "{number}, and not {expected}");
+}
+
 #[test]
 fn counts_ticks_from_the_latest_load(rt: HostRuntime) {
-    use Call::*;
-    let cases: [(&[Call], u32); 9] = [
-        (&[], 0),
-        (&[Tick, Tick], 2),
-        // A line sync with nothing asked changes nothing.
-        (&[Tick, LineSync], 1),
-        // A load happens at the line sync, and not when it is asked for.
-        (&[AskLoad(0xffff)], 0),
-        (&[AskLoad(0xffff), AskLoad(5), LineSync], 5),
-        (&[AskLoad(0xffff), AskLoad(5), LineSync, Tick], 6),
-        (&[AskLoad(0xffff), AskLoad(5), LineSync, Tick, LineSync], 6),
-        // The later of two loads asked for counts.
-        (&[AskLoad(5), AskLoad(9), LineSync, Tick], 10),
-        // After the greatest number comes 0.
-        (&[AskLoad(u32::MAX), LineSync, Tick], 0),
-    ];
-    for (case, (calls, expected)) in cases.iter().enumerate() {
-        assert_eq!(rt; counted(calls), *expected, "at {case}");
+    for (calls, expected) in CASES {
+        expect_number(&rt, counted(calls), expected);
     }
 }

@@ -12,27 +12,30 @@ fn item(input: u8, leading: u8, trailing: u8) -> Option<InputItem> {
     })
 }
 
-/// Whether each of these samples of input 0 makes a transition, as bits, that of the last sample the lowest.
-fn changes(leading: u8, trailing: u8, samples: &[u64]) -> Option<u64> {
+/// Samples of input 0.
+const SAMPLES: [u64; 11] = [1, 0, 0, 1, 0, 0, 0, 1, 0, 1, 1];
+
+/// Whether each of the samples makes a transition, as bits, that of the last sample the lowest.
+fn changes(filters: &mut Filters) -> u64 {
+    let mut bits = 0;
+    for sample in SAMPLES {
+        bits = bits << 1 | filters.scan(sample);
+    }
+    bits
+}
+
+/// The transitions of an input with these filters.
+fn changes_with(leading: u8, trailing: u8) -> Option<u64> {
     let mut filters = Filters::new();
     filters.configure(&[item(0, leading, trailing)?]).ok()?;
-    let mut bits = 0;
-    for sample in samples {
-        bits = bits << 1 | filters.scan(*sample);
-    }
-    Some(bits)
+    Some(changes(&mut filters))
 }
 
 #[test]
 fn filters_each_edge(rt: HostRuntime) {
-    let samples = [1, 0, 0, 1, 0, 0, 0, 1, 0, 1, 1];
-    for (leading, trailing, bits) in [
-        (3, 2, 0b000_0001_0001),
-        (0, 0, 0b010_1100_1110),
-        (1, 1, 0b010_1100_1110),
-    ] {
-        assert!(rt; changes(leading, trailing, &samples) == Some(bits));
-    }
+    assert!(rt; changes_with(3, 2) == Some(0b000_0001_0001));
+    assert!(rt; changes_with(0, 0) == Some(0b010_1100_1110));
+    assert!(rt; changes_with(1, 1) == Some(0b010_1100_1110));
 }
 
 /// The place of the first of three items that is refused.

@@ -1,4 +1,5 @@
 //! The octets of worked examples, read and written again. What they say is in the texts of `tests/shows`.
+use crate::rows::expect_row;
 use fio_message::*;
 
 const COMMANDS: [&[u8]; 13] = [
@@ -89,22 +90,34 @@ fn is_answer(octets: &[u8], frame: &mut Frame) -> bool {
 }
 
 #[test]
-fn commands_and_answers(rt: HostRuntime) {
+fn commands(rt: HostRuntime) {
     let mut frame = Frame::new();
     for octets in COMMANDS {
-        assert!(rt; is_command(octets, &mut frame), "{octets:?}");
-    }
-    for octets in ANSWERS {
-        assert!(rt; is_answer(octets, &mut frame), "{octets:?}");
+        expect_row(&rt, octets, is_command(octets, &mut frame));
     }
     assert!(rt; is_command(&most_items(), &mut frame));
+}
+
+#[test]
+fn answers(rt: HostRuntime) {
+    let mut frame = Frame::new();
+    for octets in ANSWERS {
+        expect_row(&rt, octets, is_answer(octets, &mut frame));
+    }
     assert!(rt; is_answer(&most_entries(), &mut frame));
 }
 
-/// What a block says beside its entries: its number, how many entries it has, its status and its stamp.
-fn head_of(octets: &[u8]) -> Option<(u8, usize, u8, u32)> {
-    let view = read_block(octets).ok()?;
-    Some((view.block(), view.len(), view.status(), view.stamp()))
+/// Whether octets are a block with this number, so many entries, this status and this stamp.
+fn has_head(octets: &[u8], block: u8, count: usize, status: u8, stamp: u32) -> bool {
+    match read_block(octets) {
+        Ok(view) => {
+            view.block() == block
+                && view.len() == count
+                && view.status() == status
+                && view.stamp() == stamp
+        }
+        Err(_) => false,
+    }
 }
 
 /// The first entry of a block: its input, its state and its stamp.
@@ -116,19 +129,19 @@ fn first_entry(octets: &[u8]) -> Option<(u8, bool, u16)> {
 #[test]
 fn blocks_in_place(rt: HostRuntime) {
     let octets = [0xb6, 5, 1, 0x8c, 3, 0xe7, 0, 0, 0, 3, 0xe8];
-    assert_eq!(rt; head_of(&octets), Some((5, 1, 0, 1000)));
-    assert_eq!(rt; first_entry(&octets), Some((12, true, 999)));
+    assert!(rt; has_head(&octets, 5, 1, 0, 1000));
+    assert!(rt; first_entry(&octets) == Some((12, true, 999)));
     let empty = [0xb6, 5, 0, 0, 0, 0, 3, 0xe8];
-    assert_eq!(rt; head_of(&empty), Some((5, 0, 0, 1000)));
-    assert_eq!(rt; first_entry(&empty), None);
-    assert_eq!(rt; head_of(&most_entries()), Some((5, 255, 8, 255)));
+    assert!(rt; has_head(&empty, 5, 0, 0, 1000));
+    assert!(rt; first_entry(&empty).is_none());
+    assert!(rt; has_head(&most_entries(), 5, 255, 8, 255));
 }
 
 #[test]
 fn no_octets(rt: HostRuntime) {
-    assert_eq!(rt; decode_command(&[]).err(), Some(DecodeError::Empty));
-    assert_eq!(rt; decode_answer(&[]).err(), Some(DecodeError::Empty));
-    assert_eq!(rt; read_block(&[]).err(), Some(DecodeError::Empty));
+    assert!(rt; matches!(decode_command(&[]), Err(DecodeError::Empty)));
+    assert!(rt; matches!(decode_answer(&[]), Err(DecodeError::Empty)));
+    assert!(rt; matches!(read_block(&[]), Err(DecodeError::Empty)));
 }
 
 #[test]
@@ -136,7 +149,7 @@ fn inputs_and_their_octets(rt: HostRuntime) {
     // Inputs 0, 12 and 63.
     let inputs = 1 | 1 << 12 | 1 << 63;
     let octets = [0x01, 0x10, 0, 0, 0, 0, 0, 0x80];
-    assert_eq!(rt; inputs_to_octets(inputs), octets);
-    assert_eq!(rt; inputs_from_octets(&octets), inputs);
+    assert!(rt; inputs_to_octets(inputs) == octets);
+    assert!(rt; inputs_from_octets(&octets) == inputs);
     assert!(rt; InputNumber::new(127).is_some() && InputNumber::new(128).is_none());
 }

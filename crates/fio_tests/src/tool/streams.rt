@@ -4,6 +4,7 @@ use super::ends::{Endless, Feed, Sink};
 use fio_tool::{Ending, Tool, ToolFault, check, show, simulate};
 use std::alloc::Global;
 use std::io::{Read, Write};
+use std::process::Abort;
 
 /// A tool, what it reads, what it writes then, and how it ends.
 type Row = (Tool, &'static [u8], &'static [u8], Ending);
@@ -23,6 +24,12 @@ const ROWS: [Row; 3] = [
     ),
     (Tool::Check, b"> 3605", b"good 1 frames\n", Ending::Good),
 ];
+
+/// Fails the test where its row does not hold, and shows the tool and the number of the call that
+/// fails, 0 where none does.
+fn expect_tool(rt: &impl Abort, tool: Tool, call: usize, holds: bool) {
+    assert!(*rt; holds, "{tool:?}, call {call}");
+}
 
 /// Runs a tool.
 fn run<R: Read, W: Write>(
@@ -53,10 +60,8 @@ fn passes_octets(alloc: Global, tool: Tool, input: &[u8], text: &[u8], expected:
 #[test]
 fn an_octet_a_call(rt: HostRuntime) {
     for (tool, input, text, expected) in ROWS {
-        assert!(rt;
-            passes_octets(rt.alloc(), tool, input, text, expected),
-            "{tool:?}"
-        );
+        let passes = passes_octets(rt.alloc(), tool, input, text, expected);
+        expect_tool(&rt, tool, 0, passes);
     }
 }
 
@@ -75,10 +80,8 @@ fn ends_at_read(alloc: Global, tool: Tool, input: &[u8], failing: usize) -> bool
 fn each_read_may_fail(rt: HostRuntime) {
     for (tool, input, _, _) in ROWS {
         for failing in 1..input.len() + 2 {
-            assert!(rt;
-                ends_at_read(rt.alloc(), tool, input, failing),
-                "{tool:?}, read {failing}"
-            );
+            let ends = ends_at_read(rt.alloc(), tool, input, failing);
+            expect_tool(&rt, tool, failing, ends);
         }
     }
 }
@@ -103,13 +106,9 @@ fn ends_at_write(
 fn each_write_may_fail(rt: HostRuntime) {
     for row in ROWS {
         for failing in 1..row.2.len() + 1 {
-            for takes_none in [false, true] {
-                assert!(rt;
-                    ends_at_write(rt.alloc(), row, failing, takes_none),
-                    "{:?}, write {failing}",
-                    row.0
-                );
-            }
+            let ends = ends_at_write(rt.alloc(), row, failing, false)
+                && ends_at_write(rt.alloc(), row, failing, true);
+            expect_tool(&rt, row.0, failing, ends);
         }
     }
 }
@@ -126,7 +125,7 @@ fn ends_at_flush(alloc: Global, tool: Tool, input: &[u8], text: &[u8]) -> bool {
 #[test]
 fn the_flush_may_fail(rt: HostRuntime) {
     for (tool, input, text, _) in ROWS {
-        assert!(rt; ends_at_flush(rt.alloc(), tool, input, text), "{tool:?}");
+        expect_tool(&rt, tool, 0, ends_at_flush(rt.alloc(), tool, input, text));
     }
 }
 
@@ -142,6 +141,6 @@ fn ends_at_limit(alloc: Global, tool: Tool) -> bool {
 #[test]
 fn endless_inputs_end_at_the_limit(rt: HostRuntime) {
     for (tool, _, _, _) in ROWS {
-        assert!(rt; ends_at_limit(rt.alloc(), tool), "{tool:?}");
+        expect_tool(&rt, tool, 0, ends_at_limit(rt.alloc(), tool));
     }
 }

@@ -2,7 +2,6 @@ use fio_message::DecodeError;
 use fio_world::push_fault;
 use fio_world::text::Hexadecimal;
 use std::alloc::Global;
-use std::test::Fail;
 
 const FAULTS: [(DecodeError, &str); 4] = [
     (DecodeError::Empty, "empty"),
@@ -17,39 +16,58 @@ const FAULTS: [(DecodeError, &str); 4] = [
     ),
 ];
 
+/// Whether a fault is displayed in these words.
+fn is_displayed(alloc: Global, fault: &DecodeError, expected: &str) -> bool {
+    match format!(in alloc; "{fault}") {
+        Ok(words) => words.as_str() == expected,
+        Err(_) => false,
+    }
+}
+
+/// Whether a fault is written in these words below a text.
+fn is_written(text: &mut Vec<u8>, fault: &DecodeError, expected: &[u8]) -> bool {
+    push_fault(text, fault).is_ok() && is_below(text.as_slice(), expected)
+}
+
+/// Whether octets stand below the text and nothing else.
+fn is_below(text: &[u8], expected: &[u8]) -> bool {
+    text.strip_prefix(b"line 3: ") == Some(expected)
+}
+
+/// Whether a fault is written in these words below a text that stays.
+fn is_pushed(alloc: Global, fault: &DecodeError, expected: &[u8]) -> bool {
+    match Vec::from_slice(alloc, b"line 3: ") {
+        Ok(mut text) => is_written(&mut text, fault, expected),
+        Err(_) => false,
+    }
+}
+
 /// Whether a fault has these words, each way that it is written.
-fn has_words(alloc: Global, fault: &DecodeError, expected: &str) -> Result<bool, Fail> {
-    let words = format!(in alloc; "{fault}")?;
-    let mut text = Vec::from_slice(alloc, b"line 3: ")?;
-    push_fault(&mut text, fault)?;
-    let (front, rest) = text.as_slice().split_at(8);
-    Ok(
-        words.as_str() == expected
-            && fault.words().as_str() == expected
-            && front == b"line 3: ".as_slice()
-            && rest == expected.as_bytes(),
-    )
+fn has_words(alloc: Global, fault: &DecodeError, expected: &str) -> bool {
+    fault.words().as_str() == expected
+        && is_displayed(alloc, fault, expected)
+        && is_pushed(alloc, fault, expected.as_bytes())
 }
 
 #[test]
-fn words_of_refusals(rt: HostRuntime) -> Result<(), Fail> {
+fn words_of_refusals(rt: HostRuntime) {
     for (fault, expected) in FAULTS {
-        assert!(rt; has_words(rt.alloc(), &fault, expected)?);
+        assert!(rt; has_words(rt.alloc(), &fault, expected));
     }
-    Ok(())
+}
+
+/// Whether octets are displayed as these digits.
+fn has_digits(alloc: Global, octets: &[u8], expected: &str) -> bool {
+    let digits = Hexadecimal(octets);
+    match format!(in alloc; "{digits}") {
+        Ok(digits) => digits.as_str() == expected,
+        Err(_) => false,
+    }
 }
 
 #[test]
-fn octets_as_digits(rt: HostRuntime) -> Result<(), Fail> {
-    let cases: [(&[u8], &str); 3] = [
-        (b"", ""),
-        (&[0x36, 5], "3605"),
-        (&[0, 0x0f, 0xf0, 0xab, 0xff], "000ff0abff"),
-    ];
-    for (octets, expected) in cases {
-        let digits = Hexadecimal(octets);
-        let digits = format!(in rt.alloc(); "{digits}")?;
-        assert_eq!(rt; digits.as_str(), expected);
-    }
-    Ok(())
+fn octets_as_digits(rt: HostRuntime) {
+    let alloc = rt.alloc();
+    assert!(rt; has_digits(alloc, b"", "") && has_digits(alloc, &[0x36, 5], "3605"));
+    assert!(rt; has_digits(alloc, &[0, 0x0f, 0xf0, 0xab, 0xff], "000ff0abff"));
 }

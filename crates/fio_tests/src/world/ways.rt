@@ -23,30 +23,34 @@ fn at_once(alloc: Global, events: &[Event]) -> Result<World, RunError> {
     World::run(alloc, 2, 255, events)
 }
 
-fn with_limits(alloc: Global, events: &[Event]) -> Option<World> {
-    World::run_with_limits(alloc, 2, 255, Limits::STANDARD, events).ok()
+/// Whether events at once, with the limits written out, lead to this world.
+fn limits_agree(alloc: Global, events: &[Event], world: &World) -> bool {
+    match World::run_with_limits(alloc, 2, 255, Limits::STANDARD, events) {
+        Ok(other) => are_same(world, &other),
+        Err(_) => false,
+    }
 }
 
 /// The first half at once, and then the rest.
-fn in_two_parts(alloc: Global, events: &[Event]) -> Option<World> {
+fn in_two_parts(world: &mut World, events: &[Event]) -> bool {
     let (front, rest) = events.split_at(events.len() / 2);
-    let mut world = World::new(alloc, 2, 255).ok()?;
-    world.step_all(front).ok()?;
-    world.step_all(rest).ok()?;
-    Some(world)
+    world.step_all(front).is_ok() && world.step_all(rest).is_ok()
 }
 
 /// One by one; an event that is refused changes nothing.
-fn one_by_one(alloc: Global, events: &[Event]) -> Option<World> {
-    let mut world = World::with_limits(alloc, 2, 255, Limits::STANDARD).ok()?;
+fn one_by_one(world: &mut World, events: &[Event]) -> bool {
     for event in events {
-        world.step(event).ok()?;
-        let refused = world.step(&Event::ToCpu(usize::MAX)).err();
-        if refused != Some(WorldError::NotSent { index: usize::MAX }) {
-            return None;
+        if world.step(event).is_err() || !refuses(world) {
+            return false;
         }
     }
-    Some(world)
+    true
+}
+
+/// Whether a delivery of a frame that is not sent is refused.
+fn refuses(world: &mut World) -> bool {
+    let fault = WorldError::NotSent { index: usize::MAX };
+    world.step(&Event::ToCpu(usize::MAX)) == Err(fault)
 }
 
 /// Every reading call returns the same for both worlds.
@@ -63,17 +67,35 @@ fn are_same(one: &World, other: &World) -> bool {
         && one.frame_to_cpu(4) == other.frame_to_cpu(4)
 }
 
+/// Whether the other ways lead to the world to which events at once lead.
+fn others_agree(alloc: Global, events: &[Event], world: &World) -> bool {
+    limits_agree(alloc, events, world)
+        && parts_agree(alloc, events, world)
+        && steps_agree(alloc, events, world)
+}
+
+/// Whether events in two parts lead to this world.
+fn parts_agree(alloc: Global, events: &[Event], world: &World) -> bool {
+    match World::new(alloc, 2, 255) {
+        Ok(mut other) => in_two_parts(&mut other, events) && are_same(world, &other),
+        Err(_) => false,
+    }
+}
+
+/// Whether events one by one lead to this world.
+fn steps_agree(alloc: Global, events: &[Event], world: &World) -> bool {
+    match World::with_limits(alloc, 2, 255, Limits::STANDARD) {
+        Ok(mut other) => one_by_one(&mut other, events) && are_same(world, &other),
+        Err(_) => false,
+    }
+}
+
 /// Whether the four ways lead to one world.
 fn ways_agree(alloc: Global, events: &[Event]) -> bool {
-    let Ok(world) = at_once(alloc, events) else {
-        return false;
-    };
-    let others = [
-        with_limits(alloc, events),
-        in_two_parts(alloc, events),
-        one_by_one(alloc, events),
-    ];
-    others.iter().all(|other| other.as_ref().is_some_and(|other| are_same(&world, other)))
+    match at_once(alloc, events) {
+        Ok(world) => others_agree(alloc, events, &world),
+        Err(_) => false,
+    }
 }
 
 #[test]
