@@ -1,6 +1,8 @@
 """The functions of a crate, and those that a wrong body changes."""
 
+import difflib
 import glob
+import itertools
 import os
 import re
 
@@ -62,21 +64,36 @@ def is_of_body(edit):
 
 
 def changed_places(sources, crate, edit):
-    """The file that an edit changes, and from where to where its text differs."""
-    path, text, old = None, None, None
+    """Each stretch of lines that an edit changes: its file, and from where to where it stands."""
+    texts, path, old = {}, None, None
     for line in open(edit, encoding='utf-8'):
         word, _, rest = line.rstrip('\n').partition(':')
         if word == 'file':
             path = os.path.join(TOP, 'crates', crate, rest.strip())
-            text = sources[path]
+            texts.setdefault(path, sources.get(path, ''))
         elif word == 'old':
             old = rest[1:]
         elif word == 'new':
-            text = text.replace(old, rest[1:])
-    before = sources[path]
-    first = len(os.path.commonprefix([before, text]))
-    last = len(os.path.commonprefix([before[first:][::-1], text[first:][::-1]]))
-    return path, first, max(first + 1, len(before) - last)
+            texts[path] = texts[path].replace(old, rest[1:])
+    for path, text in texts.items():
+        before = sources.get(path, '').splitlines(keepends=True)
+        starts = [0] + list(itertools.accumulate(map(len, before)))
+        matched = difflib.SequenceMatcher(None, before, text.splitlines(keepends=True), autojunk=False)
+        for tag, first, last, _, _ in matched.get_opcodes():
+            if tag != 'equal':
+                yield path, starts[first], max(starts[first] + 1, starts[last])
+
+
+def changed_functions(functions, sources, crate, edit):
+    """The functions that an edit changes. Where it changes none of a file, as by a constant at its head, it changes
+    all of them."""
+    changed = set()
+    places = list(changed_places(sources, crate, edit))
+    for path in {path for path, _, _ in places}:
+        of_file = [one for one in functions if one.path == path]
+        changed.update([one for one in of_file for place, first, last in places
+                        if place == path and one.start < last and first < one.end] or of_file)
+    return changed
 
 
 def reached_from(function, functions, sources):
