@@ -142,9 +142,9 @@ fn read_header(octets: &[u8], header: &mut (u8, u8, u8, u32)) -> Result<(), Deco
 }
 
 #[inline(never)]
-fn read_headers(frames: &Both<Frame>, count: u32) -> u32 {
+fn read_headers(frames: &Both<Frame>, count: u32, place: usize) -> u32 {
     let mut header = (0u8, 0u8, 0u8, 0u32);
-    let mut sum = 0u32;
+    let mut sum = (place % 1024) as u32;
     for turn in 0..count {
         if read_header(&frames[(turn % 2) as usize], &mut header).is_err() {
             return sum;

@@ -86,8 +86,8 @@ fn time_blocks(rt: &HostRuntime, place: usize) -> io::Result<()> {
     let empty = [block_frame(7, 0), block_frame(8, 0)];
     let _ = read_blocks(&empty, MANY, place.wrapping_add(1));
     timed!(rt, "read_block", "no entry", MANY, read_blocks(&empty, MANY, place));
-    let _ = read_headers(&empty, MANY);
-    timed!(rt, "read_block", "by a call, no entry read", MANY, read_headers(&empty, MANY));
+    let _ = read_headers(&empty, MANY, place.wrapping_add(1));
+    timed!(rt, "read_block", "by a call, no entry read", MANY, read_headers(&empty, MANY, place));
     let full = [block_frame(7, 255), block_frame(8, 255)];
     let _ = read_blocks(&full, FEW, place.wrapping_add(1));
     timed!(rt, "read_block", "255 entries, each read", FEW, read_blocks(&full, FEW, place));
