@@ -81,10 +81,12 @@ dist deb: all libfio2070.a
 	@packaging/$@ '$(DIST)'
 
 # The library for C: `make library` makes the archive, and a shared library for languages that load one, in OUT.
-# They are installed where they were made. PCPREFIX is the prefix that fio2070.pc names.
+# They are installed where they were made. PCPREFIX is the prefix that fio2070.pc names. RTFLAGS are further words for
+# `rt lib`, as `--jobs 1`.
 
 OUT = .
 PCPREFIX = $(PREFIX)
+RTFLAGS =
 VERSION = $(shell sed -n 's/^## \([0-9][0-9.]*\).*/\1/p' CHANGELOG.md | head -n 1)
 pkgconfig = $(root)/$(LIB)/pkgconfig
 shared = $(wildcard libfio2070.so)
@@ -97,7 +99,7 @@ proved = $(shell find crates/fio_c crates/fio_message crates/fio_input crates/fi
 library: $(OUT)/libfio2070.a $(OUT)/libfio2070.so
 
 $(archive): $(proved)
-	cd crates/fio_c && rt lib
+	cd crates/fio_c && rt lib $(RTFLAGS)
 
 $(OUT)/libfio2070.a: $(archive)
 	mkdir -p $(OUT)
