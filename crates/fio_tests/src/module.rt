@@ -132,13 +132,24 @@ const ONE_ENTRY_A_BLOCK: [Call; 4] = [
     Gets(&[0x36, 1], &[0xb6, 1, 1, 12, 0, 1, 0, 0, 0, 0, 1]),
 ];
 
+/// Whether octets get this answer, and none where nothing stands.
+fn answers(module: &mut Module, octets: &[u8], expected: &[u8]) -> bool {
+    match module.receive(octets) {
+        Some(frame) => frame.as_slice() == expected,
+        None => expected.is_empty(),
+    }
+}
+
+/// Whether each octet of the outputs, data and controls, is this one.
+fn has_outputs(module: &Module, octet: u8) -> bool {
+    let outputs = module.outputs();
+    outputs.levels == [octet; 8] && outputs.controls == [octet; 8]
+}
+
 /// Makes a call, and returns whether it returns what it should.
 fn holds(module: &mut Module, call: &Call) -> bool {
     match call {
-        Gets(octets, expected) => match module.receive(octets) {
-            Some(frame) => frame.as_slice() == *expected,
-            None => expected.is_empty(),
-        },
+        Gets(octets, expected) => answers(module, octets, expected),
         Scan(raw) => {
             module.scan(*raw);
             true
@@ -159,10 +170,7 @@ fn holds(module: &mut Module, call: &Call) -> bool {
         Waiting(count) => module.waiting() == *count,
         Filtered(states) => module.filtered() == *states,
         Watchdog(timeout) => module.watchdog_ms() == *timeout,
-        Outputs(octet) => {
-            let outputs = module.outputs();
-            outputs.levels == [*octet; 8] && outputs.controls == [*octet; 8]
-        }
+        Outputs(octet) => has_outputs(module, *octet),
     }
 }
 
