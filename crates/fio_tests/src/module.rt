@@ -1,4 +1,5 @@
 //! The worked examples of the module's description: calls of a module in turn, with what they return.
+use crate::rows::expect_word;
 use fio_module::{Limits, Module};
 use std::alloc::Global;
 use std::process::Abort;
@@ -202,15 +203,16 @@ fn calls_in_turn(rt: HostRuntime) {
     expect_of_small(&rt, rt.alloc(), &ONE_ENTRY_A_BLOCK);
 }
 
+/// Whether so many entries may be in a block, and so many wait.
+fn are_limits(per_block: u8, waiting: u16) -> bool {
+    Limits::new(per_block, waiting).is_some()
+}
+
 #[test]
 fn limits_have_a_range(rt: HostRuntime) {
-    for (per_block, waiting, in_range) in [
-        (0, 1024, false),
-        (1, 1023, false),
-        (1, 8193, false),
-        (1, 1024, true),
-        (255, 8192, true),
-    ] {
-        assert!(rt; Limits::new(per_block, waiting).is_some() == in_range);
-    }
+    expect_word(&rt, "0, 1024", !are_limits(0, 1024));
+    expect_word(&rt, "1, 1023", !are_limits(1, 1023));
+    expect_word(&rt, "1, 8193", !are_limits(1, 8193));
+    expect_word(&rt, "1, 1024", are_limits(1, 1024));
+    expect_word(&rt, "255, 8192", are_limits(255, 8192));
 }

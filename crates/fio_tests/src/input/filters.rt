@@ -19,8 +19,8 @@ const SAMPLES: [u64; 11] = [1, 0, 0, 1, 0, 0, 0, 1, 0, 1, 1];
 /// Whether each of the samples makes a transition, as bits, that of the last sample the lowest.
 fn changes(filters: &mut Filters) -> u64 {
     let mut bits = 0;
-    for sample in SAMPLES {
-        bits = bits << 1 | filters.scan(sample);
+    for sample in &SAMPLES {
+        bits = bits << 1 | filters.scan(*sample);
     }
     bits
 }

@@ -111,41 +111,28 @@ fn words_of_inputs(rt: HostRuntime) {
     expect_inputs(&rt, &INPUTS);
 }
 
-/// Lines, what they may begin with, and what stands behind it then.
-const BEHIND: [(&[u8], &[u8], Option<&[u8]>); 3] = [
-    (b"to-module 5 6", b"to-module ", Some(b"5 6")),
-    (b"to-module 5 6", b"to-cpu ", None),
-    (b"to", b"to-module ", None),
-];
-
-/// Fails the test at the first row that does not hold.
-fn expect_behind(rt: &impl Abort, rows: &[(&[u8], &[u8], Option<&[u8]>)]) {
-    for (line, prefix, rest) in rows {
-        expect_row(rt, line, after_prefix(line, prefix) == *rest);
-    }
+/// Whether this stands behind the beginning of a line, or the line begins with something else.
+fn is_behind(line: &[u8], prefix: &[u8], rest: Option<&[u8]>) -> bool {
+    after_prefix(line, prefix) == rest
 }
 
 #[test]
 fn lines_behind_words(rt: HostRuntime) {
-    expect_behind(&rt, &BEHIND);
+    let line = b"to-module 5 6";
+    expect_word(&rt, "module", is_behind(line, b"to-module ", Some(b"5 6")));
+    expect_word(&rt, "another", is_behind(line, b"to-cpu ", None));
+    expect_word(&rt, "short", is_behind(b"to", b"to-module ", None));
 }
 
-/// Lines, and what stands before and behind their first blank.
-const PARTS: [(&[u8], Option<(&[u8], &[u8])>); 4] = [
-    (b"5 6 7", Some((b"5", b"6 7"))),
-    (b" 5", Some((b"", b"5"))),
-    (b"5 ", Some((b"5", b""))),
-    (b"56", None),
-];
-
-/// Fails the test at the first line with other parts.
-fn expect_parts(rt: &impl Abort, rows: &[(&[u8], Option<(&[u8], &[u8])>)]) {
-    for (line, parts) in rows {
-        expect_row(rt, line, split_at_blank(line) == *parts);
-    }
+/// Whether these stand before and behind the first blank of a line.
+fn is_split(line: &[u8], front: &[u8], rest: &[u8]) -> bool {
+    split_at_blank(line) == Some((front, rest))
 }
 
 #[test]
 fn parts_of_lines(rt: HostRuntime) {
-    expect_parts(&rt, &PARTS);
+    expect_word(&rt, "5 6 7", is_split(b"5 6 7", b"5", b"6 7"));
+    expect_word(&rt, " 5", is_split(b" 5", b"", b"5"));
+    expect_word(&rt, "5 ", is_split(b"5 ", b"5", b""));
+    expect_word(&rt, "56", split_at_blank(b"56").is_none());
 }
