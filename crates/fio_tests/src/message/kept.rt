@@ -16,7 +16,7 @@ fn is_made(status: BlockStatus, octet: u8) -> bool {
     status.octet() == octet
 }
 
-/// Whether the octets of the answers to a configuration and to a load say what they should.
+/// Whether statuses say what they should of an error, and of a watchdog that had been set before.
 fn say_what_they_should() -> bool {
     says_error(1) && !says_error(2) && says_set_before(3) && !says_set_before(0)
 }

@@ -160,7 +160,7 @@ fn first_entry(octets: &[u8]) -> Option<(u8, bool, u16)> {
     Some((entry.input.get(), entry.level, entry.stamp))
 }
 
-/// Whether the first entry of a block is this one.
+/// Whether the first entry of a block is this one, or it has none where none stands.
 fn has_first(octets: &[u8], entry: Option<(u8, bool, u16)>) -> bool {
     first_entry(octets) == entry
 }
