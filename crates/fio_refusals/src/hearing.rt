@@ -73,13 +73,13 @@ const NOTHING: [(&[u8], Heard); 4] = [
 
 /// A poller that hears them.
 pub(crate) fn nothing(alloc: Global) -> Answer {
-    hear_nothing(&mut Poller::new(alloc, 5))
+    hear_nothing(&mut Poller::new(alloc, 5), &NOTHING)
 }
 
-fn hear_nothing(poller: &mut Poller) -> Answer {
-    for (octets, expected) in NOTHING {
+fn hear_nothing(poller: &mut Poller, rows: &[(&[u8], Heard)]) -> Answer {
+    for (octets, expected) in rows {
         match poller.hear(octets) {
-            Ok(heard) if heard == expected => (),
+            Ok(heard) if heard == *expected => (),
             Err(Memory) => return Answer::refused_if(poller.items().is_empty()),
             Ok(_) => return Answer::Wrong,
         }

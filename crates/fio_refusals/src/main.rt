@@ -15,7 +15,7 @@ mod worlds;
 use answers::Answer;
 use fio_message::Memory;
 use fio_tool::Tool;
-use samples::{LOST_ANSWER, NINE_ROUNDS, ONE_ENTRY};
+use samples::Sample;
 use std::alloc::Global;
 use std::process::ExitCode;
 
@@ -42,18 +42,28 @@ struct Rows<'a> {
 }
 
 impl Rows<'_> {
-    /// Reports how a call answered, or that memory was refused before it was made.
-    fn report(&mut self, name: &str, answer: Result<Answer, Memory>) {
+    /// Reports how a call answered.
+    fn report(&mut self, name: &str, answer: Answer) {
         let is_right = match answer {
-            Ok(Answer::Right) => self.writes(name, "right"),
-            Ok(Answer::Refused(place)) => self.writes_place(name, place),
-            Ok(Answer::Wrong) => {
+            Answer::Right => self.writes(name, "right"),
+            Answer::Refused(place) => self.writes_place(name, place),
+            Answer::Wrong => {
                 self.writes(name, "wrong");
                 false
             }
-            Err(Memory) => self.writes(name, "not begun"),
         };
         self.are_right = self.are_right && is_right;
+    }
+
+    /// Reports how a call answered, or that memory was refused before it was made.
+    fn report_begun(&mut self, name: &str, answer: Result<Answer, Memory>) {
+        match answer {
+            Ok(answer) => self.report(name, answer),
+            Err(Memory) => {
+                let is_written = self.writes(name, "not begun");
+                self.are_right = self.are_right && is_written;
+            }
+        }
     }
 
     /// Writes how a call answered, and returns whether that is done.
@@ -69,96 +79,93 @@ impl Rows<'_> {
 
 /// The calls of the module and of the CPU's end, and command lines.
 fn report_parts(rows: &mut Rows<'_>, alloc: Global) {
-    rows.report("Module::new", Ok(modules::new(alloc)));
-    rows.report("Module::with_limits", Ok(modules::with_limits(alloc)));
-    rows.report("other calls of Module", modules::others(alloc));
-    rows.report("Poller::hear of one entry", Ok(hearing::one_entry(alloc)));
-    rows.report(
-        "Poller::hear of 255 entries",
-        Ok(hearing::most_entries(alloc)),
-    );
-    rows.report("Poller::hear of a gap", Ok(hearing::gap(alloc)));
-    rows.report(
-        "Poller::hear that adds nothing",
-        Ok(hearing::nothing(alloc)),
-    );
-    rows.report("choose of a tool", Ok(command_lines::tool(alloc)));
-    rows.report("choose of another word", Ok(command_lines::other(alloc)));
+    rows.report("Module::new", modules::new(alloc));
+    rows.report("Module::with_limits", modules::with_limits(alloc));
+    rows.report_begun("other calls of Module", modules::others(alloc));
+    rows.report("Poller::hear of one entry", hearing::one_entry(alloc));
+    rows.report("Poller::hear of 255 entries", hearing::most_entries(alloc));
+    rows.report("Poller::hear of a gap", hearing::gap(alloc));
+    rows.report("Poller::hear that adds nothing", hearing::nothing(alloc));
+    rows.report("choose of a tool", command_lines::tool(alloc));
+    rows.report("choose of another word", command_lines::other(alloc));
 }
 
 /// Both ends that are made, and their events one by one.
 fn report_steps(rows: &mut Rows<'_>, alloc: Global) {
-    rows.report("World::new", Ok(worlds::new(alloc)));
-    rows.report("World::with_limits", Ok(worlds::with_limits(alloc)));
-    rows.report("World::step", worlds::step(alloc, &LOST_ANSWER));
-    rows.report(
+    rows.report("World::new", worlds::new(alloc));
+    rows.report("World::with_limits", worlds::with_limits(alloc));
+    rows.report_begun("World::step", worlds::step(alloc, Sample::LostAnswer));
+    rows.report_begun(
         "World::step of nine rounds",
-        worlds::step(alloc, &NINE_ROUNDS),
+        worlds::step(alloc, Sample::NineRounds),
     );
-    rows.report("World::step with limits", worlds::step(alloc, &ONE_ENTRY));
+    rows.report_begun(
+        "World::step with limits",
+        worlds::step(alloc, Sample::OneEntry),
+    );
 }
 
 /// Events together.
 fn report_runs(rows: &mut Rows<'_>, alloc: Global) {
-    rows.report("World::step_all", worlds::step_all(alloc, &LOST_ANSWER));
-    rows.report(
-        "World::step_all of nine rounds",
-        worlds::step_all(alloc, &NINE_ROUNDS),
+    rows.report_begun(
+        "World::step_all",
+        worlds::step_all(alloc, Sample::LostAnswer),
     );
-    rows.report(
+    rows.report_begun(
+        "World::step_all of nine rounds",
+        worlds::step_all(alloc, Sample::NineRounds),
+    );
+    rows.report_begun(
         "World::step that adds nothing",
         worlds::adding_nothing(alloc),
     );
-    rows.report("World::run", worlds::run(alloc, &LOST_ANSWER));
-    rows.report(
+    rows.report_begun("World::run", worlds::run(alloc, Sample::LostAnswer));
+    rows.report_begun(
         "World::run of nine rounds",
-        worlds::run(alloc, &NINE_ROUNDS),
+        worlds::run(alloc, Sample::NineRounds),
     );
-    rows.report(
+    rows.report_begun(
         "World::run_with_limits",
-        worlds::run_with_limits(alloc, &ONE_ENTRY),
+        worlds::run_with_limits(alloc, Sample::OneEntry),
     );
 }
 
 /// Texts that are read and made.
 fn report_texts(rows: &mut Rows<'_>, alloc: Global) {
-    rows.report("push_fault", texts::push_words(alloc));
-    rows.report("read_octets", Ok(texts::octets(alloc)));
-    rows.report("read_script", Ok(texts::script(alloc)));
-    rows.report(
-        "read_script of faulty lines",
-        Ok(texts::faulty_scripts(alloc)),
-    );
+    rows.report_begun("push_fault", texts::push_words(alloc));
+    rows.report("read_octets", texts::octets(alloc));
+    rows.report("read_script", texts::script(alloc));
+    rows.report("read_script of faulty lines", texts::faulty_scripts(alloc));
     rows.report(
         "read_script of a fault below a good line",
-        Ok(texts::script_with_a_fault(alloc)),
+        texts::script_with_a_fault(alloc),
     );
-    rows.report("report", texts::reported(alloc));
-    rows.report("report_text", Ok(texts::reported_text(alloc)));
-    rows.report("read_trace", Ok(texts::transcript(alloc)));
+    rows.report_begun("report", texts::reported(alloc));
+    rows.report("report_text", texts::reported_text(alloc));
+    rows.report("read_trace", texts::transcript(alloc));
     rows.report(
         "read_trace of faulty lines",
-        Ok(texts::faulty_transcripts(alloc)),
+        texts::faulty_transcripts(alloc),
     );
     rows.report(
         "read_trace of a fault below a good line",
-        Ok(texts::transcript_with_a_fault(alloc)),
+        texts::transcript_with_a_fault(alloc),
     );
-    rows.report("check_trace", texts::verdict(alloc));
+    rows.report_begun("check_trace", texts::verdict(alloc));
 }
 
 /// The calls of the tools.
 fn report_tools(rows: &mut Rows<'_>, alloc: Global) {
-    rows.report("show_text", Ok(tools::text(alloc, Tool::Show)));
-    rows.report("simulate_text", Ok(tools::text(alloc, Tool::Simulate)));
-    rows.report("check_text", Ok(tools::text(alloc, Tool::Check)));
-    rows.report("show", tools::streams(alloc, Tool::Show));
-    rows.report("simulate", tools::streams(alloc, Tool::Simulate));
-    rows.report("check", tools::streams(alloc, Tool::Check));
-    rows.report("run_program show", tools::program(alloc, Tool::Show));
-    rows.report(
+    rows.report("show_text", tools::text(alloc, Tool::Show));
+    rows.report("simulate_text", tools::text(alloc, Tool::Simulate));
+    rows.report("check_text", tools::text(alloc, Tool::Check));
+    rows.report_begun("show", tools::streams(alloc, Tool::Show));
+    rows.report_begun("simulate", tools::streams(alloc, Tool::Simulate));
+    rows.report_begun("check", tools::streams(alloc, Tool::Check));
+    rows.report_begun("run_program show", tools::program(alloc, Tool::Show));
+    rows.report_begun(
         "run_program simulate",
         tools::program(alloc, Tool::Simulate),
     );
-    rows.report("run_program check", tools::program(alloc, Tool::Check));
+    rows.report_begun("run_program check", tools::program(alloc, Tool::Check));
 }

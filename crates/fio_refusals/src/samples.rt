@@ -2,35 +2,78 @@
 use fio_message::DecodeError;
 use fio_world::ScriptError;
 
-/// A script, and what can be counted of both ends when it is done.
-#[derive(Drop)]
-pub(crate) struct Sample {
-    pub(crate) script: &'static [u8],
-    /// The frames sent to the module and to the CPU, the numbers delivered last to each, the items of
-    /// the record, the CPU's block number, the module's counter, and the waiting entries.
-    pub(crate) end: [usize; 8],
+/// A script that is run.
+#[derive(Clone, Copy)]
+pub(crate) enum Sample {
+    /// The answer to a poll is lost, the next one comes twice, and the block number goes from 255 to 0.
+    LostAnswer,
+    /// Blocks of one entry.
+    OneEntry,
+    /// Nine rounds, each with a transition, so that the frames and the record grow more than once.
+    NineRounds,
 }
 
-/// The answer to a poll is lost, the next one comes twice, and the block number goes from 255 to 0.
-pub(crate) const LOST_ANSWER: Sample = Sample {
-    script: b"fio2070 script 1 2 255\n\
-        send 3301000101\n\
-        to-module 1\n\
-        scan feffffffffffffff\n\
-        poll\n\
-        to-module 2\n\
-        scan ffffffffffffffff\n\
-        poll\n\
-        to-module 3\n\
-        to-cpu 3\n\
-        to-cpu 3\n\
-        poll\n\
-        to-module 4\n\
-        to-cpu 4\n",
-    end: [4, 4, 4, 4, 2, 1, 2, 0],
-};
+impl Sample {
+    /// The text of the script.
+    pub(crate) fn script(self) -> &'static [u8] {
+        match self {
+            Sample::LostAnswer => LOST_ANSWER,
+            Sample::OneEntry => ONE_ENTRY,
+            Sample::NineRounds => NINE_ROUNDS,
+        }
+    }
 
-/// Its report.
+    /// What can be counted of both ends when it is done: the frames sent to the module and to the CPU, the
+    /// numbers delivered last to each, the items of the record, the CPU's block number, the module's
+    /// counter, and the waiting entries.
+    pub(crate) fn end(self) -> [usize; 8] {
+        match self {
+            Sample::LostAnswer => [4, 4, 4, 4, 2, 1, 2, 0],
+            Sample::OneEntry => [3, 3, 3, 3, 2, 2, 1, 0],
+            Sample::NineRounds => [10, 10, 10, 10, 9, 9, 9, 0],
+        }
+    }
+}
+
+/// The script of that name.
+pub(crate) const LOST_ANSWER: &[u8] = b"fio2070 script 1 2 255\n\
+    send 3301000101\n\
+    to-module 1\n\
+    scan feffffffffffffff\n\
+    poll\n\
+    to-module 2\n\
+    scan ffffffffffffffff\n\
+    poll\n\
+    to-module 3\n\
+    to-cpu 3\n\
+    to-cpu 3\n\
+    poll\n\
+    to-module 4\n\
+    to-cpu 4\n";
+
+const ONE_ENTRY: &[u8] = b"fio2070 script 3 2 0 1 1024\n\
+    send 33020001010c0101\n\
+    to-module 1\n\
+    scan feefffffffffffff\n\
+    poll\n\
+    to-module 2\n\
+    to-cpu 2\n\
+    poll\n\
+    to-module 3\n\
+    to-cpu 3\n";
+
+const NINE_ROUNDS: &[u8] = b"fio2070 script 1 2 0\nsend 3301000101\nto-module 1\n\
+    scan feffffffffffffff\npoll\nto-module 2\nto-cpu 2\n\
+    scan ffffffffffffffff\npoll\nto-module 3\nto-cpu 3\n\
+    scan feffffffffffffff\npoll\nto-module 4\nto-cpu 4\n\
+    scan ffffffffffffffff\npoll\nto-module 5\nto-cpu 5\n\
+    scan feffffffffffffff\npoll\nto-module 6\nto-cpu 6\n\
+    scan ffffffffffffffff\npoll\nto-module 7\nto-cpu 7\n\
+    scan feffffffffffffff\npoll\nto-module 8\nto-cpu 8\n\
+    scan ffffffffffffffff\npoll\nto-module 9\nto-cpu 9\n\
+    scan feffffffffffffff\npoll\nto-module 10\nto-cpu 10\n";
+
+/// The report of `LOST_ANSWER`.
 pub(crate) const LOST_ANSWER_REPORT: &[u8] = b"1 sent 1 3301000101\n\
     2 sent 1 b300\n\
     3 quiet\n\
@@ -50,36 +93,6 @@ pub(crate) const LOST_ANSWER_REPORT: &[u8] = b"1 sent 1 3301000101\n\
     record 2\n\
     input 0 state 0 stamp 1 wide 1\n\
     input 0 state 1 stamp 2 wide 2\n";
-
-/// Blocks of one entry.
-pub(crate) const ONE_ENTRY: Sample = Sample {
-    script: b"fio2070 script 3 2 0 1 1024\n\
-        send 33020001010c0101\n\
-        to-module 1\n\
-        scan feefffffffffffff\n\
-        poll\n\
-        to-module 2\n\
-        to-cpu 2\n\
-        poll\n\
-        to-module 3\n\
-        to-cpu 3\n",
-    end: [3, 3, 3, 3, 2, 2, 1, 0],
-};
-
-/// Nine rounds, each with a transition, so that the frames and the record grow more than once.
-pub(crate) const NINE_ROUNDS: Sample = Sample {
-    script: b"fio2070 script 1 2 0\nsend 3301000101\nto-module 1\n\
-        scan feffffffffffffff\npoll\nto-module 2\nto-cpu 2\n\
-        scan ffffffffffffffff\npoll\nto-module 3\nto-cpu 3\n\
-        scan feffffffffffffff\npoll\nto-module 4\nto-cpu 4\n\
-        scan ffffffffffffffff\npoll\nto-module 5\nto-cpu 5\n\
-        scan feffffffffffffff\npoll\nto-module 6\nto-cpu 6\n\
-        scan ffffffffffffffff\npoll\nto-module 7\nto-cpu 7\n\
-        scan feffffffffffffff\npoll\nto-module 8\nto-cpu 8\n\
-        scan ffffffffffffffff\npoll\nto-module 9\nto-cpu 9\n\
-        scan feffffffffffffff\npoll\nto-module 10\nto-cpu 10\n",
-    end: [10, 10, 10, 10, 9, 9, 9, 0],
-};
 
 /// Captured frames.
 pub(crate) const FRAMES: &[u8] = b"3605\nb605018c03e700000003e8\n";

@@ -6,7 +6,7 @@ use crate::samples::{
 use fio_message::{DecodeError, Memory};
 use fio_tool::{TraceError, Verdict, check_trace, read_trace};
 use fio_world::text::read_octets;
-use fio_world::{Script, ScriptError, push_fault, read_script, report, report_text};
+use fio_world::{Report, Script, ScriptError, push_fault, read_script, report, report_text};
 use std::alloc::Global;
 
 /// The words of a refusal at the end of a text, or the text as it was.
@@ -38,7 +38,7 @@ pub(crate) fn octets(alloc: Global) -> Answer {
 
 /// A script with 13 events.
 pub(crate) fn script(alloc: Global) -> Answer {
-    match read_script(alloc, LOST_ANSWER.script) {
+    match read_script(alloc, LOST_ANSWER) {
         Ok(script) => Answer::right_if(script.events.len() == 13),
         Err(fault) => Answer::refused_if(fault == ScriptError::Memory),
     }
@@ -46,27 +46,28 @@ pub(crate) fn script(alloc: Global) -> Answer {
 
 /// The report of that script.
 pub(crate) fn reported(alloc: Global) -> Result<Answer, Memory> {
-    match read_script(alloc, LOST_ANSWER.script) {
+    match read_script(alloc, LOST_ANSWER) {
         Ok(script) => Ok(reported_of(alloc, &script)),
         Err(_) => Err(Memory),
     }
 }
 
+/// The report is that of the script.
+fn is_of_the_lost_answer(report: &Report) -> bool {
+    report.good && report.text.as_slice() == LOST_ANSWER_REPORT
+}
+
 fn reported_of(alloc: Global, script: &Script) -> Answer {
     match report(alloc, script) {
-        Ok(report) => {
-            Answer::right_if(report.good && report.text.as_slice() == LOST_ANSWER_REPORT)
-        }
+        Ok(report) => Answer::right_if(is_of_the_lost_answer(&report)),
         Err(Memory) => Answer::Refused(0),
     }
 }
 
 /// The same report from the text of the script.
 pub(crate) fn reported_text(alloc: Global) -> Answer {
-    match report_text(alloc, LOST_ANSWER.script) {
-        Ok(report) => {
-            Answer::right_if(report.good && report.text.as_slice() == LOST_ANSWER_REPORT)
-        }
+    match report_text(alloc, LOST_ANSWER) {
+        Ok(report) => Answer::right_if(is_of_the_lost_answer(&report)),
         Err(fault) => Answer::refused_if(fault == ScriptError::Memory),
     }
 }
@@ -90,10 +91,14 @@ pub(crate) fn verdict(alloc: Global) -> Result<Answer, Memory> {
 
 /// Scripts whose first event has a fault. No line above it takes memory, so its fault is the answer.
 pub(crate) fn faulty_scripts(alloc: Global) -> Answer {
-    for (text, fault) in FAULTY_SCRIPTS {
+    have_faults(alloc, &FAULTY_SCRIPTS)
+}
+
+fn have_faults(alloc: Global, rows: &[(&[u8], ScriptError)]) -> Answer {
+    for (text, fault) in rows {
         match read_script(alloc, text) {
             Err(ScriptError::Memory) => return Answer::Refused(0),
-            Err(found) if found == fault => (),
+            Err(found) if found == *fault => (),
             _ => return Answer::Wrong,
         }
     }

@@ -15,7 +15,7 @@ const ROOM: usize = 1000;
 fn sample(tool: Tool) -> (&'static [u8], &'static [u8]) {
     match tool {
         Tool::Show => (FRAMES, SHOWN),
-        Tool::Simulate => (LOST_ANSWER.script, LOST_ANSWER_REPORT),
+        Tool::Simulate => (LOST_ANSWER, LOST_ANSWER_REPORT),
         Tool::Check => (TRANSCRIPT, VERDICT),
     }
 }

@@ -1,6 +1,6 @@
 //! Both ends and the bus.
 use crate::answers::Answer;
-use crate::samples::{LOST_ANSWER, Sample};
+use crate::samples::Sample;
 use fio_cpu::Heard;
 use fio_message::{Command, Memory};
 use fio_module::{Limits, Module};
@@ -28,21 +28,21 @@ fn made(world: Result<World, Memory>) -> Answer {
 }
 
 /// The events of a sample, run at once with the limits of TEES 2009.
-pub(crate) fn run(alloc: Global, sample: &Sample) -> Result<Answer, Memory> {
+pub(crate) fn run(alloc: Global, sample: Sample) -> Result<Answer, Memory> {
     Ok(run_script(alloc, &script_of(alloc, sample)?, sample))
 }
 
-fn run_script(alloc: Global, script: &Script, sample: &Sample) -> Answer {
+fn run_script(alloc: Global, script: &Script, sample: Sample) -> Answer {
     let ran = World::run(alloc, script.id, script.first, script.events.as_slice());
     ended(&ran, script, sample)
 }
 
 /// The events of a sample, run at once with its limits.
-pub(crate) fn run_with_limits(alloc: Global, sample: &Sample) -> Result<Answer, Memory> {
+pub(crate) fn run_with_limits(alloc: Global, sample: Sample) -> Result<Answer, Memory> {
     Ok(run_limited_script(alloc, &script_of(alloc, sample)?, sample))
 }
 
-fn run_limited_script(alloc: Global, script: &Script, sample: &Sample) -> Answer {
+fn run_limited_script(alloc: Global, script: &Script, sample: Sample) -> Answer {
     let ran = World::run_with_limits(
         alloc,
         script.id,
@@ -54,9 +54,9 @@ fn run_limited_script(alloc: Global, script: &Script, sample: &Sample) -> Answer
 }
 
 /// A run comes to the end of its sample, or says after how many events memory was refused.
-fn ended(ran: &Result<World, RunError>, script: &Script, sample: &Sample) -> Answer {
+fn ended(ran: &Result<World, RunError>, script: &Script, sample: Sample) -> Answer {
     match ran {
-        Ok(world) => Answer::right_if(counts(world) == sample.end),
+        Ok(world) => Answer::right_if(counts(world) == sample.end()),
         Err(error) if error.fault == WorldError::Memory && error.place < script.events.len() => {
             Answer::Refused(error.place)
         }
@@ -66,8 +66,8 @@ fn ended(ran: &Result<World, RunError>, script: &Script, sample: &Sample) -> Ans
 
 /// The events of a sample, one after the other, in two worlds. One of them does each event first, and
 /// where memory is refused to it, it is still like the other, and does the same event then.
-pub(crate) fn step(alloc: Global, sample: &Sample) -> Result<Answer, Memory> {
-    step_in_both(alloc, &script_of(alloc, sample)?, sample.end)
+pub(crate) fn step(alloc: Global, sample: Sample) -> Result<Answer, Memory> {
+    step_in_both(alloc, &script_of(alloc, sample)?, sample.end())
 }
 
 /// The events of a script in two worlds, which come to this end.
@@ -153,19 +153,24 @@ fn follows(
 
 /// The events of a sample, together: where memory is refused at one of them, those above it are done, and
 /// the rest is tried again.
-pub(crate) fn step_all(alloc: Global, sample: &Sample) -> Result<Answer, Memory> {
-    step_script(alloc, &script_of(alloc, sample)?, sample.end)
+pub(crate) fn step_all(alloc: Global, sample: Sample) -> Result<Answer, Memory> {
+    step_script(alloc, &script_of(alloc, sample)?, sample.end())
 }
 
 /// The events of a script, together, in a world that comes to this end.
 fn step_script(alloc: Global, script: &Script, end: [usize; 8]) -> Result<Answer, Memory> {
     let mut world = new_world(alloc, script)?;
-    let answer = steps_together(&mut world, script.events.as_slice());
-    Ok(if counts(&world) == end {
+    Ok(step_together_to(&mut world, script.events.as_slice(), end))
+}
+
+/// Events together in a world, which come to this end.
+fn step_together_to(world: &mut World, events: &[Event], end: [usize; 8]) -> Answer {
+    let answer = steps_together(world, events);
+    if counts(world) == end {
         answer
     } else {
         Answer::Wrong
-    })
+    }
 }
 
 /// Events together, with those that are left where memory is refused at one of them.
@@ -185,7 +190,7 @@ fn steps_together(world: &mut World, events: &[Event]) -> Answer {
 /// Events that take no memory, at the end of a sample: those of the module alone, a delivery that adds
 /// nothing to the record, and refused ones.
 pub(crate) fn adding_nothing(alloc: Global) -> Result<Answer, Memory> {
-    add_nothing(alloc, &script_of(alloc, &LOST_ANSWER)?)
+    add_nothing(alloc, &script_of(alloc, Sample::LostAnswer)?)
 }
 
 fn add_nothing(alloc: Global, script: &Script) -> Result<Answer, Memory> {
@@ -229,8 +234,8 @@ fn refuses_a_poll(world: &mut World) -> bool {
 }
 
 /// The script of a sample, as far as there is memory for it.
-fn script_of(alloc: Global, sample: &Sample) -> Result<Script, Memory> {
-    read_script(alloc, sample.script).ok().ok_or(Memory)
+fn script_of(alloc: Global, sample: Sample) -> Result<Script, Memory> {
+    read_script(alloc, sample.script()).ok().ok_or(Memory)
 }
 
 /// What can be counted of a world.

@@ -1,6 +1,8 @@
+use crate::rows::expect_row;
 use fio_cpu::*;
 use fio_message::DecodeError;
 use std::alloc::Global;
+use std::process::Abort;
 
 /// Block 5 with 255 entries, each input 0 to 0 at 0, with C, stamp 0.
 fn full_block() -> [u8; 773] {
@@ -12,17 +14,27 @@ fn full_block() -> [u8; 773] {
     octets
 }
 
-/// Whether a new poller hears this in octets, polls with this number then and has so many items.
-fn hears(alloc: Global, first: u8, octets: &[u8], answer: Heard, number: u8, items: usize) -> bool {
-    let mut poller = Poller::new(alloc, first);
-    poller.hear(octets) == Ok(answer) && poller.number() == number && poller.items().len() == items
-}
-
 /// A first number, octets, what a poller hears in them, the number that it polls with then, and how many
 /// items it has.
-type Row = (u8, &'static [u8], Heard, u8, usize);
+type Row<'a> = (u8, &'a [u8], Heard, u8, usize);
 
-const ROWS: [Row; 6] = [
+/// Whether a poller hears this in octets.
+fn hears(poller: &mut Poller, octets: &[u8], answer: Heard) -> bool {
+    poller.hear(octets) == Ok(answer)
+}
+
+/// Whether a poller polls with this number, and has so many items.
+fn has_come_to(poller: &Poller, number: u8, items: usize) -> bool {
+    poller.number() == number && poller.items().len() == items
+}
+
+/// Whether a row holds of a new poller.
+fn holds(alloc: Global, (first, octets, answer, number, items): Row<'_>) -> bool {
+    let mut poller = Poller::new(alloc, first);
+    hears(&mut poller, octets, answer) && has_come_to(&poller, number, items)
+}
+
+const ROWS: [Row<'static>; 6] = [
     (
         5,
         &[0xb6, 5, 1, 0x8c, 3, 0xe7, 0, 0, 0, 3, 0xe8],
@@ -71,21 +83,34 @@ const ROWS: [Row; 6] = [
     ),
 ];
 
+/// Fails the test at the first row that does not hold.
+fn expect_rows(rt: &impl Abort, alloc: Global, rows: &[Row<'_>]) {
+    for row in rows {
+        expect_row(rt, row.1, holds(alloc, *row));
+    }
+}
+
 /// Worked examples. The items of a record, and blocks heard again, are in the reports of `tests/scripts`.
 #[test]
 fn hears_octets(rt: HostRuntime) {
-    for (first, octets, answer, number, items) in ROWS {
-        assert!(rt; hears(rt.alloc(), first, octets, answer, number, items));
-    }
+    expect_rows(&rt, rt.alloc(), &ROWS);
+}
+
+#[test]
+fn hears_a_full_block(rt: HostRuntime) {
     let answer = Heard::Block {
         entries: 255,
         status: 8,
     };
-    assert!(rt; hears(rt.alloc(), 5, &full_block(), answer, 6, 255));
+    assert!(rt; holds(rt.alloc(), (5, &full_block(), answer, 6, 255)));
+}
+
+/// Whether a new poller with this number polls with these octets.
+fn polls(alloc: Global, number: u8, octets: &[u8]) -> bool {
+    Poller::new(alloc, number).poll().as_slice() == octets
 }
 
 #[test]
 fn polls_with_its_number(rt: HostRuntime) {
-    let poller = Poller::new(rt.alloc(), 5);
-    assert!(rt; poller.poll().as_slice() == [0x36, 5].as_slice());
+    assert!(rt; polls(rt.alloc(), 5, &[0x36, 5]));
 }

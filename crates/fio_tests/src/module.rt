@@ -1,4 +1,5 @@
 //! The worked examples of the module's description: calls of a module in turn, with what they return.
+use crate::rows::expect_word;
 use fio_module::{Limits, Module};
 use std::alloc::Global;
 use std::process::Abort;
@@ -132,13 +133,24 @@ const ONE_ENTRY_A_BLOCK: [Call; 4] = [
     Gets(&[0x36, 1], &[0xb6, 1, 1, 12, 0, 1, 0, 0, 0, 0, 1]),
 ];
 
+/// Whether octets get this answer, and none where nothing stands.
+fn answers(module: &mut Module, octets: &[u8], expected: &[u8]) -> bool {
+    match module.receive(octets) {
+        Some(frame) => frame.as_slice() == expected,
+        None => expected.is_empty(),
+    }
+}
+
+/// Whether each octet of the outputs, data and controls, is this one.
+fn has_outputs(module: &Module, octet: u8) -> bool {
+    let outputs = module.outputs();
+    outputs.levels == [octet; 8] && outputs.controls == [octet; 8]
+}
+
 /// Makes a call, and returns whether it returns what it should.
 fn holds(module: &mut Module, call: &Call) -> bool {
     match call {
-        Gets(octets, expected) => match module.receive(octets) {
-            Some(frame) => frame.as_slice() == *expected,
-            None => expected.is_empty(),
-        },
+        Gets(octets, expected) => answers(module, octets, expected),
         Scan(raw) => {
             module.scan(*raw);
             true
@@ -159,10 +171,7 @@ fn holds(module: &mut Module, call: &Call) -> bool {
         Waiting(count) => module.waiting() == *count,
         Filtered(states) => module.filtered() == *states,
         Watchdog(timeout) => module.watchdog_ms() == *timeout,
-        Outputs(octet) => {
-            let outputs = module.outputs();
-            outputs.levels == [*octet; 8] && outputs.controls == [*octet; 8]
-        }
+        Outputs(octet) => has_outputs(module, *octet),
     }
 }
 
@@ -194,15 +203,16 @@ fn calls_in_turn(rt: HostRuntime) {
     expect_of_small(&rt, rt.alloc(), &ONE_ENTRY_A_BLOCK);
 }
 
+/// Whether so many entries may be in a block, and so many wait.
+fn are_limits(per_block: u8, waiting: u16) -> bool {
+    Limits::new(per_block, waiting).is_some()
+}
+
 #[test]
 fn limits_have_a_range(rt: HostRuntime) {
-    for (per_block, waiting, in_range) in [
-        (0, 1024, false),
-        (1, 1023, false),
-        (1, 8193, false),
-        (1, 1024, true),
-        (255, 8192, true),
-    ] {
-        assert!(rt; Limits::new(per_block, waiting).is_some() == in_range);
-    }
+    expect_word(&rt, "0, 1024", !are_limits(0, 1024));
+    expect_word(&rt, "1, 1023", !are_limits(1, 1023));
+    expect_word(&rt, "1, 8193", !are_limits(1, 8193));
+    expect_word(&rt, "1, 1024", are_limits(1, 1024));
+    expect_word(&rt, "255, 8192", are_limits(255, 8192));
 }

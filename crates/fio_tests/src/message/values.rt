@@ -1,6 +1,8 @@
 //! The octets of worked examples, read and written again. What they say is in the texts of `tests/shows`.
-use crate::rows::expect_row;
+use crate::rows::{expect_row, expect_word};
 use fio_message::*;
+use std::alloc::{AllocError, Global};
+use std::process::Abort;
 
 const COMMANDS: [&[u8]; 13] = [
     &[0x31, 0x80],
@@ -42,80 +44,112 @@ const ANSWERS: [&[u8]; 17] = [
 ];
 
 /// 255 items: each input twice but 127, with all filters.
-fn most_items() -> [u8; 767] {
-    let mut octets = [0; 767];
-    octets[0] = 0x33;
-    octets[1] = 255;
-    for (item, turn) in octets[2..].chunks_exact_mut(3).zip(0..255u8) {
-        item.copy_from_slice(&[turn, turn, 255 - turn]);
+fn most_items(alloc: Global) -> Result<Vec<u8>, AllocError> {
+    let mut octets = Vec::from_slice(alloc, &[0x33, 255])?;
+    for turn in 0..255 {
+        octets.extend_from_slice(&[turn, turn, 255 - turn])?;
     }
-    octets
+    Ok(octets)
 }
 
 /// 255 entries: each input twice but 127, to both states.
-fn most_entries() -> [u8; 773] {
-    let mut octets = [0; 773];
-    octets[0] = 0xb6;
-    octets[1] = 5;
-    octets[2] = 255;
-    octets[768] = 8;
-    octets[772] = 255;
-    for (entry, turn) in octets[3..768].chunks_exact_mut(3).zip(0..255u8) {
-        entry.copy_from_slice(&[turn, 1, turn]);
+fn most_entries(alloc: Global) -> Result<Vec<u8>, AllocError> {
+    let mut octets = Vec::from_slice(alloc, &[0xb6, 5, 255])?;
+    for turn in 0..255 {
+        octets.extend_from_slice(&[turn, 1, turn])?;
     }
-    octets
+    octets.extend_from_slice(&[8, 0, 0, 0, 255])?;
+    Ok(octets)
 }
 
-/// Whether the octets are a command that is written as they are, over another message too.
+/// Whether a command is written as octets, over another message too.
+fn is_written_command(command: &Command, octets: &[u8], frame: &mut Frame) -> bool {
+    write_command(command, frame);
+    frame.as_slice() == octets
+}
+
+/// Whether a command is encoded as octets, and has their code.
+fn is_encoded_command(command: &Command, octets: &[u8]) -> bool {
+    encode_command(command).as_slice() == octets && octets.first() == Some(&command.code())
+}
+
+/// Whether the octets are a command that is written as they are.
 fn is_command(octets: &[u8], frame: &mut Frame) -> bool {
-    let Ok(command) = decode_command(octets) else {
-        return false;
-    };
-    write_command(&command, frame);
-    frame.as_slice() == octets
-        && encode_command(&command).as_slice() == octets
-        && octets.first() == Some(&command.code())
+    match decode_command(octets) {
+        Ok(command) => {
+            is_written_command(&command, octets, frame) && is_encoded_command(&command, octets)
+        }
+        Err(_) => false,
+    }
 }
 
-/// Whether the octets are an answer that is written as they are, over another message too.
-fn is_answer(octets: &[u8], frame: &mut Frame) -> bool {
-    let Ok(answer) = decode_answer(octets) else {
-        return false;
-    };
-    write_answer(&answer, frame);
+/// Whether an answer is written as octets, over another message too.
+fn is_written_answer(answer: &Answer, octets: &[u8], frame: &mut Frame) -> bool {
+    write_answer(answer, frame);
     frame.as_slice() == octets
-        && encode_answer(&answer).as_slice() == octets
-        && octets.first() == Some(&answer.code())
-        && answer_type(octets) == Ok(answer.code())
+}
+
+/// Whether an answer is encoded as octets, and has their code.
+fn is_encoded_answer(answer: &Answer, octets: &[u8]) -> bool {
+    encode_answer(answer).as_slice() == octets && octets.first() == Some(&answer.code())
+}
+
+/// Whether octets begin as an answer with this code.
+fn has_type(octets: &[u8], code: u8) -> bool {
+    answer_type(octets) == Ok(code)
+}
+
+/// Whether the octets are an answer that is written as they are.
+fn is_answer(octets: &[u8], frame: &mut Frame) -> bool {
+    match decode_answer(octets) {
+        Ok(answer) => {
+            is_written_answer(&answer, octets, frame)
+                && is_encoded_answer(&answer, octets)
+                && has_type(octets, answer.code())
+        }
+        Err(_) => false,
+    }
+}
+
+/// Fails the test at the first row that is no command, each written over the one before it.
+fn expect_commands(rt: &impl Abort, frame: &mut Frame, rows: &[&[u8]]) {
+    for octets in rows {
+        expect_row(rt, octets, is_command(octets, frame));
+    }
 }
 
 #[test]
 fn commands(rt: HostRuntime) {
+    let most = most_items(rt.alloc()).expect(&rt, "octets");
     let mut frame = Frame::new();
-    for octets in COMMANDS {
-        expect_row(&rt, octets, is_command(octets, &mut frame));
+    expect_commands(&rt, &mut frame, &COMMANDS);
+    expect_commands(&rt, &mut frame, &[most.as_slice()]);
+}
+
+/// Fails the test at the first row that is no answer, each written over the one before it.
+fn expect_answers(rt: &impl Abort, frame: &mut Frame, rows: &[&[u8]]) {
+    for octets in rows {
+        expect_row(rt, octets, is_answer(octets, frame));
     }
-    assert!(rt; is_command(&most_items(), &mut frame));
 }
 
 #[test]
 fn answers(rt: HostRuntime) {
+    let most = most_entries(rt.alloc()).expect(&rt, "octets");
     let mut frame = Frame::new();
-    for octets in ANSWERS {
-        expect_row(&rt, octets, is_answer(octets, &mut frame));
-    }
-    assert!(rt; is_answer(&most_entries(), &mut frame));
+    expect_answers(&rt, &mut frame, &ANSWERS);
+    expect_answers(&rt, &mut frame, &[most.as_slice()]);
 }
 
-/// Whether octets are a block with this number, so many entries, this status and this stamp.
+/// Whether a block in place has this number, so many entries, this status and this stamp.
+fn is_headed(view: &BlockView<'_>, block: u8, count: usize, status: u8, stamp: u32) -> bool {
+    view.block() == block && view.len() == count && view.status() == status && view.stamp() == stamp
+}
+
+/// Whether octets are a block with this head.
 fn has_head(octets: &[u8], block: u8, count: usize, status: u8, stamp: u32) -> bool {
     match read_block(octets) {
-        Ok(view) => {
-            view.block() == block
-                && view.len() == count
-                && view.status() == status
-                && view.stamp() == stamp
-        }
+        Ok(view) => is_headed(&view, block, count, status, stamp),
         Err(_) => false,
     }
 }
@@ -126,30 +160,61 @@ fn first_entry(octets: &[u8]) -> Option<(u8, bool, u16)> {
     Some((entry.input.get(), entry.level, entry.stamp))
 }
 
+/// Whether the first entry of a block is this one, or it has none where none stands.
+fn has_first(octets: &[u8], entry: Option<(u8, bool, u16)>) -> bool {
+    first_entry(octets) == entry
+}
+
 #[test]
 fn blocks_in_place(rt: HostRuntime) {
-    let octets = [0xb6, 5, 1, 0x8c, 3, 0xe7, 0, 0, 0, 3, 0xe8];
-    assert!(rt; has_head(&octets, 5, 1, 0, 1000));
-    assert!(rt; first_entry(&octets) == Some((12, true, 999)));
+    let one = [0xb6, 5, 1, 0x8c, 3, 0xe7, 0, 0, 0, 3, 0xe8];
+    expect_word(&rt, "head of one", has_head(&one, 5, 1, 0, 1000));
+    expect_word(&rt, "first of one", has_first(&one, Some((12, true, 999))));
     let empty = [0xb6, 5, 0, 0, 0, 0, 3, 0xe8];
-    assert!(rt; has_head(&empty, 5, 0, 0, 1000));
-    assert!(rt; first_entry(&empty).is_none());
-    assert!(rt; has_head(&most_entries(), 5, 255, 8, 255));
+    expect_word(&rt, "head of none", has_head(&empty, 5, 0, 0, 1000));
+    expect_word(&rt, "first of none", has_first(&empty, None));
+}
+
+#[test]
+fn most_entries_in_place(rt: HostRuntime) {
+    let most = most_entries(rt.alloc()).expect(&rt, "octets");
+    assert!(rt; has_head(most.as_slice(), 5, 255, 8, 255));
+}
+
+fn is_empty_command(octets: &[u8]) -> bool {
+    matches!(decode_command(octets), Err(DecodeError::Empty))
+}
+
+fn is_empty_answer(octets: &[u8]) -> bool {
+    matches!(decode_answer(octets), Err(DecodeError::Empty))
+}
+
+fn is_empty_block(octets: &[u8]) -> bool {
+    matches!(read_block(octets), Err(DecodeError::Empty))
 }
 
 #[test]
 fn no_octets(rt: HostRuntime) {
-    assert!(rt; matches!(decode_command(&[]), Err(DecodeError::Empty)));
-    assert!(rt; matches!(decode_answer(&[]), Err(DecodeError::Empty)));
-    assert!(rt; matches!(read_block(&[]), Err(DecodeError::Empty)));
+    expect_word(&rt, "command", is_empty_command(&[]));
+    expect_word(&rt, "answer", is_empty_answer(&[]));
+    expect_word(&rt, "block", is_empty_block(&[]));
+}
+
+/// Inputs 0, 12 and 63.
+const INPUTS: u64 = 0x8000_0000_0000_1001;
+
+/// Whether inputs are spelt by octets, both ways.
+fn are_spelt(inputs: u64, octets: &[u8; 8]) -> bool {
+    inputs_to_octets(inputs) == *octets && inputs_from_octets(octets) == inputs
+}
+
+/// Whether a number is that of an input in a message.
+fn is_input(number: u8) -> bool {
+    InputNumber::new(number).is_some()
 }
 
 #[test]
 fn inputs_and_their_octets(rt: HostRuntime) {
-    // Inputs 0, 12 and 63.
-    let inputs = 1 | 1 << 12 | 1 << 63;
-    let octets = [0x01, 0x10, 0, 0, 0, 0, 0, 0x80];
-    assert!(rt; inputs_to_octets(inputs) == octets);
-    assert!(rt; inputs_from_octets(&octets) == inputs);
-    assert!(rt; InputNumber::new(127).is_some() && InputNumber::new(128).is_none());
+    assert!(rt; are_spelt(INPUTS, &[0x01, 0x10, 0, 0, 0, 0, 0, 0x80]));
+    assert!(rt; is_input(127) && !is_input(128));
 }

@@ -1,4 +1,5 @@
 use super::ends::{Feed, Sink};
+use crate::rows::expect_word;
 use fio_tool::{Tool, choose, run_program};
 use std::alloc::Global;
 use std::process::Abort;
@@ -24,16 +25,16 @@ fn names(alloc: Global, word: &str, tool: Option<Tool>) -> bool {
     }
 }
 
-/// Fails the test where its row does not hold, and shows the word.
-fn expect_word(rt: &impl Abort, word: &str, holds: bool) {
-    assert!(*rt; holds, "{word}");
+/// Fails the test at the first word that names another tool.
+fn expect_tools(rt: &impl Abort, alloc: Global, rows: &[(&str, Option<Tool>)]) {
+    for (word, tool) in rows {
+        expect_word(rt, word, names(alloc, word, *tool));
+    }
 }
 
 #[test]
 fn tools_of_words(rt: HostRuntime) {
-    for (word, tool) in TOOLS {
-        expect_word(&rt, word, names(rt.alloc(), word, tool));
-    }
+    expect_tools(&rt, rt.alloc(), &TOOLS);
 }
 
 #[test]
@@ -51,7 +52,9 @@ fn runs(alloc: Global, words: &[&str], input: &[u8], status: u8, text: &str) -> 
 }
 
 /// A word that names a tool, an input, the status that the program ends with, and what its text begins with.
-const RUNS: [(&str, &[u8], u8, &str); 5] = [
+type Run<'a> = (&'a str, &'a [u8], u8, &'a str);
+
+const RUNS: [Run<'static>; 5] = [
     ("show", b"3605", 0, "poll block 5\n"),
     ("show", b"zz", 1, "line 1: bad line\n"),
     ("simulate", b"", 1, "line 1: bad header\n"),
@@ -59,26 +62,34 @@ const RUNS: [(&str, &[u8], u8, &str); 5] = [
     ("check", b"> 33", 1, "line 1 breaks readable\n"),
 ];
 
-#[test]
-fn statuses_of_the_program(rt: HostRuntime) {
-    for (word, input, status, text) in RUNS {
-        let holds = runs(rt.alloc(), &["fio2070", word], input, status, text);
-        expect_word(&rt, word, holds);
+/// Fails the test at the first row that does not hold.
+fn expect_runs(rt: &impl Abort, alloc: Global, rows: &[Run<'_>]) {
+    for (word, input, status, text) in rows {
+        expect_word(
+            rt,
+            word,
+            runs(alloc, &["fio2070", word], input, *status, text),
+        );
     }
 }
 
-/// Another word, the status that the program ends with, and what its text begins with.
-const OTHERS: [(&str, u8, &str); 4] = [
-    ("other", 2, "error: unrecognized subcommand 'other'"),
-    ("help", 2, "error: unrecognized subcommand 'help'"),
-    ("--help", 0, "Reads the messages"),
-    ("--version", 0, "fio2070 1.0.0\n"),
-];
-
-/// Whether the program, given this word, ends with this status and a text that begins so.
-fn answers(alloc: Global, word: &str, status: u8, text: &str) -> bool {
-    runs(alloc, &["fio2070", word], b"3605", status, text)
+#[test]
+fn statuses_of_the_program(rt: HostRuntime) {
+    expect_runs(&rt, rt.alloc(), &RUNS);
 }
+
+/// The same of words that name no tool.
+const OTHERS: [Run<'static>; 4] = [
+    (
+        "other",
+        b"3605",
+        2,
+        "error: unrecognized subcommand 'other'",
+    ),
+    ("help", b"3605", 2, "error: unrecognized subcommand 'help'"),
+    ("--help", b"3605", 0, "Reads the messages"),
+    ("--version", b"3605", 0, "fio2070 1.0.0\n"),
+];
 
 /// Whether the program, given no word, says so.
 fn says_no_subcommand(alloc: Global) -> bool {
@@ -87,9 +98,7 @@ fn says_no_subcommand(alloc: Global) -> bool {
 
 #[test]
 fn statuses_of_other_words(rt: HostRuntime) {
-    for (word, status, text) in OTHERS {
-        expect_word(&rt, word, answers(rt.alloc(), word, status, text));
-    }
+    expect_runs(&rt, rt.alloc(), &OTHERS);
     assert!(rt; says_no_subcommand(rt.alloc()));
 }
 
@@ -110,12 +119,17 @@ fn reports_write_fault(alloc: Global, words: &[&str]) -> bool {
         && sink.octets.as_slice() == b"fio2070: write fault\n".as_slice()
 }
 
+/// Fails the test where the program, given the word of a tool, does not report either.
+fn expect_faults(rt: &impl Abort, alloc: Global, word: &str) {
+    let words = ["fio2070", word];
+    expect_word(rt, word, reports_read_fault(alloc, &words));
+    expect_word(rt, word, reports_write_fault(alloc, &words));
+}
+
 /// The tools read and write at their first call here.
 #[test]
 fn faults_are_reported(rt: HostRuntime) {
-    for word in ["show", "simulate", "check"] {
-        let words = ["fio2070", word];
-        expect_word(&rt, word, reports_read_fault(rt.alloc(), &words));
-        expect_word(&rt, word, reports_write_fault(rt.alloc(), &words));
-    }
+    expect_faults(&rt, rt.alloc(), "show");
+    expect_faults(&rt, rt.alloc(), "simulate");
+    expect_faults(&rt, rt.alloc(), "check");
 }

@@ -47,22 +47,30 @@ fn run<R: Read, W: Write>(
 
 /// Reads and writes an octet a call: whether the tool ends as expected with the whole text, having asked for
 /// each octet and for the end once.
-fn passes_octets(alloc: Global, tool: Tool, input: &[u8], text: &[u8], expected: Ending) -> bool {
+fn passes_octets(alloc: Global, (tool, input, text, expected): Row) -> bool {
     let mut feed = Feed::new(input, 1);
     let mut sink = Sink::new(alloc, 1);
     run(alloc, tool, &mut feed, &mut sink) == Ok(expected)
         && feed.calls == input.len().saturating_add(1)
-        && sink.octets.as_slice() == text
         && sink.calls == text.len()
-        && sink.flushes == 1
+        && has_whole(&sink, text)
+}
+
+/// Whether a text is written, and flushed once.
+fn has_whole(sink: &Sink, text: &[u8]) -> bool {
+    sink.octets.as_slice() == text && sink.flushes == 1
+}
+
+/// Fails the test at the first row whose octets do not pass.
+fn expect_octets(rt: &impl Abort, alloc: Global, rows: &[Row]) {
+    for row in rows {
+        expect_tool(rt, row.0, 0, passes_octets(alloc, *row));
+    }
 }
 
 #[test]
 fn an_octet_a_call(rt: HostRuntime) {
-    for (tool, input, text, expected) in ROWS {
-        let passes = passes_octets(rt.alloc(), tool, input, text, expected);
-        expect_tool(&rt, tool, 0, passes);
-    }
+    expect_octets(&rt, rt.alloc(), &ROWS);
 }
 
 /// Whether the tool ends at this read, which fails, and writes nothing.
@@ -75,14 +83,18 @@ fn ends_at_read(alloc: Global, tool: Tool, input: &[u8], failing: usize) -> bool
         && sink.calls == 0
 }
 
+/// Fails the test at the first read at which the tool does not end.
+fn expect_reads(rt: &impl Abort, alloc: Global, (tool, input, _, _): Row) {
+    for failing in 1..input.len() + 2 {
+        expect_tool(rt, tool, failing, ends_at_read(alloc, tool, input, failing));
+    }
+}
+
 /// Each error is final, although it is that of an interrupted call.
 #[test]
 fn each_read_may_fail(rt: HostRuntime) {
-    for (tool, input, _, _) in ROWS {
-        for failing in 1..input.len() + 2 {
-            let ends = ends_at_read(rt.alloc(), tool, input, failing);
-            expect_tool(&rt, tool, failing, ends);
-        }
+    for row in &ROWS {
+        expect_reads(&rt, rt.alloc(), *row);
     }
 }
 
@@ -101,31 +113,35 @@ fn ends_at_write(
         && text.get(..failing.saturating_sub(1)) == Some(sink.octets.as_slice())
 }
 
+/// Fails the test at the first write at which the tool does not end.
+fn expect_writes(rt: &impl Abort, alloc: Global, row: Row) {
+    for failing in 1..row.2.len() + 1 {
+        let ends = ends_at_write(alloc, row, failing, false)
+            && ends_at_write(alloc, row, failing, true);
+        expect_tool(rt, row.0, failing, ends);
+    }
+}
+
 /// Each error is final, although it is that of an interrupted call.
 #[test]
 fn each_write_may_fail(rt: HostRuntime) {
-    for row in ROWS {
-        for failing in 1..row.2.len() + 1 {
-            let ends = ends_at_write(rt.alloc(), row, failing, false)
-                && ends_at_write(rt.alloc(), row, failing, true);
-            expect_tool(&rt, row.0, failing, ends);
-        }
+    for row in &ROWS {
+        expect_writes(&rt, rt.alloc(), *row);
     }
 }
 
 /// Whether the tool ends at the flush, which fails, with the whole text written.
-fn ends_at_flush(alloc: Global, tool: Tool, input: &[u8], text: &[u8]) -> bool {
+fn ends_at_flush(alloc: Global, (tool, input, text, _): Row) -> bool {
     let mut sink = Sink::new(alloc, 100);
     sink.is_flush_failing = true;
     run(alloc, tool, &mut Feed::new(input, 100), &mut sink) == Err(ToolFault::Write)
-        && sink.octets.as_slice() == text
-        && sink.flushes == 1
+        && has_whole(&sink, text)
 }
 
 #[test]
 fn the_flush_may_fail(rt: HostRuntime) {
-    for (tool, input, text, _) in ROWS {
-        expect_tool(&rt, tool, 0, ends_at_flush(rt.alloc(), tool, input, text));
+    for row in &ROWS {
+        expect_tool(&rt, row.0, 0, ends_at_flush(rt.alloc(), *row));
     }
 }
 
@@ -140,7 +156,12 @@ fn ends_at_limit(alloc: Global, tool: Tool) -> bool {
 
 #[test]
 fn endless_inputs_end_at_the_limit(rt: HostRuntime) {
-    for (tool, _, _, _) in ROWS {
-        expect_tool(&rt, tool, 0, ends_at_limit(rt.alloc(), tool));
-    }
+    expect_tool(&rt, Tool::Show, 0, ends_at_limit(rt.alloc(), Tool::Show));
+    expect_tool(
+        &rt,
+        Tool::Simulate,
+        0,
+        ends_at_limit(rt.alloc(), Tool::Simulate),
+    );
+    expect_tool(&rt, Tool::Check, 0, ends_at_limit(rt.alloc(), Tool::Check));
 }

@@ -1,3 +1,4 @@
+use crate::rows::expect_word;
 use fio_message::DecodeError;
 use fio_world::push_fault;
 use fio_world::text::Hexadecimal;
@@ -51,8 +52,8 @@ fn has_words(alloc: Global, fault: &DecodeError, expected: &str) -> bool {
 
 #[test]
 fn words_of_refusals(rt: HostRuntime) {
-    for (fault, expected) in FAULTS {
-        assert!(rt; has_words(rt.alloc(), &fault, expected));
+    for (fault, expected) in &FAULTS {
+        expect_word(&rt, expected, has_words(rt.alloc(), fault, expected));
     }
 }
 

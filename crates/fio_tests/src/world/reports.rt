@@ -36,7 +36,7 @@ const REPORTS: [(&[u8], &[u8]); 2] = [
 
 #[test]
 fn scripts_with_reports(rt: HostRuntime) {
-    for (text, expected) in REPORTS {
+    for (text, expected) in &REPORTS {
         expect_row(&rt, text, has_report(rt.alloc(), text, expected));
     }
 }
@@ -62,16 +62,16 @@ const FAULTY: [(&[u8], ScriptError); 4] = [
 ];
 
 /// Whether a text has this fault.
-fn has_fault(alloc: Global, text: &[u8], expected: ScriptError) -> bool {
+fn has_fault(alloc: Global, text: &[u8], expected: &ScriptError) -> bool {
     match report_text(alloc, text) {
         Ok(_) => false,
-        Err(fault) => fault == expected,
+        Err(fault) => fault == *expected,
     }
 }
 
 #[test]
 fn texts_with_no_report(rt: HostRuntime) {
-    for (text, fault) in FAULTY {
+    for (text, fault) in &FAULTY {
         expect_row(&rt, text, has_fault(rt.alloc(), text, fault));
     }
 }
