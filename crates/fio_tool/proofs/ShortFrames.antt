@@ -1,17 +1,10 @@
 -- What is shown of the frequent frames, by their octets.
-use Rattle.std.proofs.Common.{◌≡◌, ℕ, ◌++◌, List, [], ◌∷◌, Result, Ok, Err, OnOk, is_ok, refl, codes, length, take, drop, slice_index_or}
-use Rattle.std.specs.Prelude.{if◌then◌else◌}
+use Rattle.std.proofs.Common.{◌≡◌, ℕ, List, [], ◌∷◌, Ok, refl, codes, length, take, drop, slice_index_or}
 use Rattle.std.specs.Int.{w32, w64, from_be_bytes, from_le_bytes}
 use Rattle.fio_message.specs.Decoding.{message_in}
 use Rattle.fio_tool.specs.Show.{shown_answer, shown_command}
 use Rattle.fio_tool.specs.ShowAnswers.{flags_text, levels_text, status_text}
 use Rattle.fio_tool.specs.ShowCommands.{clearing_text, number_text, outputs_text}
-
--- what an extension has appended where it did not fail
-pub appended : {T E : Type 0} (extended : Result T E) (old line new : List ℕ)
-    → new ≡ (if is_ok extended then old ++ line else old) → OnOk extended (new ≡ old ++ line)
-appended (Ok done) old line new is = is
-appended (Err fault) old line new is = tt
 
 -- ---- commands
 

@@ -5,7 +5,7 @@ ghost use Rattle.fio_tool.specs.ShowAnswers.{levels_text};
 ghost use Rattle.fio_tool.specs.Show.{shown_answer, shown_command, text_at};
 
 use super::answers::{push_flags, push_levels, push_status};
-use super::commands::{push_clearing, push_number, push_outputs};
+use super::commands::{push_clearing, push_number, push_outputs, push_words};
 use fio_message::inputs_from_octets;
 use std::alloc::AllocError;
 
@@ -30,14 +30,14 @@ pub(crate) fn push_short_command(
             let load = u32::from_be_bytes([fields[0], fields[1], fields[2], fields[3]]);
             Some(push_number(text, b"load counter ", load))
         }
-        (52, 0) => Some(text.extend_from_slice(b"raw inputs\n")),
-        (53, 0) => Some(text.extend_from_slice(b"filtered inputs\n")),
+        (52, 0) => Some(push_words(text, b"raw inputs\n")),
+        (53, 0) => Some(push_words(text, b"filtered inputs\n")),
         (55, 16) => {
             let (levels, controls) = fields.split_at(8);
             Some(push_outputs(text, levels, controls))
         }
         (58, 1) => Some(push_number(text, b"watchdog ms ", u32::from(fields[0]))),
-        (60, 0) => Some(text.extend_from_slice(b"identify\n")),
+        (60, 0) => Some(push_words(text, b"identify\n")),
         _ => None,
     }
 }

@@ -1,5 +1,5 @@
-use Rattle.std.proofs.Common.{codes, refl}
-use Rattle.fio_tool.proofs.ShortFrames.{appended, poll_shown, clearing_shown, load_shown, raw_shown, filtered_shown, outputs_shown, watchdog_shown, identify_shown}
+use Rattle.std.proofs.Common.{refl}
+use Rattle.fio_tool.proofs.ShortFrames.{poll_shown, clearing_shown, load_shown, raw_shown, filtered_shown, outputs_shown, watchdog_shown, identify_shown}
 use Rattle.fio_tool.proofs.text.show.short.push_short_command.Goals as goal
 
 pub returns-in-54-eq1-clause-text : goal.returns-in-54-eq1-clause-text
@@ -29,7 +29,7 @@ returns-in-50-eq4-clause-good c = rw (c.in_ok-code.ensures.cases.0, c.in-50-eq4.
 pub returns-in-52-eq0-clause-text : goal.returns-in-52-eq0-clause-text
 returns-in-52-eq0-clause-text c =
     rw (c.in_ok-code.ensures.cases.0, c.in-52-eq0.is-0, raw_shown _ c.in-52-eq0.is-1)
-    (λ number. appended c.extend_from_slice.result c.args.text.now.items (codes "raw inputs\n") _ c.extend_from_slice.ensures.items)
+    (λ number. c.push_words.ensures)
 
 pub returns-in-52-eq0-clause-good : goal.returns-in-52-eq0-clause-good
 returns-in-52-eq0-clause-good c = rw (c.in_ok-code.ensures.cases.0, c.in-52-eq0.is-0, raw_shown _ c.in-52-eq0.is-1) refl
@@ -37,7 +37,7 @@ returns-in-52-eq0-clause-good c = rw (c.in_ok-code.ensures.cases.0, c.in-52-eq0.
 pub returns-in-53-eq0-clause-text : goal.returns-in-53-eq0-clause-text
 returns-in-53-eq0-clause-text c =
     rw (c.in_ok-code.ensures.cases.0, c.in-53-eq0.is-0, filtered_shown _ c.in-53-eq0.is-1)
-    (λ number. appended c.extend_from_slice-in-53-eq0.result c.args.text.now.items (codes "filtered inputs\n") _ c.extend_from_slice-in-53-eq0.ensures.items)
+    (λ number. c.push_words-in-53-eq0.ensures)
 
 pub returns-in-53-eq0-clause-good : goal.returns-in-53-eq0-clause-good
 returns-in-53-eq0-clause-good c = rw (c.in_ok-code.ensures.cases.0, c.in-53-eq0.is-0, filtered_shown _ c.in-53-eq0.is-1) refl
@@ -61,7 +61,7 @@ returns-in-58-eq1-clause-good c = rw (c.in_ok-code.ensures.cases.0, c.in-58-eq1.
 pub returns-in-60-eq0-clause-text : goal.returns-in-60-eq0-clause-text
 returns-in-60-eq0-clause-text c =
     rw (c.in_ok-code.ensures.cases.0, c.in-60-eq0.is-0, identify_shown _ c.in-60-eq0.is-1)
-    (λ number. appended c.extend_from_slice-in-60-eq0.result c.args.text.now.items (codes "identify\n") _ c.extend_from_slice-in-60-eq0.ensures.items)
+    (λ number. c.push_words-in-60-eq0.ensures)
 
 pub returns-in-60-eq0-clause-good : goal.returns-in-60-eq0-clause-good
 returns-in-60-eq0-clause-good c = rw (c.in_ok-code.ensures.cases.0, c.in-60-eq0.is-0, identify_shown _ c.in-60-eq0.is-1) refl
