@@ -66,7 +66,8 @@ pub(crate) fn push_short_answer(text: &mut Vec<u8>, octets: &[u8]) -> Option<Res
     }
 }
 
-/// Appends the line for the levels and the stamp in twelve octets, behind their name.
+/// Appends the line for the levels and the stamp that twelve octets carry, behind their name.
+// Inlined, as it is called for each frame of a capture.
 #[inline(always)]
 fn push_levels_read<const N: usize>(
     text: &mut Vec<u8>,
@@ -75,8 +76,8 @@ fn push_levels_read<const N: usize>(
 ) -> Result<(), AllocError>
     requires named { N ≤ 40 }
     requires whole { length fields.now ≡ 12 }
-    ensures { OnOk result (text.new.items ≡ text.old.items
-        ++ levels_text name.now (from_le_bytes w64 (take 8 fields.now)) (from_be_bytes w32 (drop 8 fields.now))) }
+    ensures { OnOk result (text.new.items ≡ text.old.items ++ levels_text name.now
+        (from_le_bytes w64 (take 8 fields.now)) (from_be_bytes w32 (drop 8 fields.now))) }
 {
     let (inputs, stamp) = fields.split_at(8);
     let inputs = [
