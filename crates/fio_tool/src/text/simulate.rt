@@ -24,13 +24,13 @@ pub fn simulate_text(alloc: Global, input: &[u8]) -> Result<Report, Memory>
     match report_text(alloc, input) {
         Ok(report) => Ok(report),
         Err(ScriptError::Memory) => Err(Memory),
-        Err(fault) => report_fault(alloc, &fault),
+        Err(fault) => report_fault(alloc, fault),
     }
 }
 
 /// The text for a script's first faulty line.
-fn report_fault(alloc: Global, fault: &ScriptError) -> Result<Report, Memory>
-    ensures text { IfOk result (λ report. report.text.items ≡ script_error_text fault.now ++ codes "\n") }
+fn report_fault(alloc: Global, fault: ScriptError) -> Result<Report, Memory>
+    ensures text { IfOk result (λ report. report.text.items ≡ script_error_text fault ++ codes "\n") }
     ensures good { IfOk result (λ report. report.good ≡ false) }
 {
     let text = format!(in alloc; "{fault}\n")?;
