@@ -1,5 +1,5 @@
 -- What a check has found once it has gone through the first lines of a transcript.
-use Rattle.std.proofs.Common.{◌≡◌, ◌<◌, ◌≤◌, ◌∙◌, ℕ, suc, List, Option, Some, None, refl, sym, ap, arith, length}
+use Rattle.std.proofs.Common.{◌≡◌, ◌≤◌, ◌∙◌, ℕ, suc, List, Option, Some, None, refl, sym, ap, arith, length}
 use Rattle.std.specs.Prelude.{option_map, slice_get, unwrap_or}
 use Rattle.std.specs.Option.{option_or}
 use Rattle.fio_tool.specs.Transcript.{TranscriptLine, earliest_above}

@@ -1,17 +1,15 @@
 -- One pass over a text, frame by frame, as the lines that are read of it.
-use Rattle.std.proofs.Common.{◌≡◌, ◌≢◌, ◌<◌, ◌≤◌, ◌∙◌, ℕ, zero, suc, ◌+◌, ◌==◌, Bool, true, false, List, [], ◌∷◌, map, length, drop, Option, Some, None, Result, Ok, Err, refl, sym, ap, arith, subst, add-one, length-drop}
+use Rattle.std.proofs.Common.{◌≡◌, ◌≢◌, ◌<◌, ◌≤◌, ◌∙◌, ℕ, zero, suc, ◌+◌, ◌==◌, Bool, true, false, List, [], ◌∷◌, map, length, drop, Option, Some, None, Result, Ok, Err, refl, sym, ap, arith, add-one, length-drop}
 use Rattle.std.specs.Prelude.{option_map, slice_get, unwrap_or, if◌then◌else◌}
-use Rattle.std.specs.Option.{option_or}
 use Rattle.std.proofs.lemmas.Option.{same_Some}
 use Rattle.std.specs.Result.{result_err}
 use Rattle.fio_world.specs.Collected.{collected, with_first}
 use Rattle.fio_world.specs.Lines.{lines_of, numbered, with_front, is_skipped}
-use Rattle.fio_tool.specs.Transcript.{TranscriptLine, earliest_above, frame_in, line_in, transcript_in}
+use Rattle.fio_tool.specs.Transcript.{TranscriptLine, frame_in, line_in, transcript_in}
 use Rattle.fio_tool.specs.TranscriptFacts.{facts_at, rule_broken_by, said_by_frame, said_on, with_line}
-use Rattle.fio_tool.specs.TranscriptRules.{breach_at, verdict_in, verdict_of, verdict_on}
+use Rattle.fio_tool.specs.TranscriptRules.{verdict_in, verdict_of, verdict_on}
 use Rattle.fio_tool.specs.declared.transcript.facts.Facts.{Facts}
 use Rattle.fio_tool.specs.declared.transcript.lines.TraceError.{TraceError}
-use Rattle.fio_tool.specs.declared.transcript.rules.Rule.{Rule}
 use Rattle.fio_tool.specs.declared.transcript.said.Said.{Said}
 use Rattle.fio_tool.specs.declared.transcript.verdict.Verdict.{Verdict}
 use Rattle.fio_tool.specs.declared.transcript.verdict.Verdict.TheVariants.{Good, Broken}

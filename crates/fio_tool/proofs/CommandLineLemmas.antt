@@ -1,6 +1,7 @@
 use Rattle.std.proofs.lemmas.List.{take_more}
 use Rattle.std.proofs.lemmas.List.Sums.{fold-append}
 use Rattle.std.proofs.Common.{◌≡◌, ◌+◌, ◌<◌, ◌≤◌, arith, length, take, get_or, ◌⊎◌, inl, inr, ℕ, List, [], ◌∷◌, map, Bool, true, false, Option, Some, None, option_map, refl, ap, sym, ◌∙◌, IfSome, cond, Box, Global}
+use Rattle.std.proofs.lemmas.Option.{same_Some}
 use Rattle.std.specs.Prelude.{find, fold, IfNone}
 use Rattle.std.specs.Box.{box_value}
 use Rattle.clap.specs.Walk.{Text, answers_to, stop_after}
@@ -117,3 +118,26 @@ unfolding clap_on_literals
 names_tool first Show = record { faultless = refl; named = refl }
 names_tool first Simulate = record { faultless = refl; named = refl }
 names_tool first Check = record { faultless = refl; named = refl }
+
+-- ---- words name one tool at most
+
+same_name : (tool other : Tool) → name_of tool ≡ name_of other → tool ≡ other
+same_name Show Show same = refl
+same_name Show Simulate same = absurd (cc)
+same_name Show Check same = absurd (cc)
+same_name Simulate Show same = absurd (cc)
+same_name Simulate Simulate same = refl
+same_name Simulate Check same = absurd (cc)
+same_name Check Show same = absurd (cc)
+same_name Check Simulate same = absurd (cc)
+same_name Check Check same = refl
+
+pub only_tool : (words : List Text) (tool other : Tool) → Some (name_of tool) ≡ chosen_name words → NamesTool words other
+    → tool ≡ other
+only_tool words tool other chosen names = same_name tool other (same_Some _ _ (chosen ∙ names.named))
+
+pub some_tool : (words : List Text) (tool : Tool) → Some (name_of tool) ≡ chosen_name words → chosen_name words ≡ None → ⊥
+some_tool words tool chosen none = let is = chosen ∙ none in cc
+
+pub no_tool : (words : List Text) (tool : Tool) → None ≡ chosen_name words → NamesTool words tool → ⊥
+no_tool words tool none names = let is = none ∙ names.named in cc

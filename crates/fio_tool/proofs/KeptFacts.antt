@@ -1,5 +1,5 @@
 -- What is kept of the lines above a place says which rule the line there breaks, and what is kept below it.
-use Rattle.std.proofs.Common.{◌≡◌, ◌<◌, ◌⊎◌, inl, inr, ℕ, suc, ◌+◌, Bool, true, false, Option, Some, None, refl, ap, sym, ◌∙◌, arith, cond}
+use Rattle.std.proofs.Common.{◌≡◌, ◌<◌, ◌⊎◌, inl, inr, ℕ, suc, Bool, true, false, Option, Some, None, refl, ap, sym, ◌∙◌, arith, cond}
 use Rattle.std.specs.Prelude.{List, length, ◌==◌, ◌&&◌, if◌then◌else◌, not, find, is_some, option_map, slice_get}
 use Rattle.std.proofs.lemmas.Bool.{le-ltb}
 use Rattle.fio_message.specs.Answers.{answer_code}

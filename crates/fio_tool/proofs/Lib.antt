@@ -10,3 +10,4 @@ pub mod LongFrames
 pub mod BreachesSoFar
 pub mod CheckedLines
 pub mod FramesShown
+pub mod ShortFrames

@@ -5,7 +5,7 @@ ghost use Rattle.clap.specs.Kinds.{FailsBy};
 ghost use Rattle.clap.specs.Matches.{subcommand_name_of};
 ghost use Rattle.clap.specs.Simple.{app_of, new_shape, shape_of};
 ghost use Rattle.clap.specs.declared.builder.command.Command.TheViews.{out-Command as fields_of};
-ghost use Rattle.fio_tool.specs.CommandLine.{chosen_name, command_line, name_of};
+ghost use Rattle.fio_tool.specs.CommandLine.{chosen_name, command_line, name_of, program};
 ghost use Rattle.fio_tool.specs.declared.tools.Tool.{Tool};
 
 use crate::help;
@@ -55,16 +55,23 @@ fn tool_met(matches: &ArgMatches<'_>) -> Option<Tool>
 fn command_line<'a>(alloc: Global) -> Result<Command<'a>, AllocError>
     ensures { IfOk result (λ command. app_of command ≡ command_line) }
 {
-    let mut command = Command::new(alloc, "fio2070")
-        .about(ABOUT)
-        .override_usage(USAGE)
-        .after_help(help::PROGRAM)
-        .version(VERSION)
-        .disable_help_subcommand(true);
+    let mut command = program(alloc);
     'tools: for tool in Tool::ALL {
         command = command.subcommand(subcommand(alloc, tool))?;
     }
     Ok(command)
+}
+
+/// The command line without its subcommands.
+fn program<'a>(alloc: Global) -> Command<'a>
+    ensures { app_of result ≡ program }
+{
+    Command::new(alloc, "fio2070")
+        .about(ABOUT)
+        .override_usage(USAGE)
+        .after_help(help::PROGRAM)
+        .version(VERSION)
+        .disable_help_subcommand(true)
 }
 
 /// The subcommand of a tool, which has no words of its own.

@@ -10,7 +10,7 @@ mod short;
 
 use super::{is_too_long, report_too_long};
 use answers::{push_answer, push_block_view};
-use commands::push_command;
+use commands::{push_command, push_words};
 use fio_message::{DecodeError, FRAME_OCTETS, Memory, decode_answer, decode_command, read_block};
 use fio_world::text::{numbered_lines, read_octets_to};
 use fio_world::{Report, push_line};
@@ -168,7 +168,7 @@ fn push_fault(text: &mut Vec<u8>, number: usize, fault: &str) -> Result<bool, Me
     ensures good { IfOk result (λ good. good ≡ false) }
 {
     push_line!(text; b"line " {number as u64} b": ")?;
-    text.extend_from_slice(fault.as_bytes())?;
-    text.extend_from_slice(b"\n")?;
+    push_words(text, fault.as_bytes())?;
+    push_words(text, b"\n")?;
     Ok(false)
 }

@@ -16,14 +16,23 @@ pub(crate) fn push_command(text: &mut Vec<u8>, command: &Command) -> Result<(), 
         Command::Status { clear } => push_clearing(text, *clear),
         Command::LoadCounter { load } => push_number(text, b"load counter ", *load),
         Command::ConfigureInputs { items } => push_configuration(text, items),
-        Command::RawInputs => text.extend_from_slice(b"raw inputs\n"),
-        Command::FilteredInputs => text.extend_from_slice(b"filtered inputs\n"),
+        Command::RawInputs => push_words(text, b"raw inputs\n"),
+        Command::FilteredInputs => push_words(text, b"filtered inputs\n"),
         Command::Poll { block } => push_number(text, b"poll block ", u32::from(*block)),
         Command::SetOutputs { levels, controls } => push_outputs(text, levels, controls),
         Command::Watchdog { timeout } => push_number(text, b"watchdog ms ", u32::from(*timeout)),
-        Command::Identify => text.extend_from_slice(b"identify\n"),
+        Command::Identify => push_words(text, b"identify\n"),
         Command::Other { kind, body } => push_other(text, kind.code(), body),
     }
+}
+
+/// Appends words as they are.
+// Inlined, so that their length is known where it is called.
+#[inline(always)]
+pub(crate) fn push_words(text: &mut Vec<u8>, words: &[u8]) -> Result<(), AllocError>
+    ensures { OnOk result (text.new.items ≡ text.old.items ++ words.now) }
+{
+    text.extend_from_slice(words)
 }
 
 /// Appends the line for a message that has one number, behind its name of at most 40 octets.
@@ -84,11 +93,11 @@ pub(crate) fn push_outputs(
     ensures { OnOk result (text.new.items
         ≡ text.old.items ++ outputs_text levels.now controls.now) }
 {
-    text.extend_from_slice(b"set outputs data ")?;
+    push_words(text, b"set outputs data ")?;
     push_hexadecimal(text, levels)?;
-    text.extend_from_slice(b" control ")?;
+    push_words(text, b" control ")?;
     push_hexadecimal(text, controls)?;
-    text.extend_from_slice(b"\n")
+    push_words(text, b"\n")
 }
 
 /// Appends the line for a message that is not read further than its type.
@@ -98,7 +107,7 @@ pub(crate) fn push_other(text: &mut Vec<u8>, code: u8, body: &[u8]) -> Result<()
 {
     push_line!(text; b"other " {code} b" body ")?;
     push_body(text, body)?;
-    text.extend_from_slice(b"\n")
+    push_words(text, b"\n")
 }
 
 /// Appends the octets of a body, or a dash where it has none.
@@ -106,7 +115,7 @@ fn push_body(text: &mut Vec<u8>, body: &[u8]) -> Result<(), AllocError>
     ensures { OnOk result (text.new.items ≡ text.old.items ++ body_text body.now) }
 {
     match body {
-        [] => text.extend_from_slice(b"-"),
+        [] => push_words(text, b"-"),
         _ => push_hexadecimal(text, body),
     }
 }
