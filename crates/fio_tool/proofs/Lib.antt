@@ -10,4 +10,3 @@ pub mod LongFrames
 pub mod BreachesSoFar
 pub mod CheckedLines
 pub mod FramesShown
-pub mod ShortFrames
