@@ -32,6 +32,13 @@ with_first-pushed : {A E : Type 0} (values : List A) (value : A) (more : Result 
 with_first-pushed values value (Ok more) = ap Ok (sym (append_assoc values (value ∷ []) more))
 with_first-pushed values value (Err e) = refl
 
+-- with no value in front, and all that is read left, it is what all lines give
+with_first-start : {L A E : Type 0} (read : ℕ → List L → Result (List A) E) (most count : ℕ) (values : List A) (left lines : List L)
+    → values ≡ [] → count ≡ 0 → left ≡ lines → with_first values (read (most - count) left) ≡ read most lines
+with_first-start read most count values left lines none zeroth all =
+    let nothing_less : most - count ≡ most = omega (arith, zeroth) in
+    rw (none, nothing_less, all) (with_first-none (read most lines))
+
 -- what is read in all, where these events stand above the lines
 abbrev pub read_on : List Event → ℕ → Bool → List (ℕ × List ℕ) → Result (List Event) ScriptError
 read_on events count restarts lines = with_first events (collected (readings (MAX_EVENTS - count) restarts lines))
@@ -40,7 +47,8 @@ read_on events count restarts lines = with_first events (collected (readings (MA
 pub read_on-start : (events : List Event) (count : ℕ) (restarts : Bool) (left lines : List (ℕ × List ℕ))
     → events ≡ [] → count ≡ 0 → left ≡ lines
     → read_on events count restarts left ≡ collected (readings MAX_EVENTS restarts lines)
-read_on-start events count restarts left lines none zeroth all = rw (none, zeroth, all) (with_first-none (collected (readings MAX_EVENTS restarts lines)))
+read_on-start events count restarts left lines none zeroth all =
+    with_first-start (λ most lines. collected (readings most restarts lines)) MAX_EVENTS count events left lines none zeroth all
 
 readings-end : (most : ℕ) (restarts : Bool) → readings most restarts [] ≡ []
 readings-end zero restarts = refl
