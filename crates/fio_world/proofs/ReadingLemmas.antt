@@ -19,7 +19,7 @@ use Rattle.fio_world.specs.declared.script.events.TheConstants.{MAX_EVENTS}
 use Rattle.fio_world.specs.declared.script.header.Header.{Header}
 use Rattle.fio_world.specs.declared.script.steps.Form.{Form}
 use Rattle.fio_world.specs.declared.script.ScriptError.{ScriptError}
-use Rattle.fio_world.specs.declared.script.ScriptError.TheVariants.{BadLine, Memory}
+use Rattle.fio_world.specs.declared.script.ScriptError.TheVariants.{BadLine, Memory, TooManyEvents}
 
 -- no value in front of what comes changes nothing
 with_first-none : {A E : Type 0} (more : Result (List A) E) → with_first [] more ≡ more
@@ -32,15 +32,24 @@ with_first-pushed : {A E : Type 0} (values : List A) (value : A) (more : Result 
 with_first-pushed values value (Ok more) = ap Ok (sym (append_assoc values (value ∷ []) more))
 with_first-pushed values value (Err e) = refl
 
+-- with no value in front, and all that is read left, it is what all lines give
+with_first-start : {L A E : Type 0} (read : ℕ → List L → Result (List A) E) (most count : ℕ) (values : List A) (left lines : List L)
+    → values ≡ [] → count ≡ 0 → left ≡ lines → with_first values (read (most - count) left) ≡ read most lines
+with_first-start read most count values left lines none zeroth all =
+    let nothing_less : most - count ≡ most = omega (arith, zeroth) in
+    rw (none, nothing_less, all) (with_first-none (read most lines))
+
 -- what is read in all, where these events stand above the lines
-abbrev pub read_on : List Event → ℕ → Bool → List (ℕ × List ℕ) → Result (List Event) ScriptError
+unfoldable pub read_on : List Event → ℕ → Bool → List (ℕ × List ℕ) → Result (List Event) ScriptError
 read_on events count restarts lines = with_first events (collected (readings (MAX_EVENTS - count) restarts lines))
 
 -- with no event above, it is what all lines give
 pub read_on-start : (events : List Event) (count : ℕ) (restarts : Bool) (left lines : List (ℕ × List ℕ))
     → events ≡ [] → count ≡ 0 → left ≡ lines
     → read_on events count restarts left ≡ collected (readings MAX_EVENTS restarts lines)
-read_on-start events count restarts left lines none zeroth all = rw (none, zeroth, all) (with_first-none (collected (readings MAX_EVENTS restarts lines)))
+unfolding read_on
+read_on-start events count restarts left lines none zeroth all =
+    with_first-start (λ most lines. collected (readings most restarts lines)) MAX_EVENTS count events left lines none zeroth all
 
 readings-end : (most : ℕ) (restarts : Bool) → readings most restarts [] ≡ []
 readings-end zero restarts = refl
@@ -48,6 +57,7 @@ readings-end (suc most) restarts = refl
 
 -- with no line left, it is the events above
 pub read_on-end : (events : List Event) (count : ℕ) (restarts : Bool) → read_on events count restarts [] ≡ Ok events
+unfolding read_on
 read_on-end events count restarts = rw (readings-end (MAX_EVENTS - count) restarts) (ap Ok (append-nil events))
 
 readings-first : (count : ℕ) (restarts : Bool) (line : ℕ × List ℕ) (lines : List (ℕ × List ℕ)) → count < MAX_EVENTS
@@ -59,6 +69,7 @@ readings-first count restarts line lines few =
 pub read_on-event : (events : List Event) (count : ℕ) (restarts : Bool) (line : ℕ × List ℕ) (lines : List (ℕ × List ℕ)) (event : Event)
     → count < MAX_EVENTS → event_at restarts line ≡ Ok event
     → read_on events count restarts (line ∷ lines) ≡ read_on (events ++ event ∷ []) (count + 1) restarts lines
+unfolding read_on
 read_on-event events count restarts line lines event few gives =
     rw (readings-first count restarts line lines few, gives) (with_first-pushed events event _)
 
@@ -66,8 +77,18 @@ read_on-event events count restarts line lines event few gives =
 pub read_on-fault : (events : List Event) (count : ℕ) (restarts : Bool) (left : List (ℕ × List ℕ)) (line : ℕ × List ℕ) (lines : List (ℕ × List ℕ)) (fault : ScriptError)
     → left ≡ line ∷ lines → count < MAX_EVENTS → event_at restarts line ≡ Err fault
     → read_on events count restarts left ≡ Err fault
+unfolding read_on
 read_on-fault events count restarts left line lines fault first few gives =
     rw (first, readings-first count restarts line lines few, gives) refl
+
+-- a line below as many events as a script may have ends it
+pub read_on-full : (events : List Event) (count : ℕ) (restarts : Bool) (left : List (ℕ × List ℕ)) (line : ℕ × List ℕ) (lines : List (ℕ × List ℕ))
+    → left ≡ line ∷ lines → count ≡ MAX_EVENTS
+    → read_on events count restarts left ≡ Err (TooManyEvents line.0)
+unfolding read_on
+read_on-full events count restarts left line lines first full =
+    let none_more : MAX_EVENTS - count ≡ 0 = omega (arith, full) in
+    rw (first, none_more) refl
 
 -- the event of a line is the same at another number
 sent_at : (number other : ℕ) (decoded : Result Command DecodeError) (event : Event)

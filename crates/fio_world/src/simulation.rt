@@ -82,9 +82,29 @@ fn report_run<T: Happens>(
     ensures good { IfOk result (λ report. report.good
         ≡ (report_of (scenario_with id first limits (map T.event happenings.now))).good) }
 {
-    let mut world = World::with_limits(alloc, id, first, limits)?;
+    match World::with_limits(alloc, id, first, limits) {
+        Ok(mut world) => report_on(alloc, &mut world, happenings),
+        Err(Memory) => Err(Memory),
+    }
+}
+
+/// The report of what happens to a world.
+// Inlined, so that the world stays a local of the run.
+#[inline(always)]
+fn report_on<T: Happens>(
+    alloc: Global,
+    world: &mut World,
+    happenings: &[T],
+) -> Result<Report, Memory>
+    ensures text { (settings : Settings) (first : ℕ) (machine : Machine)
+        → Shows settings first machine world.old → IfOk result (λ report. report.text.items
+        ≡ (report_from settings first 1 machine (map T.event happenings.now)).text) }
+    ensures good { (settings : Settings) (first : ℕ) (machine : Machine)
+        → Shows settings first machine world.old → IfOk result (λ report. report.good
+        ≡ (report_from settings first 1 machine (map T.event happenings.now)).good) }
+{
     let mut text = Vec::new(alloc);
-    let good = push_run(&mut text, &mut world, happenings)?;
+    let good = push_run(&mut text, world, happenings)?;
     Ok(Report { text, good })
 }
 

@@ -22,5 +22,6 @@ pub use words::{
     split_at_blank,
 };
 pub use writing::{
-    append_line, line_end, push_hexadecimal, put, put_decimal, put_hexadecimal, put_octet,
+    append_line, line_end, push_hexadecimal, put, put_decimal, put_hexadecimal, put_number,
+    put_octet,
 };

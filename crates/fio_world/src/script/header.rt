@@ -37,9 +37,10 @@ fn read_standard(words: &[u8], restarts: bool) -> Option<Header>
     ensures { result ≡ standard_header restarts words.now }
 {
     let (id, first) = split_at_blank(words)?;
+    let (id, first) = read_small_number(id).zip(read_small_number(first))?;
     Some(Header {
-        id: read_small_number(id)?,
-        first: read_small_number(first)?,
+        id,
+        first,
         limits: Limits::STANDARD,
         restarts,
     })
@@ -51,10 +52,12 @@ fn read_limited(words: &[u8]) -> Option<Header>
 {
     let (id, words) = split_at_blank(words)?;
     let (first, limits) = split_at_blank(words)?;
+    let (id, first) = read_small_number(id).zip(read_small_number(first))?;
+    let limits = read_limits(limits)?;
     Some(Header {
-        id: read_small_number(id)?,
-        first: read_small_number(first)?,
-        limits: read_limits(limits)?,
+        id,
+        first,
+        limits,
         restarts: true,
     })
 }
@@ -64,7 +67,6 @@ fn read_limits(words: &[u8]) -> Option<Limits>
     ensures { result ≡ limits_in words.now }
 {
     let (per_block, waiting) = split_at_blank(words)?;
-    let per_block = u8::try_from(read_number(per_block)?).ok()?;
-    let waiting = u16::try_from(read_number(waiting)?).ok()?;
-    Limits::new(per_block, waiting)
+    let (per_block, waiting) = read_small_number(per_block).zip(read_number(waiting))?;
+    Limits::new(per_block, u16::try_from(waiting).ok()?)
 }

@@ -32,6 +32,14 @@ macro_rules! put_pieces {
         let end = $crate::put_pieces!($line, $end; $($pieces)*);
         $crate::text::put(&mut $line, end, $octets)
     }};
+    ($line:expr, $end:expr; {$number:expr} $octets:literal $($pieces:tt)*) => {{
+        let end = $crate::put_pieces!($line, $end; $($pieces)*);
+        $crate::text::put_number(&mut $line, end, u64::from($number), $octets)
+    }};
+    ($line:expr, $end:expr; {$number:expr} ($octets:expr) $($pieces:tt)*) => {{
+        let end = $crate::put_pieces!($line, $end; $($pieces)*);
+        $crate::text::put_number(&mut $line, end, u64::from($number), $octets)
+    }};
     ($line:expr, $end:expr; {$number:expr} $($pieces:tt)*) => {{
         let end = $crate::put_pieces!($line, $end; $($pieces)*);
         $crate::text::put_decimal(&mut $line, end, u64::from($number))
@@ -94,6 +102,24 @@ pub fn put_decimal(line: &mut [u8; 128], end: usize, number: u64) -> usize
     ensures kept { (at : ℕ) → end ≤ at → drop at line.new ≡ drop at line.old }
 {
     itoa::write_digits(number, line, end)
+}
+
+/// Puts a number in decimal digits and, behind it, octets, as `put_decimal` and `put` put them.
+// Inlined, so that the places and lengths of the pieces of a line are known when it is compiled.
+#[inline(always)]
+pub fn put_number<const N: usize>(
+    line: &mut [u8; 128],
+    end: usize,
+    number: u64,
+    octets: &[u8; N],
+) -> usize
+    requires { (20 + N ≤ end) × (end ≤ 128) }
+    ensures start { (result + N ≤ end) × (end ≤ result + (20 + N)) }
+    ensures put { drop result line.new ≡ decimal number ++ (octets.now ++ drop end line.old) }
+    ensures kept { (at : ℕ) → end ≤ at → drop at line.new ≡ drop at line.old }
+{
+    let digits_end = put(line, end, octets);
+    put_decimal(line, digits_end, number)
 }
 
 /// Puts an octet in two hexadecimal digits of lower case, as `put` puts octets.

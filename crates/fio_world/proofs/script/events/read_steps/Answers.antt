@@ -1,7 +1,7 @@
-use Rattle.std.proofs.Common.{◌<◌, sym, subst, ◌∙◌, vec_len, rules, arith}
+use Rattle.std.proofs.Common.{◌≡◌, ◌<◌, sym, subst, ◌∙◌, vec_len, rules, arith}
 use Rattle.std.proofs.lemmas.List.{length_push}
 use Rattle.std.proofs.lemmas.Result.{err_from_is_err_and}
-use Rattle.fio_world.proofs.ReadingLemmas.{read_on-start, read_on-end, read_on-event, read_on-fault, HaveRead-start, HaveRead-event, good_front, no_memory, more_than_none, is_read_as}
+use Rattle.fio_world.proofs.ReadingLemmas.{read_on-start, read_on-end, read_on-event, read_on-fault, read_on-full, HaveRead-start, HaveRead-event, good_front, no_memory, more_than_none, is_read_as}
 use Rattle.fio_world.specs.EventLines.{IsReadAs}
 use Rattle.fio_world.specs.Lines.{lines_of}
 use Rattle.fio_world.specs.declared.script.events.TheConstants.{MAX_EVENTS}
@@ -31,6 +31,11 @@ lines-preserved c =
           subst (IsReadAs c.args.restarts c.in-Some.line.now) (sym c.step.view_is)
           (is_read_as c.args.restarts c.in-Some.number c.in-Some.line.now c.in_ok-step.step gives);
     }
+
+pub returns-then-len-eq-MAX_EVENTS-clause-err : goal.returns-then-len-eq-MAX_EVENTS-clause-err
+returns-then-len-eq-MAX_EVENTS-clause-err c other =
+    let full : vec_len c.lines.steps ≡ MAX_EVENTS = search rules in
+    sym c.lines.invariant.events ∙ read_on-full _ _ _ _ _ _ c.in-Some.ensures.steps full
 
 pub returns-in_err-step-clause-err : goal.returns-in_err-step-clause-err
 returns-in_err-step-clause-err c =

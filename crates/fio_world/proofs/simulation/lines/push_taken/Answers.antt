@@ -3,10 +3,8 @@ use Rattle.fio_world.proofs.simulation.lines.push_taken.Goals as goal
 pub returns : goal.returns
 returns c =
     rw (
-      c.put_decimal-start.ensures.put,
-      c.put-end-3.ensures.put,
-      c.put_decimal-end.ensures.put,
-      c.put-end-2.ensures.put,
+      c.put_number-start.ensures.put,
+      c.put_number-end.ensures.put,
       c.put_octet-end.ensures.put,
       c.put-end.ensures.put,
       c.line_end-end.ensures.empty,
