@@ -98,8 +98,9 @@ proved = $(shell find crates/fio_c crates/fio_message crates/fio_input crates/fi
 
 library: $(OUT)/libfio2070.a $(OUT)/libfio2070.so
 
+# Each library before those that use it: asked for the last alone, `rt lib` reads all of them once more.
 $(archive): $(proved)
-	cd crates/fio_c && rt lib $(RTFLAGS)
+	set -e; for crate in message input cpu module c; do (cd crates/fio_$$crate && rt lib $(RTFLAGS)); done
 
 $(OUT)/libfio2070.a: $(archive)
 	mkdir -p $(OUT)
