@@ -4,6 +4,7 @@ pub mod DigitLemmas
 pub mod OctetLemmas
 pub mod FrameWords
 pub mod RoomLemmas
+pub mod EndingLemmas
 pub mod Places
 pub mod SentMessages
 pub mod RoundNumbers

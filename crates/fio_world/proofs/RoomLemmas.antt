@@ -1,5 +1,5 @@
 -- Octets that are put into room before others.
-use Rattle.std.proofs.Common.{◌≡◌, ℕ, ◌+◌, ◌-◌, ◌≤◌, List, ◌++◌, length, drop, sym, ap, ◌∙◌, arith}
+use Rattle.std.proofs.Common.{◌≡◌, ℕ, ◌+◌, ◌-◌, ◌≤◌, List, ◌++◌, length, drop, sym, ap, ◌∙◌, arith, length-append, length-drop}
 use Rattle.std.proofs.Math.Seq.{drop-append-add}
 use Rattle.std.proofs.lemmas.List.{drop-drop}
 
@@ -12,3 +12,9 @@ kept old new octets start end at put starts past =
     sym (ap (λ n. drop n new) behind) ∙ sym (drop-drop (length octets + (at - end)) start new)
     ∙ ap (λ l. drop (length octets + (at - end)) l) put ∙ drop-append-add octets (drop end old) (at - end)
     ∙ drop-drop (at - end) end old ∙ ap (λ n. drop n old) over
+
+-- where octets start that stand with so many behind them at the end of a line
+pub start-of : (line octets rest : List ℕ) (start : ℕ) → drop start line ≡ octets ++ rest → start ≤ length line
+    → start + length octets + length rest ≡ length line
+start-of line octets rest start is within =
+    omega (arith, within, ap length is, length-append octets rest, length-drop start line)

@@ -1,35 +1,44 @@
 //! The lines of entries.
-ghost use Rattle.std.specs.Prelude.{◌≡◌, ◌≤◌, ◌++◌, drop, OnOk};
+ghost use Rattle.std.specs.Prelude.{◌≡◌, ◌+◌, ◌≤◌, ◌++◌, take, drop, OnOk, codes, decimal};
+ghost use Rattle.fio_message.specs.Bits.{bit_of};
 ghost use Rattle.fio_world.specs.EntryLines.{entry_line, scan_ending};
 
-use super::writing::{append_line, line_end};
+use super::writing::{append_part, put};
 use crate::put_pieces;
 use fio_message::Entry;
 use std::alloc::AllocError;
 use std::marker::Model;
 
+/// Where the ending of a line starts, behind room for what stands before it.
+const ENDING: usize = 64;
+
+/// Room for an ending, which has at most 29 octets.
+const ENDING_ROOM: usize = 32;
+
 /// Room for the line of an entry. The entries of one scan have one stamp and one wide time, so the
-/// end of a line, ` stamp S wide W` and its line feed, stays for the next entry of the same scan.
+/// ending of a line, ` stamp S wide W` and its line feed, stays for the next entry of the same scan.
+/// It starts at a known place, and what is put before it ends there.
 #[derive(Debug, Drop)]
 pub struct EntryLines {
     line: [u8; 128],
+    /// How many octets the ending has.
     ending: usize,
     stamp: u16,
     wide: u32,
 }
 
 impl Model for EntryLines {
-    ghost use Rattle.std.specs.Prelude.{◌≡◌, ◌≤◌, drop};
+    ghost use Rattle.std.specs.Prelude.{◌≡◌, ◌≤◌, take, drop};
     ghost use Rattle.fio_world.specs.EntryLines.{scan_ending};
+    ghost use Rattle.fio_world.specs.declared.text.entry_lines.TheConstants.{ENDING, ENDING_ROOM};
 
     // Contracts see nothing of the room.
     ghost Value = { Unit {0} };
 
     ghost view = { λ v. tt };
 
-    // The line ends with the stamp and the wide time, behind room for what stands before them.
-    ghost invariant = { λ v. (drop v.ending v.line ≡ scan_ending v.stamp v.wide)
-        × (64 ≤ v.ending) × (v.ending ≤ 128) };
+    ghost invariant = { λ v. (take v.ending (drop ENDING v.line) ≡ scan_ending v.stamp v.wide)
+        × (v.ending ≤ ENDING_ROOM) };
 }
 
 impl EntryLines {
@@ -68,19 +77,39 @@ impl EntryLines {
             self.stamp = entry.stamp;
             self.wide = wide;
         }
-        let start = put_pieces!(
-            self.line, self.ending;
-            (margin) b"input " {entry.input.get()} b" state " {entry.level}
-        );
-        append_line(text, &self.line, start)
+        let start = put_front(&mut self.line, margin, entry);
+        append_part(text, &self.line, start, ENDING - start + self.ending)
     }
 }
 
-/// Puts a stamp and a wide time at the end of a line, and returns where they start.
-fn put_ending(line: &mut [u8; 128], stamp: u16, wide: u32) -> usize
-    ensures start { (64 ≤ result) × (result ≤ 128) }
-    ensures put { drop result line.new ≡ scan_ending stamp wide }
+/// Puts a margin of at most 8 octets and `input I state L`, at most 25 octets together, before the
+/// ending of a line, and returns where they start.
+// Inlined, so that the length of the margin is known when it is compiled.
+#[inline(always)]
+fn put_front<const N: usize>(line: &mut [u8; 128], margin: &[u8; N], entry: Entry) -> usize
+    requires { N ≤ 8 }
+    ensures start { (result ≤ ENDING) × (ENDING ≤ result + 25) }
+    ensures put { drop result line.new ≡ margin.now ++ (codes "input " ++ (decimal entry.input
+        ++ (codes " state " ++ (decimal (bit_of entry.level) ++ drop ENDING line.old)))) }
+    ensures kept { drop ENDING line.new ≡ drop ENDING line.old }
 {
-    let end = line_end(line);
-    put_pieces!(*line, end; b" stamp " {stamp} b" wide " {wide} b"\n")
+    put_pieces!(
+        *line, ENDING;
+        (margin) b"input " {entry.input.get()} b" state " {entry.level}
+    )
+}
+
+/// Puts the ending of a line with this stamp and wide time in its place, and returns how many octets
+/// it has.
+fn put_ending(line: &mut [u8; 128], stamp: u16, wide: u32) -> usize
+    ensures length { result ≤ ENDING_ROOM }
+    ensures put { take result (drop ENDING line.new) ≡ scan_ending stamp wide }
+{
+    let end = ENDING + ENDING_ROOM;
+    let start = put_pieces!(*line, end; b" stamp " {stamp} b" wide " {wide} b"\n");
+    // All the room is moved, since a known number of octets is moved without a call.
+    let mut moved = [0; ENDING_ROOM];
+    moved.copy_from_slice(&line[start..start + ENDING_ROOM]);
+    put(line, end, &moved);
+    end - start
 }

@@ -1,7 +1,7 @@
 //! Lines, written in pieces. A line is put together in room on the stack from its last piece to its
 //! first, since a number is written from its last digit to its first, and is appended to a text at
 //! once. `push_line!` and `put_pieces!` take the pieces in the order in which they are read.
-ghost use Rattle.std.specs.Prelude.{◌≡◌, ◌+◌, ◌*◌, ◌≤◌, ◌++◌, ℕ, [], length, drop, decimal, OnOk};
+ghost use Rattle.std.specs.Prelude.{◌≡◌, ◌+◌, ◌*◌, ◌≤◌, ◌++◌, ℕ, [], length, take, drop, decimal, OnOk};
 ghost use Rattle.fio_world.specs.Hexadecimal.{digits_of, octet_digits};
 
 use std::alloc::AllocError;
@@ -158,6 +158,26 @@ pub fn append_line(text: &mut Vec<u8>, line: &[u8; 128], start: usize) -> Result
     ensures { OnOk result (text.new.items ≡ text.old.items ++ drop start line.now) }
 {
     text.extend_from_slice(&line[start..])
+}
+
+/// Appends part of a line: so many octets, at most 64, from this place of its room on.
+// Inlined, so that the places and lengths of the pieces of a line are known when it is compiled. 64
+// octets are copied, since a known number is copied without a call, and those behind the part are cut
+// off again.
+#[inline(always)]
+pub(crate) fn append_part(
+    text: &mut Vec<u8>,
+    line: &[u8; 128],
+    start: usize,
+    count: usize,
+) -> Result<(), AllocError>
+    requires { (start ≤ 64) × (count ≤ 64) }
+    ensures { OnOk result (text.new.items ≡ text.old.items ++ take count (drop start line.now)) }
+{
+    let before = text.len();
+    text.extend_from_slice(&line[start..start + 64])?;
+    text.truncate(before + count);
+    Ok(())
 }
 
 /// Appends octets in hexadecimal digits of lower case, two for each.

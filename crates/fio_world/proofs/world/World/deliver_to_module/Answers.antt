@@ -1,7 +1,7 @@
 use Rattle.std.proofs.Common.{◌≡◌, ◌∷◌, ◌++◌, [], ◌∙◌, ap, sym, refl, subst, None, length}
 use Rattle.std.proofs.lemmas.List.{append-nil}
 use Rattle.std.proofs.lemmas.Result.{err_from_is_err_and}
-use Rattle.fio_module.specs.Replies.{reply_to, Encodes}
+use Rattle.fio_module.specs.Replies.{reply_to}
 use Rattle.fio_world.specs.declared.event.Event.TheVariants as events
 use Rattle.fio_world.specs.Done.{outcome_in}
 use Rattle.fio_world.specs.declared.world.done.Done.TheVariants.{ToCpu}
