@@ -37,6 +37,7 @@ impl Model for EntryLines {
 
     ghost view = { λ v. tt };
 
+    // The stamp and the wide time stand in the place of the ending.
     ghost invariant = { λ v. (take v.ending (drop ENDING v.line) ≡ scan_ending v.stamp v.wide)
         × (v.ending ≤ ENDING_ROOM) };
 }
