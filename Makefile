@@ -50,6 +50,8 @@ uninstall:
 libraries = $(wildcard libfio2070.a)
 headers = $(wildcard include/*.h include/*.hpp)
 tools = $(wildcard tools/*)
+# The copy beside the Python packages needs no version: they alone load it.
+python_library = $(wildcard libfio2070.so)
 
 .PHONY: install-more uninstall-more
 
@@ -65,6 +67,11 @@ endif
 ifneq ($(tools),)
 	install -d '$(root)/$(TOOLS)'
 	cp -R tools '$(root)/$(TOOLS)'
+	install -d '$(bin)' '$(root)/$(TOOLS)/python/fio2070' '$(root)/$(TOOLS)/python/fiolog'
+	install -m 644 bindings/python/fio2070/*.py '$(root)/$(TOOLS)/python/fio2070'
+	install -m 644 bindings/python/fiolog/*.py bindings/python/fiolog/forms.json '$(root)/$(TOOLS)/python/fiolog'
+	$(if $(python_library),install -m 644 $(python_library) '$(root)/$(TOOLS)/python/fio2070')
+	ln -sf '../$(TOOLS)/tools/fiolog' '$(bin)/fiolog'
 	@echo 'The Wireshark dissector is installed. To enable it:'
 	@echo "    mkdir -p ~/.local/lib/wireshark/plugins"
 	@echo "    ln -sf '$(PREFIX)/$(TOOLS)/tools/wireshark/fio2070.lua' ~/.local/lib/wireshark/plugins/"
@@ -73,7 +80,8 @@ endif
 uninstall-more:
 	rm -f $(foreach file,$(notdir $(libraries)),'$(root)/$(LIB)/$(file)')
 	rm -f $(foreach file,$(notdir $(headers)),'$(root)/include/$(file)')
-	rm -rf '$(root)/$(TOOLS)/tools'
+	rm -f '$(bin)/fiolog'
+	rm -rf '$(root)/$(TOOLS)/tools' '$(root)/$(TOOLS)/python'
 
 # The archive and the Debian package, with the library for C: the same files give the same octets each time.
 
@@ -91,27 +99,53 @@ VERSION = $(shell sed -n 's/^## \([0-9][0-9.]*\).*/\1/p' CHANGELOG.md | head -n 
 pkgconfig = $(root)/$(LIB)/pkgconfig
 shared = $(wildcard libfio2070.so)
 archive = crates/fio_c/out/libfio_c.a
-proved = $(shell find crates/fio_c crates/fio_message crates/fio_input crates/fio_module crates/fio_cpu \
+crates := $(shell ./build --order fio_c)
+proved := $(shell find $(addprefix crates/,$(crates)) \
     -name out -prune -o -type f \( -name '*.rt' -o -name '*.antt' \) -print)
 
 .PHONY: library install-library uninstall-library
 
-library: $(OUT)/libfio2070.a $(OUT)/libfio2070.so
+library: $(OUT)/libfio2070.a $(OUT)/libfio2070.so $(OUT)/fio2070-test
 
 # Each library before those that use it: asked for the last alone, `rt lib` reads all of them once more.
 $(archive): $(proved)
-	set -e; for crate in message input cpu module c; do (cd crates/fio_$$crate && rt lib $(RTFLAGS)); done
+	set -e; for crate in $(crates); do (cd crates/$$crate && rt lib $(RTFLAGS)); done
 
 $(OUT)/libfio2070.a: $(archive)
 	mkdir -p $(OUT)
 	cp $(archive) $@
 
-# The shared library has the tester too.
-tester = $(wildcard examples/c/conformance*.c)
+# The same sources, proved for other targets of the kit: `make wasm` makes the library as a WebAssembly module, without
+# imports, with a memory of 64 bits, for the portable library and for the page.
 
-$(OUT)/libfio2070.so: $(OUT)/libfio2070.a $(tester)
-	$(CC) -O2 -fPIC -I include -shared -Wl,-soname,libfio2070.so $(tester) \
+kit = $(patsubst %/,%,$(dir $(shell rt doc)))
+wasm = wasm64-unknown-unknown
+module = crates/fio_c/out/$(wasm)/fio_c.wasm
+
+.PHONY: wasm
+
+wasm: $(module)
+
+crates/fio_c/out/%/libfio_c.a: $(archive) packaging/for-target
+	packaging/for-target $* $(RTFLAGS)
+
+# Its stack is 64 KB, of which no call takes more than a sixth.
+$(module): crates/fio_c/out/$(wasm)/libfio_c.a
+	'$(kit)/bin/rattle-link' --target $(wasm) --toolchain '$(kit)/toolchain' --stack 65536 -o $@ $<
+
+# The shared library has the tester too.
+tester = $(wildcard tools/conformance/conformance*.c)
+exports = tools/conformance/exports.map
+
+$(OUT)/libfio2070.so: $(OUT)/libfio2070.a $(tester) $(exports)
+	$(CC) -O2 -fPIC -I include -shared -Wl,-soname,libfio2070.so -Wl,--version-script=$(exports) $(tester) \
 	    -Wl,--whole-archive $< -Wl,--no-whole-archive -o $@
+
+# The tester as a command, of modules that are asked over a wire (tools/conformance/README.md).
+command = $(wildcard fio2070-test)
+
+$(OUT)/fio2070-test: $(OUT)/libfio2070.a $(tester) tools/conformance/fio2070_test.c
+	$(CC) -O2 -I include $(tester) tools/conformance/fio2070_test.c $< -o $@
 
 install: install-library
 uninstall: uninstall-library
@@ -125,6 +159,28 @@ endif
 ifneq ($(shared),)
 	install -m 644 $(shared) '$(root)/$(LIB)'
 endif
+ifneq ($(command),)
+	install -m 755 $(command) '$(bin)'
+endif
 
 uninstall-library:
-	rm -f '$(pkgconfig)/fio2070.pc' '$(root)/$(LIB)/libfio2070.so'
+	rm -f '$(pkgconfig)/fio2070.pc' '$(root)/$(LIB)/libfio2070.so' '$(bin)/fio2070-test'
+
+# The page: one file that a browser opens offline, with the library in it (tools/page/README.md). Where `wasm-opt` of the
+# package binaryen is there, it also lowers the library to memory of 32 bits, for browsers that have no other.
+
+page = fio2070.html
+lowered = $(if $(shell command -v wasm-opt),crates/fio_c/out/$(wasm)/lowered.wasm)
+page_sources = $(wildcard tools/page/join tools/page/*.html tools/page/*/*.* examples/*.* examples/captures/*) \
+    bindings/python/fiolog/forms.json
+
+.PHONY: page
+
+page: $(page)
+
+crates/fio_c/out/$(wasm)/lowered.wasm: $(module)
+	wasm-opt --enable-memory64 --enable-bulk-memory --enable-mutable-globals --enable-sign-ext \
+	    --memory64-lowering -O2 $< -o $@
+
+$(page): $(module) $(lowered) $(page_sources)
+	tools/page/join $(module) $@ $(addprefix --lowered ,$(lowered))

@@ -1,8 +1,8 @@
 /* Messages between the CPU of a Model 2070 controller and its field I/O module, and both ends of the link.
  *
  * The code behind these calls is proved: each does what its description says for all octets, all
- * lengths and all contents of its structs. docs/C-LIBRARY.md says what that covers. The library
- * allocates nothing, keeps no static data, starts no thread, and calls memcpy, memmove and memset
+ * lengths and all contents of its structs. docs/C-LIBRARY.md says what that covers. These calls
+ * allocate nothing, keep no static data, start no thread, and call memcpy, memmove and memset
  * alone. It needs an x86-64 processor with SSE4.1.
  *
  * What the caller owes, and nothing checks:
@@ -11,7 +11,8 @@
  *  - During a call no one else writes what an argument points to, and no one else reads what an
  *    argument without const points to. Such an argument overlaps no other.
  *  - The structs filters, counter and module are written by the calls of this header alone, _start
- *    first. Before _start they may hold any octets. They may be copied and moved by memcpy.
+ *    first. Before _start they may hold any octets; _start sets each of them. They may be copied and
+ *    moved by memcpy.
  *
  * Sources: TEES 2009 is Caltrans TEES 2009. "Own profile" is a choice of this project where TEES
  * leaves one: 64 inputs, 64 outputs, and what docs/PROTOCOL.md marks so.
@@ -28,6 +29,12 @@
 #ifdef __cplusplus
 extern "C" {
 #endif
+
+/* The version of this header: 10,000 for each major version, 100 for each minor one, 1 for each patch. */
+#define FIO2070_VERSION 10000
+
+/* Returns that number of the library that is linked. */
+uint32_t fio2070_version(void);
 
 enum {
     FIO2070_LONGEST_FRAME = 773,     /* octets of a frame (own profile) */
@@ -86,7 +93,8 @@ struct fio2070_fault {
 };
 
 /* Writes the words of a fault as `fio2070 show` does, such as "wrong length needed 14 got 11", at
- * most 65 octets, with no line end and no zero octet after them. No fault has no words: 0. */
+ * most 65 octets, with no line end and no zero octet after them. They are those of its kind, with
+ * the numbers that the kind has; FIO2070_NO_FAULT and what is no kind have no words: 0. */
 size_t fio2070_fault_text(const struct fio2070_fault *fault, uint8_t *out, size_t room);
 
 /* ---- Reading block answers in place (TEES 2009, answer 182) ---- */
@@ -269,7 +277,7 @@ struct fio2070_heard fio2070_poller_hear(struct fio2070_poller *poller, const ui
 /* The millisecond counter. Its fields are the library's own. */
 struct fio2070_counter {
     uint32_t value, load;
-    uint8_t is_asked;
+    uint8_t is_asked, reserved[3];
 };
 
 /* At 0 (own profile), with no load asked for. */
@@ -327,12 +335,12 @@ struct fio2070_outputs {
 /* A module of which 1,024 entries may wait. The fields are the library's own. */
 struct fio2070_module {
     struct {
-        uint8_t id, per_block, flags, watchdog, pushed_out;
-        struct fio2070_outputs outputs;
+        uint8_t id, per_block, flags, watchdog, pushed_out, reserved[7];
         struct fio2070_counter counter;
+        struct fio2070_outputs outputs;
         struct fio2070_filters filters;
         struct {
-            uint8_t octets[773];
+            uint8_t octets[773], reserved;
             uint16_t length;
         } sent;
     } state;
@@ -340,6 +348,7 @@ struct fio2070_module {
         uint8_t entries[1024][3];
         uint16_t first, count;
     } waiting;
+    uint8_t reserved[4];
 };
 
 /* Starts a module that answers `id` to command 60, and whose blocks have at most `per_block` entries,

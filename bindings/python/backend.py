@@ -1,4 +1,4 @@
-"""Makes the wheel for pip, without other packages. The shared library is put into it where `make library` made it at
+"""Makes the wheel for pip, with the command `fiolog`. The shared library is put into it where `make library` made it at
 the top of the repository."""
 
 import base64
@@ -14,7 +14,14 @@ METADATA = """Metadata-Version: 2.1
 Name: fio2070
 Version: 1.0.0
 Summary: Field I/O transition link of the Model 2070, proved
-Requires-Python: >=3.8
+Requires-Python: >=3.9
+Requires-Dist: rich; extra == "tools"
+Requires-Dist: pyserial; extra == "tools"
+Requires-Dist: matplotlib; extra == "tools"
+Provides-Extra: tools
+"""
+COMMANDS = """[console_scripts]
+fiolog = fiolog.__main__:main
 """
 WHEEL = """Wheel-Version: 1.0
 Generator: fio2070
@@ -26,8 +33,9 @@ Tag: py3-none-linux_x86_64
 def files():
     """The files of the wheel, by their names in it."""
     found = {}
-    for path in sorted(glob.glob(os.path.join(HERE, 'fio2070', '*.py'))) + [os.path.join(HERE, 'fio2070', 'py.typed')]:
-        found['fio2070/' + os.path.basename(path)] = path
+    for form in ('fio2070/*.py', 'fio2070/py.typed', 'fiolog/*.py', 'fiolog/forms.json'):
+        for path in sorted(glob.glob(os.path.join(HERE, form))):
+            found[os.path.dirname(form) + '/' + os.path.basename(path)] = path
     if os.path.exists(LIBRARY):
         found['fio2070/libfio2070.so'] = LIBRARY
     contents = {}
@@ -36,6 +44,7 @@ def files():
             contents[name] = source.read()
     contents[NAME + '.dist-info/METADATA'] = METADATA.encode()
     contents[NAME + '.dist-info/WHEEL'] = WHEEL.encode()
+    contents[NAME + '.dist-info/entry_points.txt'] = COMMANDS.encode()
     return contents
 
 

@@ -155,7 +155,52 @@ class Forgetful(Proved):
         return answer[:-5] + bytes([answer[-5] & ~2]) + answer[-4:]
 
 
+class TwoIds(Proved):
+    """Its identification has two octets."""
+
+    def exchange(self, octets):
+        answer = super().exchange(octets)
+        return answer + b'\0' if answer and answer[0] == 188 else answer
+
+
+class Slow(Proved):
+    """Its watchdog takes a millisecond more."""
+
+    def watchdog_ms(self):
+        return (self.module.watchdog_ms or -1) + 1
+
+
+class Unfinished(Proved):
+    """Its answer to an identification is still to be written."""
+
+    def exchange(self, octets):
+        if octets[:1] == b'\x3c':
+            raise NotImplementedError('identification')
+        return super().exchange(octets)
+
+
+class Deaf(ProvedCpu):
+    """It hears nothing yet."""
+
+    def hear(self, octets):
+        raise NotImplementedError('hear')
+
+
 class Tester(unittest.TestCase):
+    def test_rules(self):
+        self.assertIsNone(tester.run(TwoIds(), events=20_000, excepted=['identification']))
+        report = tester.run(TwoIds(), events=20_000, goes_on=True)
+        self.assertIn('# rule: identification, own profile', report)
+        self.assertIn('# rule: watchdog-timeout, TEES 2009', tester.run(Slow(), events=20_000))
+        for name in ('sent-again', 'none-such'):
+            self.assertRaises(ValueError, tester.run, Proved(), excepted=[name])
+
+    def test_calls_that_raise(self):
+        with self.assertRaisesRegex(NotImplementedError, 'identification'):
+            tester.run(Unfinished(), events=20_000)
+        with self.assertRaisesRegex(NotImplementedError, 'hear'):
+            tester.run_cpu(Deaf(), events=20_000)
+
     def test_modules(self):
         self.assertIsNone(tester.run(Proved(), events=20_000))
         script = tester.run(Forgetful(), events=20_000)

@@ -10,14 +10,22 @@ TOP = os.path.dirname(os.path.dirname(os.path.dirname(os.path.realpath(__file__)
 
 
 class Function:
-    """A function of a crate: its file, the type whose method it is, its name, and where it stands."""
+    """A function of a crate: its file, the type whose method it is, the trait if any, its name, and where it stands."""
 
-    def __init__(self, path, owner, name, is_public, start, body, end):
-        self.path, self.owner, self.name, self.is_public = path, owner, name, is_public
+    def __init__(self, path, owner, trait, name, is_public, start, body, end):
+        self.path, self.owner, self.trait, self.name, self.is_public = path, owner, trait, name, is_public
         self.start, self.body, self.end = start, body, end
+        self.short = ''
 
     def label(self):
-        return '::'.join(part for part in (self.owner, self.name) if part)
+        """Its name as the prover writes it, without the modules."""
+        return '::'.join(part for part in (self.owner + self.trait, self.name) if part)
+
+    def place(self):
+        """Its name with the modules of its file before it."""
+        crate, _, inner = os.path.relpath(self.path, os.path.join(TOP, 'crates')).partition(os.sep + 'src' + os.sep)
+        modules = [] if inner == 'lib.rt' else inner[:-len('.rt')].split(os.sep)
+        return '::'.join([crate, *modules, self.label()])
 
 
 def without_words(text):
@@ -39,8 +47,9 @@ def end_of_braces(text, start):
 def functions_of(path, text):
     """The functions of a file. The last brace pair of an item, behind its clauses, is the body."""
     text = without_words(text)
-    owners = [(found.start(), end_of_braces(text, found.end() - 1), found[1])
-              for found in re.finditer(r'^impl(?:<[^{]*?>)?\s+(?:[\w:<>\']+\s+for\s+)?(\w+)[^{]*\{', text, re.M)]
+    owners = [(found.start(), end_of_braces(text, found.end() - 1), found[2], found[1] or '')
+              for found in re.finditer(r'^impl(?:<[^{]*?>)?\s+(?:(?:\w+::)*(\w+)(?:<[^{]*?>)?\s+for\s+)?(\w+)[^{]*\{',
+                                       text, re.M)]
     for found in re.finditer(r'^( *)(pub(?:\(crate\)|\(super\))? )?(?:const |extern +)?fn (\w+)', text, re.M):
         closing = re.compile(r'^%s\}$' % found[1], re.M).search(text, found.end())
         if closing is None:
@@ -48,8 +57,19 @@ def functions_of(path, text):
         bodies = [place for place in range(found.end(), closing.end())
                   if text[place:place + 2] == '{\n' and end_of_braces(text, place) == closing.end()]
         if bodies:
-            owner = next((name for start, end, name in owners if start < found.start() < end), '')
-            yield Function(path, owner, found[3], found[2] == 'pub ', found.start(), bodies[-1], closing.end())
+            owner = next(((name, trait) for start, end, name, trait in owners if start < found.start() < end), ('', ''))
+            yield Function(path, *owner, found[3], found[2] == 'pub ', found.start(), bodies[-1], closing.end())
+
+
+def name_functions(functions):
+    """Gives each function the shortest name that no other has: its type and its own name, and before them modules where
+    that is needed."""
+    places = {one: '::' + one.place() for one in functions}
+    for one in functions:
+        parts, count = places[one].split('::'), len(one.label().split('::'))
+        while any(place != places[one] and place.endswith('::' + '::'.join(parts[-count:])) for place in places.values()):
+            count += 1
+        one.short = '::'.join(parts[-count:])
 
 
 def sources_of(crate):
@@ -57,38 +77,24 @@ def sources_of(crate):
     return {path: open(path, encoding='utf-8').read() for path in paths}
 
 
-def is_of_body(edit):
-    """Whether an edit changes a body, and not a definition."""
-    with open(edit, encoding='utf-8') as lines:
-        return any(line.startswith('file: src/') for line in lines)
-
-
-def changed_places(sources, crate, edit):
-    """Each stretch of lines that an edit changes: its file, and from where to where it stands."""
-    texts, path, old = {}, None, None
-    for line in open(edit, encoding='utf-8'):
-        word, _, rest = line.rstrip('\n').partition(':')
-        if word == 'file':
-            path = os.path.join(TOP, 'crates', crate, rest.strip())
-            texts.setdefault(path, sources.get(path, ''))
-        elif word == 'old':
-            old = rest[1:]
-        elif word == 'new':
-            texts[path] = texts[path].replace(old, rest[1:])
-    for path, text in texts.items():
-        before = sources.get(path, '').splitlines(keepends=True)
+def changed_places(sources, stanza):
+    """Each stretch of lines that a stanza changes: its file, and from where to where it stands."""
+    folder = os.path.join(TOP, 'crates', stanza.crate)
+    texts = {file: sources.get(os.path.join(folder, file), '') for file in stanza.files()}
+    for file, text in (stanza.apply(texts) or {}).items():
+        before = texts[file].splitlines(keepends=True)
         starts = [0] + list(itertools.accumulate(map(len, before)))
         matched = difflib.SequenceMatcher(None, before, text.splitlines(keepends=True), autojunk=False)
         for tag, first, last, _, _ in matched.get_opcodes():
             if tag != 'equal':
-                yield path, starts[first], max(starts[first] + 1, starts[last])
+                yield os.path.join(folder, file), starts[first], max(starts[first] + 1, starts[last])
 
 
-def changed_functions(functions, sources, crate, edit):
-    """The functions that an edit changes. Where it changes none of a file, as by a constant at its head, it changes
+def changed_functions(functions, sources, stanza):
+    """The functions that a stanza changes. Where it changes none of a file, as by a constant at its head, it changes
     all of them."""
     changed = set()
-    places = list(changed_places(sources, crate, edit))
+    places = list(changed_places(sources, stanza))
     for path in {path for path, _, _ in places}:
         of_file = [one for one in functions if one.path == path]
         changed.update([one for one in of_file for place, first, last in places

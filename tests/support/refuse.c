@@ -1,5 +1,5 @@
 /* Stands between a program and the C library, and refuses one growth of memory: the one with the number
-   REFUSED_GROWTH, from 1. It then writes `refused` to standard error. */
+   REFUSED_GROWTH, from 1. It then writes `refused N` to standard error, N being the octets that were asked for. */
 
 #include <errno.h>
 #include <stdlib.h>
@@ -9,7 +9,20 @@ extern void *__libc_malloc(size_t size);
 extern void *__libc_calloc(size_t count, size_t size);
 extern void *__libc_realloc(void *old, size_t size);
 
-static int is_refused(void)
+/* Writes the line with a number, without a growth of memory. */
+static int say_refused(size_t octets)
+{
+    char line[] = "refused 00000000000000000000\n";
+    size_t place = sizeof line - 2;
+
+    while (octets > 0) {
+        line[--place] = '0' + octets % 10;
+        octets /= 10;
+    }
+    return write(2, line, sizeof line - 1) == sizeof line - 1;
+}
+
+static int is_refused(size_t octets)
 {
     static unsigned long growths;
     const char *number = getenv("REFUSED_GROWTH");
@@ -19,20 +32,20 @@ static int is_refused(void)
         return 0;
     }
     errno = ENOMEM;
-    return write(2, "refused\n", 8) == 8;
+    return say_refused(octets);
 }
 
 void *malloc(size_t size)
 {
-    return is_refused() ? NULL : __libc_malloc(size);
+    return is_refused(size) ? NULL : __libc_malloc(size);
 }
 
 void *calloc(size_t count, size_t size)
 {
-    return is_refused() ? NULL : __libc_calloc(count, size);
+    return is_refused(count * size) ? NULL : __libc_calloc(count, size);
 }
 
 void *realloc(void *old, size_t size)
 {
-    return is_refused() ? NULL : __libc_realloc(old, size);
+    return is_refused(size) ? NULL : __libc_realloc(old, size);
 }

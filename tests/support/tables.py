@@ -2,7 +2,6 @@
 
 import os
 import subprocess
-import sys
 
 TOP = os.path.dirname(os.path.dirname(os.path.dirname(os.path.realpath(__file__))))
 
@@ -22,24 +21,12 @@ def output_of(tool, text):
     return done.stdout.decode('latin-1'), done.returncode
 
 
-class Judge:
-    """Counts the rows that hold, and prints those that do not."""
+def in_short(text):
+    """A text as the name of a row has it: its first characters."""
+    return repr(text if len(text) <= 70 else text[:70] + '..')
 
-    def __init__(self):
-        self.passed = 0
-        self.failed = 0
 
-    def row(self, tool, text, expected, status):
-        """The tool writes the expected text for this input, and ends with the status."""
-        found = output_of(tool, text)
-        if found == (expected, status):
-            self.passed += 1
-            return
-        self.failed += 1
-        print('%s %r\nis to write %r with status %d\nand wrote   %r with status %d'
-              % (tool, text[:200], expected[:400], status, found[0][:400], found[1]))
-
-    def end(self):
-        """Prints the last line, and ends."""
-        print('%d passed, %d failed' % (self.passed, self.failed))
-        sys.exit(0 if self.failed == 0 and self.passed > 0 else 1)
+def row(check, name, tool, text, expected, status):
+    """A row of a check: the tool writes the expected text for this input, and ends with the status."""
+    if check.wants(name):
+        check.equal(name, '%sstatus %d' % (expected, status), '%sstatus %d' % output_of(tool, text))

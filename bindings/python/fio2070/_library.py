@@ -11,10 +11,12 @@ LONGEST_FAULT_TEXT = 65
 
 
 def _load() -> ctypes.CDLL:
-    """The library that FIO2070_LIBRARY names, or the one beside this file, or the installed one."""
-    beside = os.path.join(os.path.dirname(os.path.abspath(__file__)), 'libfio2070.so')
-    named = os.environ.get('FIO2070_LIBRARY')
-    return ctypes.CDLL(named or (beside if os.path.exists(beside) else 'libfio2070.so'))
+    """The library that FIO2070_LIBRARY names, or the one beside this file, or at the top of the repository that this
+    file is in, or the installed one."""
+    here = os.path.dirname(os.path.abspath(__file__))
+    places = [os.path.join(here, *above, 'libfio2070.so') for above in ([], ['..', '..', '..'])]
+    named = [os.environ['FIO2070_LIBRARY']] if os.environ.get('FIO2070_LIBRARY') else []
+    return ctypes.CDLL((named + list(filter(os.path.exists, places)) + ['libfio2070.so'])[0])
 
 
 class CFault(ctypes.Structure):
@@ -58,7 +60,7 @@ class CConfigured(ctypes.Structure):
 
 
 class CCounter(ctypes.Structure):
-    _fields_ = [('value', c_uint32), ('load', c_uint32), ('is_asked', c_uint8)]
+    _fields_ = [('value', c_uint32), ('load', c_uint32), ('is_asked', c_uint8), ('reserved', c_uint8 * 3)]
 
 
 class CFilters(ctypes.Structure):

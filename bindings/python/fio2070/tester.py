@@ -1,8 +1,8 @@
-"""Holds another maker's module or CPU's end against the proved one, by random scripts (examples/c/conformance.h)."""
+"""Holds another maker's module or CPU's end against the proved one, by random scripts (tools/conformance/conformance.h)."""
 
 import ctypes
-from ctypes import CFUNCTYPE, POINTER, c_size_t, c_uint, c_uint8, c_uint64, c_ulong, c_void_p
-from typing import List, Optional
+from ctypes import CFUNCTYPE, POINTER, c_int, c_size_t, c_uint, c_uint8, c_uint64, c_ulong, c_void_p
+from typing import Any, Callable, List, Optional, Sequence, Tuple
 
 from . import _library as c
 from .records import RecordItem
@@ -14,21 +14,28 @@ _RESET = CFUNCTYPE(None, c_void_p, c_uint8)
 _POLL = CFUNCTYPE(c_size_t, c_void_p, POINTER(c_uint8))
 _HEAR = CFUNCTYPE(c_size_t, c_void_p, POINTER(c_uint8), c_size_t, POINTER(c.CRecordItem))
 _NUMBER = CFUNCTYPE(c_uint8, c_void_p)
+_OUTPUTS = CFUNCTYPE(None, c_void_p, POINTER(c_uint8), POINTER(c_uint8))
+
+# More octets than a struct result has.
+_RESULT_ROOM = 65536
+
+# What a call returns that raised: the tester then stops.
+_FAILED = c_size_t(-1).value
 
 
 class Mix(ctypes.Structure):
     """How often each comes in 1,000 events, the rest being scans; `overflows` in 1,000 scripts."""
     _fields_ = [(name, c_uint) for name in ('polls', 'repeats', 'out_of_sequence', 'configurations', 'others', 'syncs',
-                                            'hostile', 'restarts', 'overflows')]
+                                            'hostile', 'restarts', 'overflows', 'calm', 'steady')]
 
 
 class _Maker(ctypes.Structure):
     _fields_ = [('context', c_void_p), ('id', c_uint8), ('per_block', c_uint8), ('reset', _ACT), ('step', _STEP),
-                ('line_sync', _ACT), ('exchange', _EXCHANGE)]
+                ('line_sync', _ACT), ('exchange', _EXCHANGE), ('outputs', _OUTPUTS), ('watchdog_ms', _NUMBER)]
 
 
 class Maker:
-    """The module under test: override the four calls."""
+    """The module under test: override the four calls, and `outputs` and `watchdog_ms` where they are to be compared."""
     id = 2
     per_block = 255
 
@@ -48,15 +55,51 @@ class Maker:
         """The answer to a frame; None where there is none."""
         raise NotImplementedError
 
+    def outputs(self) -> Tuple[bytes, bytes]:
+        """The eight data octets and the eight control octets."""
+        raise NotImplementedError
 
-def _raw(maker: Maker) -> _Maker:
-    def exchange(_, octets, length, out):
+    def watchdog_ms(self) -> int:
+        """The timeout of the watchdog, 0 before the first command 58."""
+        raise NotImplementedError
+
+
+class _Calls:
+    """The calls of a maker as the tester makes them. The first that raises is the last that is made."""
+
+    def __init__(self) -> None:
+        self.raised: Optional[BaseException] = None
+
+    def guarded(self, call: Callable[..., Optional[int]], failed: int = 0) -> Callable[..., int]:
+        """The call, or `failed` where it raises or one before it did."""
+        def guarded(_: object, *given: Any) -> int:
+            if self.raised is not None:
+                return failed
+            try:
+                return call(*given) or 0
+            except BaseException as raised:
+                self.raised = raised
+                return failed
+        return guarded
+
+
+def _raw(maker: Maker, calls: _Calls) -> _Maker:
+    def exchange(octets, length, out):
         answer = (maker.exchange(ctypes.string_at(octets, length)) or b'')[:c.LONGEST_FRAME]
         ctypes.memmove(out, answer, len(answer))
         return len(answer)
 
-    return _Maker(None, maker.id, maker.per_block, _ACT(lambda _: maker.reset()),
-                  _STEP(lambda _, inputs: maker.step(inputs)), _ACT(lambda _: maker.line_sync()), _EXCHANGE(exchange))
+    def outputs(levels, controls):
+        for out, octets in zip((levels, controls), maker.outputs()):
+            ctypes.memmove(out, bytes(octets[:8]), 8)
+
+    raw = _Maker(None, maker.id, maker.per_block, _ACT(calls.guarded(maker.reset)), _STEP(calls.guarded(maker.step)),
+                 _ACT(calls.guarded(maker.line_sync)), _EXCHANGE(calls.guarded(exchange, _FAILED)))
+    if type(maker).outputs is not Maker.outputs:
+        raw.outputs = _OUTPUTS(calls.guarded(outputs))
+    if type(maker).watchdog_ms is not Maker.watchdog_ms:
+        raw.watchdog_ms = _NUMBER(calls.guarded(maker.watchdog_ms))
+    return raw
 
 
 class CpuMix(ctypes.Structure):
@@ -89,49 +132,80 @@ class CpuMaker:
         raise NotImplementedError
 
 
-def _raw_cpu(maker: CpuMaker) -> _CpuMaker:
-    def poll(_, out):
+def _raw_cpu(maker: CpuMaker, calls: _Calls) -> _CpuMaker:
+    def poll(out):
         octets = maker.poll()[:c.LONGEST_FRAME]
         ctypes.memmove(out, octets, len(octets))
         return len(octets)
 
-    def hear(_, octets, length, out):
+    def hear(octets, length, out):
         items = maker.hear(ctypes.string_at(octets, length))[:c.MOST_RECORD_ITEMS]
         for place, item in enumerate(items):
             out[place] = c.CRecordItem(*item)
         return len(items)
 
-    return _CpuMaker(None, _RESET(lambda _, number: maker.reset(number)), _POLL(poll), _HEAR(hear),
-                     _NUMBER(lambda _: maker.number()))
+    return _CpuMaker(None, _RESET(calls.guarded(maker.reset)), _POLL(calls.guarded(poll, _FAILED)),
+                     _HEAR(calls.guarded(hear, _FAILED)), _NUMBER(calls.guarded(maker.number)))
 
 
-def _find(call: str, maker: ctypes.Structure, mix: ctypes.Structure, seed: int, events: int) -> Optional[str]:
-    """What the tester writes, None where it finds no difference."""
+class _Ends(ctypes.Structure):
+    _fields_ = [('module', POINTER(_Maker)), ('cpu', POINTER(_CpuMaker)), ('masked', c_uint64 * 2),
+                ('left_out', c_uint64 * 2)]
+
+
+class _Options(ctypes.Structure):
+    _fields_ = [('events', c_ulong), ('seed', c_uint64), ('mix', POINTER(Mix)), ('cpu_mix', POINTER(CpuMix)),
+                ('excepted', c_uint64 * 2), ('stops', c_int), ('is_outside', c_int)]
+
+
+def _options(seed: int, events: int, excepted: Sequence[str], goes_on: bool) -> _Options:
+    options = _Options(events=events, seed=seed, stops=not goes_on)
+    for name in excepted:
+        rule = c.library.conformance_rule_named(name.encode('ascii'))
+        if rule >= 128 or not c.library.conformance_is_own(rule):
+            raise ValueError('%s is no rule of the own profile' % name)
+        options.excepted[rule // 64] |= 1 << rule % 64
+    return options
+
+
+def _find(ends: _Ends, calls: _Calls, options: _Options) -> Optional[str]:
+    """What the tester writes, None where it finds no difference. Raises what a call of the maker raised."""
     libc = ctypes.CDLL(None)
     libc.open_memstream.restype = c_void_p
     libc.open_memstream.argtypes = [POINTER(c_void_p), POINTER(c_size_t)]
     libc.fclose.argtypes = libc.free.argtypes = [c_void_p]
-    find = getattr(c.library, call)
-    find.restype = c_size_t
-    find.argtypes = [POINTER(type(maker)), POINTER(type(mix)), c_uint64, c_ulong, c_void_p]
+    test = c.library.conformance_test
+    test.restype = None
+    test.argtypes = [POINTER(_Ends), POINTER(_Options), c_void_p, c_void_p]
     text, length = c_void_p(), c_size_t()
     stream = libc.open_memstream(ctypes.byref(text), ctypes.byref(length))
-    found = find(maker, mix, seed, events, stream)
+    test(ends, options, ctypes.create_string_buffer(_RESULT_ROOM), stream)
     libc.fclose(stream)
     report = ctypes.string_at(text, length.value).decode('ascii')
     libc.free(text)
-    return report if found else None
+    if calls.raised is not None:
+        raise calls.raised
+    return report or None
 
 
-def run(maker: Maker, seed: int = 1, events: int = 100_000, mix: Optional[Mix] = None) -> Optional[str]:
+def run(maker: Maker, seed: int = 1, events: int = 100_000, mix: Optional[Mix] = None, excepted: Sequence[str] = (),
+        goes_on: bool = False) -> Optional[str]:
     """None where all answers are the same; else a short script that shows a difference, in the format of
-    `fio2070 simulate`, with both answers. A call of the maker that raises is written to standard error,
-    and counts as no answer."""
-    return _find('conformance_run', _raw(maker), mix or Mix.in_dll(c.library, 'CONFORMANCE_MIX'), seed, events)
+    `fio2070 simulate`, with both answers; of each rule that differs, where it `goes_on`. The `excepted` rules of the own
+    profile are not asked. What a call of the maker raises, this raises."""
+    calls = _Calls()
+    options = _options(seed, events, excepted, goes_on)
+    if mix is not None:
+        options.mix = ctypes.pointer(mix)
+    return _find(_Ends(module=ctypes.pointer(_raw(maker, calls))), calls, options)
 
 
-def run_cpu(maker: CpuMaker, seed: int = 1, events: int = 100_000, mix: Optional[CpuMix] = None) -> Optional[str]:
+def run_cpu(maker: CpuMaker, seed: int = 1, events: int = 100_000, mix: Optional[CpuMix] = None,
+            excepted: Sequence[str] = (), goes_on: bool = False) -> Optional[str]:
     """None where all polls, records and numbers are the same; else a short script that shows a difference,
-    with the transcript. A call of the maker that raises is written to standard error, and returns nothing."""
-    return _find('conformance_cpu_run', _raw_cpu(maker), mix or CpuMix.in_dll(c.library, 'CONFORMANCE_CPU_MIX'), seed,
-                 events)
+    with the transcript; otherwise like `run`."""
+    calls = _Calls()
+    options = _options(seed, events, excepted, goes_on)
+    if mix is not None:
+        options.cpu_mix = ctypes.pointer(mix)
+    return _find(_Ends(cpu=ctypes.pointer(_raw_cpu(maker, calls))), calls, options)

@@ -1,11 +1,12 @@
 -- Faults as C sees them, and what reading octets does.
-use Rattle.std.specs.Prelude.{◌≡◌, ◌≤◌, ℕ, List, Result, Ok, Err}
+use Rattle.std.specs.Prelude.{◌≡◌, ◌≤◌, ℕ, ◌==◌, List, [], Option, Some, None, Result, Ok, Err, if◌then◌else◌}
 use Rattle.fio_message.specs.declared.limits.TheConstants.{FRAME_OCTETS}
 use Rattle.fio_message.specs.declared.faults.DecodeError.{DecodeError}
 use Rattle.fio_message.specs.declared.faults.DecodeError.TheVariants.{Empty, TooLong, UnknownType, WrongLength}
 use Rattle.fio_message.specs.Answers.{block_length}
 use Rattle.fio_message.specs.Blocks.{Block, SpellsBlock}
 use Rattle.fio_message.specs.Refusals.{Refuses}
+use Rattle.fio_message.specs.Texts.{fault_text}
 use Rattle.fio_c.specs.declared.faults.Fault.{Fault}
 
 -- octets that are a message have none
@@ -18,6 +19,23 @@ fault_of Empty = record no_fault { kind = 1 }
 fault_of (TooLong got) = record no_fault { kind = 2; got = got }
 fault_of (UnknownType code) = record no_fault { kind = 3; code = code }
 fault_of (WrongLength needed got) = record no_fault { kind = 4; needed = needed; got = got }
+
+-- the fault of a decoder that a fault of C is by its kind, whatever its other numbers are
+abbrev pub error_in : Fault → Option DecodeError
+error_in fault =
+    if fault.kind == 1 then Some Empty
+    else (if fault.kind == 2 then Some (TooLong fault.got)
+    else (if fault.kind == 3 then Some (UnknownType fault.code)
+    else (if fault.kind == 4 then Some (WrongLength fault.needed fault.got) else None)))
+
+-- the words of a fault of a decoder, none where there is no fault
+abbrev pub text_of_error : Option DecodeError → List ℕ
+text_of_error None = []
+text_of_error (Some error) = fault_text error
+
+-- the words of a fault of C, whatever its numbers are: those of its kind; none of kind 0, and of 5 and more
+abbrev pub text_of : Fault → List ℕ
+text_of fault = text_of_error (error_in fault)
 
 -- what is needed in place of octets of a wrong length fits in a frame
 abbrev pub NeedFitsFrame : DecodeError → Type 0

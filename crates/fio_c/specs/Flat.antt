@@ -31,6 +31,7 @@ flat_header block = record {
   stamp = block.stamp;
 }
 
+-- an entry as C sees it; its state is 0 or 1
 abbrev pub flat_entry : EntryOf → Entry
 flat_entry entry = record {
   input = entry.input;
@@ -38,6 +39,7 @@ flat_entry entry = record {
   stamp = entry.stamp;
 }
 
+-- an item of a configuration as C sees it; its flag is 0 or 1
 abbrev pub flat_item : InputItem → ConfigurationItem
 flat_item item = record {
   input = item.input;
@@ -78,6 +80,7 @@ with_command_fields flat (commands.Watchdog timeout) = record flat { timeout = t
 with_command_fields flat commands.Identify = flat
 with_command_fields flat (commands.Other kind body) = record flat { body = length body.items }
 
+-- a command as C sees it
 abbrev pub flat_command : CommandOf → Command
 flat_command command = with_command_fields (command_of_type (command_code command)) command
 
@@ -95,6 +98,7 @@ read_item item = record {
   trailing = item.trailing;
 }
 
+-- the items that C's items are
 abbrev pub read_items : List ConfigurationItem → List InputItem
 read_items items = map read_item items
 
@@ -153,6 +157,7 @@ with_answer_fields flat (answers.Block block entries status stamp) =
 with_answer_fields flat (answers.Watchdog status) = record flat { status = status }
 with_answer_fields flat (answers.Other kind body) = record flat { body = length body.items }
 
+-- an answer as C sees it
 abbrev pub flat_answer : AnswerOf → Answer
 flat_answer answer = with_answer_fields (answer_of_type (answer_code answer)) answer
 
@@ -164,6 +169,7 @@ read_entry entry = record {
   stamp = entry.stamp;
 }
 
+-- the entries that C's entries are
 abbrev pub read_entries : List Entry → List EntryOf
 read_entries entries = map read_entry entries
 

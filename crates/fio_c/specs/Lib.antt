@@ -3,3 +3,4 @@ pub mod Written
 pub mod Flat
 pub mod Hearing
 pub mod Module
+pub mod Version

@@ -1,14 +1,15 @@
 //! The millisecond counter in memory of the caller, and times in 32 bits.
 ghost use Rattle.std.specs.Prelude.{◌≡◌, List, [], ◌∷◌};
-ghost use Rattle.fio_input.specs.Counter.{CounterEvent, Tick, AskLoad, LineSync, IsCounterAfter, counter as counter_after};
+ghost use Rattle.fio_input.specs.Counter.{CounterEvent, Tick, AskLoad, LineSync, IsCounterAfter, counter as counter_after, counter_at_start};
 ghost use Rattle.fio_input.specs.Widening.{widened};
 
 use fio_input::{Counter, widen};
 
-/// A counter at 0 (own profile), with no load asked for.
+/// A counter at 0 (own profile), with no load asked for. Each octet of the struct is set.
 #[unsafe(no_mangle)]
 pub extern "C" fn fio2070_counter_start(counter: &mut Counter)
-    ensures { IsCounterAfter counter.new [] }
+    ensures made { IsCounterAfter counter.new [] }
+    ensures octets { counter.new ≡ counter_at_start }
 {
     *counter = Counter::new();
 }

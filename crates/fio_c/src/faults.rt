@@ -1,9 +1,9 @@
 //! Why octets are no message.
-ghost use Rattle.std.specs.Prelude.{◌≡◌, Some, None};
+ghost use Rattle.std.specs.Prelude.{◌≡◌};
 ghost use Rattle.fio_message.specs.declared.faults.DecodeError.{DecodeError};
 ghost use Rattle.fio_message.specs.Texts.{fault_text};
-ghost use Rattle.fio_c.specs.Faults.{NeedFitsFrame, fault_of, no_fault};
-ghost use Rattle.fio_c.specs.Written.{Writes, WritesNothing};
+ghost use Rattle.fio_c.specs.Faults.{NeedFitsFrame, error_in, fault_of, text_of};
+ghost use Rattle.fio_c.specs.Written.{Writes};
 
 use crate::written::write_front;
 use fio_message::DecodeError;
@@ -61,10 +61,9 @@ pub(crate) fn fault_from(error: DecodeError) -> Fault
     }
 }
 
-/// The fault of a decoder that this is, if it is one.
-fn error_from(fault: &Fault) -> Option<DecodeError>
-    ensures some { (error : DecodeError) → fault.now ≡ fault_of error → result ≡ Some error }
-    ensures none { fault.now ≡ no_fault → result ≡ None }
+/// The fault of a decoder that this is by its kind, if it is one.
+fn error_in(fault: &Fault) -> Option<DecodeError>
+    ensures { result ≡ error_in fault.now }
 {
     match fault.kind {
         1 => Some(DecodeError::Empty),
@@ -79,14 +78,15 @@ fn error_from(fault: &Fault) -> Option<DecodeError>
 }
 
 /// Writes the words of a fault, as `fio2070 show` has them, with no line end and no octet of 0
-/// behind them. Returns how many octets they have, at most 65: 0 where there is no room or no fault.
+/// behind them. Returns how many octets they have, at most 65: 0 where there is no room, and where
+/// the kind is none of 1 to 4.
 #[unsafe(no_mangle)]
 pub extern "C" fn fio2070_fault_text(fault: &Fault, out: &mut [u8]) -> usize
-    ensures written { (error : DecodeError) → fault.now ≡ fault_of error
+    ensures words { Writes (text_of fault.now) out.old out.new result }
+    ensures decoded { (error : DecodeError) → fault.now ≡ fault_of error
         → Writes (fault_text error) out.old out.new result }
-    ensures none { fault.now ≡ no_fault → WritesNothing out.old out.new result }
 {
-    match error_from(fault) {
+    match error_in(fault) {
         Some(error) => write_front(error.words().as_str().as_bytes(), out),
         None => 0,
     }

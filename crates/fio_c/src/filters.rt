@@ -3,7 +3,7 @@ ghost use Rattle.std.specs.Prelude.{◌≡◌, ◌<◌, ◌≤◌, ℕ, List, []
 ghost use Rattle.fio_message.specs.declared.limits.TheConstants.{CONFIGURATION_ITEMS, INPUTS};
 ghost use Rattle.fio_message.specs.Bits.{is_set};
 ghost use Rattle.fio_input.specs.FilterHistory.{FilterEvent, Configure, Scan, is_reported, input_state, raw_levels};
-ghost use Rattle.fio_input.specs.Filters.{AreFiltersAfter};
+ghost use Rattle.fio_input.specs.Filters.{AreFiltersAfter, filters_at_start};
 ghost use Rattle.fio_c.specs.Flat.{read_items, first_absent};
 
 use crate::command_frames::read_items;
@@ -12,10 +12,11 @@ use fio_input::Filters;
 use fio_message::{CONFIGURATION_ITEMS, INPUTS};
 
 /// Filters before any scan: each input is ignored, both its filters are 5, and its raw level and
-/// filtered state are 1 (own profile).
+/// filtered state are 1 (own profile). Each octet of the struct is set.
 #[unsafe(no_mangle)]
 pub extern "C" fn fio2070_filters_start(filters: &mut Filters)
-    ensures { AreFiltersAfter filters.new [] }
+    ensures made { AreFiltersAfter filters.new [] }
+    ensures octets { filters.new ≡ filters_at_start }
 {
     *filters = Filters::new();
 }

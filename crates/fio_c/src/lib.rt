@@ -12,11 +12,12 @@
 //! | write a message | `fio2070_encode_..` |
 //! | be the CPU's end | `fio2070_poller_poll`, `fio2070_poller_hear` |
 //! | be the module | `fio2070_module_..` |
+//! | say which library it is | `fio2070_version` |
 //! | use its parts | `fio2070_counter_..`, `fio2070_filters_..`, `fio2070_widen` |
 //!
 //! The definitions stand in `specs/`: faults and what reading does (`Faults`), octets and lists in
 //! the caller's arrays (`Written`), flat forms of commands, answers and blocks (`Flat`), what a
-//! poller does (`Hearing`), which history a module stands for (`Module`).
+//! poller does (`Hearing`), which history a module stands for (`Module`), versions (`Version`).
 #![tactic(auto)]
 
 mod answer_frames;
@@ -29,4 +30,5 @@ mod faults;
 mod filters;
 mod module;
 mod poller;
+mod version;
 mod written;

@@ -2,6 +2,7 @@
 ghost use Rattle.std.specs.Prelude.{◌≡◌, ◌≢◌, ◌<◌, ◌-◌, ℕ, List, ◌∷◌, [], length, min, unwrap_or};
 ghost use Rattle.fio_message.specs.declared.limits.TheConstants.{INPUTS};
 ghost use Rattle.fio_message.specs.Bits.{is_set};
+ghost use Rattle.fio_message.specs.Views.{command_of};
 ghost use Rattle.fio_input.specs.FilterHistory.{input_state};
 ghost use Rattle.fio_module.specs.Settings.{Settings};
 ghost use Rattle.fio_module.specs.Life.{History, Scan, LineSync, Raise, Received, Restart, life_of, counter_of, filter_events};
@@ -9,11 +10,11 @@ ghost use Rattle.fio_module.specs.Log.{log_of};
 ghost use Rattle.fio_module.specs.Blocks.{newest_end};
 ghost use Rattle.fio_module.specs.Flags.{watchdog_of, outputs_of};
 ghost use Rattle.fio_module.specs.Replies.{reply_to};
-ghost use Rattle.fio_c.specs.Module.{IsModuleAfter, settings_of};
+ghost use Rattle.fio_c.specs.Module.{Commands, IsModuleAfter, module_at_start, settings_of};
 ghost use Rattle.fio_c.specs.Written.{WritesAnswer};
 
 use crate::written::write_front;
-use fio_message::{FRAME_OCTETS, Frame};
+use fio_message::{CommandView, FRAME_OCTETS, Frame, read_command};
 use fio_module::{ArrayRing, EntryRing, Limits, ModuleState, Outputs};
 
 /// How many entries may wait.
@@ -21,25 +22,32 @@ const WAITING: u16 = 1024;
 
 /// A field I/O module (TEES 2009, in this project's own profile of 64 inputs and 64 outputs), of
 /// which 1,024 entries may wait.
+#[derive(Drop)]
 #[repr(C)]
 pub struct Module {
     state: ModuleState,
     waiting: ArrayRing,
+    /// It makes the module as long as so many words of 64 bits.
+    reserved: [u8; 4],
 }
 
 /// Starts a module that answers `id` where it is asked for its identification (own profile: one
-/// octet), and whose blocks have at most `per_block` entries, 1 to 255 (TEES 2009: 255). Returns 0.
-/// Where `per_block` is 0 it returns 1, and nothing changes.
+/// octet), and whose blocks have at most `per_block` entries, 1 to 255 (TEES 2009: 255). Each octet
+/// of the struct is set. Returns 0. Where `per_block` is 0 it returns 1, and nothing changes.
 #[unsafe(no_mangle)]
 pub extern "C" fn fio2070_module_start(device: &mut Module, id: u8, per_block: u8) -> u8
     ensures made { per_block ≢ 0
         → (result ≡ 0) × IsModuleAfter (settings_of id per_block) device.new [] }
+    ensures octets { per_block ≢ 0 → device.new ≡ module_at_start id per_block }
     ensures refused { per_block ≡ 0 → (result ≡ 1) × (device.new ≡ device.old) }
 {
     match Limits::new(per_block, WAITING) {
         Some(limits) => {
-            device.state = ModuleState::new(id, limits);
-            device.waiting.clear();
+            *device = Module {
+                state: ModuleState::new(id, limits),
+                waiting: ArrayRing::new(),
+                reserved: [0; 4],
+            };
             0
         }
         None => 1,
@@ -107,26 +115,24 @@ pub extern "C" fn fio2070_module_receive(
         → IsModuleAfter settings device.old history
         → WritesAnswer (reply_to settings history octets.now) out.old out.new result }
 {
-    if device.state.receive_poll(&mut device.waiting, octets) {
-        write_front(device.state.block(), out)
-    } else {
-        receive_command(device, octets, out)
+    match read_command(octets) {
+        Ok(CommandView::Poll { block }) => {
+            device.state.poll(&mut device.waiting, block);
+            write_front(device.state.block(), out)
+        }
+        Ok(command) => obey(device, command, out),
+        Err(_) => 0,
     }
 }
 
-/// The same of octets that may be any command. It stands apart, since its room for an answer is
+/// Carries out any command, and writes the answer. It stands apart, since its room for an answer is
 /// cleared at its entry, and a poll needs none.
 #[inline(never)]
-fn receive_command(device: &mut Module, octets: &[u8], out: &mut [u8; FRAME_OCTETS]) -> usize
-    ensures stands { (settings : Settings) (history : History)
-        → IsModuleAfter settings device.old history
-        → IsModuleAfter settings device.new (Received octets.now ∷ history) }
-    ensures reply { (settings : Settings) (history : History)
-        → IsModuleAfter settings device.old history
-        → WritesAnswer (reply_to settings history octets.now) out.old out.new result }
+fn obey(device: &mut Module, command: CommandView<'_>, out: &mut [u8; FRAME_OCTETS]) -> usize
+    ensures { Commands device.old device.new (command_of command.entry) out.old out.new result }
 {
     let mut frame = Frame::new();
-    if device.state.answer(&mut device.waiting, octets, &mut frame) {
+    if device.state.obey(&mut device.waiting, command, &mut frame) {
         write_front(frame.as_slice(), out)
     } else {
         0

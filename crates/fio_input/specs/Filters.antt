@@ -1,8 +1,9 @@
 -- The filters of all inputs after a history.
-use Rattle.std.specs.Prelude.{ℕ, ◌≡◌, ◌<◌, ◌≤◌, ◌⊎◌, min, Bool, slice_index, List}
+use Rattle.std.specs.Prelude.{ℕ, ◌≡◌, ◌-◌, ◌^◌, ◌<◌, ◌≤◌, ◌⊎◌, min, Bool, slice_index, List, replicate}
 use Rattle.fio_message.specs.Bits.{is_set}
 use Rattle.fio_message.specs.declared.limits.TheConstants.{INPUTS}
 use Rattle.fio_input.specs.declared.filters.Filters.{Filters}
+use Rattle.fio_input.specs.declared.filters.TheConstants.{DEFAULT_FILTER}
 use Rattle.fio_input.specs.FilterRule.{Setting}
 use Rattle.fio_input.specs.Runs.{run_length}
 use Rattle.fio_input.specs.FilterHistory.{FilterEvent, input_setting, input_samples, input_state, raw_levels}
@@ -19,6 +20,18 @@ pub record KeepsInput (filters : Filters) (input : ℕ)
   pub trailing_fits : setting.trailing ≤ 255
   pub ignored : is_set filters.ignored input ≡ setting.ignore
   pub filtered : is_set filters.filtered input ≡ state
+
+-- filters before any scan, each of their octets given: no run is counted, all inputs are ignored, and
+-- all levels and states are 1
+abbrev pub filters_at_start : Filters
+filters_at_start = record {
+  run_lengths = replicate INPUTS 0;
+  leading = replicate INPUTS DEFAULT_FILTER;
+  trailing = replicate INPUTS DEFAULT_FILTER;
+  ignored = 2 ^ 64 - 1;
+  filtered = 2 ^ 64 - 1;
+  raw = 2 ^ 64 - 1;
+}
 
 -- the filters have been through this history
 pub record AreFiltersAfter (filters : Filters) (history : List FilterEvent) : Type 0 where

@@ -8,7 +8,8 @@
 //! The definitions are over whole histories, lists with the newest event first: `specs/Counter`
 //! has the counter, `specs/FilterRule` the filtered state of one input from its samples,
 //! `specs/FilterHistory` what a history of configurations and scans makes of each input,
-//! `specs/Delivery` how often inputs change, and `specs/Widening` the times. A value has been
+//! `specs/Delivery` how often inputs change, `specs/NewLevels` which changes are reported for sure, and
+//! `specs/Widening` the times. A value has been
 //! through a history: `new` begins with the empty one, each call adds its own event, and each
 //! answer is promised for every history that the value has been through.
 //!

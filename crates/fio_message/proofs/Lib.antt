@@ -8,8 +8,10 @@ pub mod Grammar
 pub mod CommandLaws
 pub mod AnswerLaws
 pub mod BlockLaws
+pub mod ItemLaws
 pub mod DecodingLaws
 pub mod Accepting
+pub mod Decoded
 pub mod KnownTypes
 pub mod StatusBits
 pub mod InputsLayout

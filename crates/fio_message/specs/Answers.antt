@@ -8,33 +8,35 @@ use Rattle.fio_message.specs.declared.answers.Answer.{Answer}
 use Rattle.fio_message.specs.declared.answers.Answer.TheVariants.{Status, LoadCounter, ConfigureInputs, RawInputs, FilteredInputs, Block, Watchdog, Other}
 use Rattle.fio_message.specs.declared.answers.OtherAnswer.{OtherAnswer}
 use Rattle.fio_message.specs.declared.answers.OtherAnswer.TheVariants.{SetOutputs, TrackInputs, ComplexOutputs, ControllerId, Identify}
+use Rattle.fio_message.specs.declared.types.TheConstants.{STATUS, LOAD_COUNTER, CONFIGURE_INPUTS, RAW_INPUTS, FILTERED_INPUTS, POLL, SET_OUTPUTS, TRACK_INPUTS, COMPLEX_OUTPUTS, WATCHDOG, CONTROLLER_ID, IDENTIFY, ANSWER, STATUS_ANSWER, LOAD_COUNTER_ANSWER, CONFIGURE_INPUTS_ANSWER, RAW_INPUTS_ANSWER, FILTERED_INPUTS_ANSWER, BLOCK_ANSWER, SET_OUTPUTS_ANSWER, TRACK_INPUTS_ANSWER, COMPLEX_OUTPUTS_ANSWER, WATCHDOG_ANSWER, CONTROLLER_ID_ANSWER, IDENTIFY_ANSWER}
 use Rattle.fio_message.specs.declared.limits.TheConstants.{BLOCK_ENTRIES, BODY_OCTETS}
 
 -- the type of the command that is answered, where the answer has a body only
 abbrev pub answered_by_other : OtherAnswer → ℕ
-answered_by_other SetOutputs = 55
-answered_by_other TrackInputs = 56
-answered_by_other ComplexOutputs = 57
-answered_by_other ControllerId = 59
-answered_by_other Identify = 60
+answered_by_other SetOutputs = SET_OUTPUTS
+answered_by_other TrackInputs = TRACK_INPUTS
+answered_by_other ComplexOutputs = COMPLEX_OUTPUTS
+answered_by_other ControllerId = CONTROLLER_ID
+answered_by_other Identify = IDENTIFY
 
 -- the type of the command that is answered
 abbrev pub answered_code : Answer → ℕ
-answered_code (Status _ _ _ _) = 49
-answered_code (LoadCounter _) = 50
-answered_code (ConfigureInputs _) = 51
-answered_code (RawInputs _ _) = 52
-answered_code (FilteredInputs _ _) = 53
-answered_code (Block _ _ _ _) = 54
-answered_code (Watchdog _) = 58
+answered_code (Status _ _ _ _) = STATUS
+answered_code (LoadCounter _) = LOAD_COUNTER
+answered_code (ConfigureInputs _) = CONFIGURE_INPUTS
+answered_code (RawInputs _ _) = RAW_INPUTS
+answered_code (FilteredInputs _ _) = FILTERED_INPUTS
+answered_code (Block _ _ _ _) = POLL
+answered_code (Watchdog _) = WATCHDOG
 answered_code (Other kind _) = answered_by_other kind
 
 -- An answer's type is that of its command plus 128 (TEES 2009).
 abbrev pub other_answer_code : OtherAnswer → ℕ
-other_answer_code kind = answered_by_other kind + 128
+other_answer_code kind = answered_by_other kind + ANSWER
 
+-- the type of an answer: that of its command plus 128
 abbrev pub answer_code : Answer → ℕ
-answer_code answer = answered_code answer + 128
+answer_code answer = answered_code answer + ANSWER
 
 -- The octets after the type: numbers most significant octet first, a stamp in four octets, a count
 -- before its entries, a body as it stands. The bits of a flag or status octet stand as they are,
@@ -57,6 +59,14 @@ answer_fields (Other _ body) = body.items
 -- all octets of an answer
 abbrev pub answer_octets : Answer → List ℕ
 answer_octets answer = answer_code answer ∷ answer_fields answer
+
+-- The answer to the setting of outputs: the octet 0, then the stamp (own profile).
+abbrev pub outputs_answer : ℕ → Answer
+outputs_answer stamp = Other SetOutputs (record { items = 0 ∷ to_be_bytes w32 stamp })
+
+-- The answer that says which module it is: one octet (own profile).
+abbrev pub identity_answer : ℕ → Answer
+identity_answer id = Other Identify (record { items = id ∷ [] })
 
 -- The numbers and lists of an answer are within the ranges of their types: an octet is below 256, a
 -- stamp below 2^32, inputs below 2^64, at most 255 entries, a body of at most 772 octets.
@@ -89,20 +99,20 @@ block_fields_length fields = 8 + 3 * slice_index_or fields 1 0
 abbrev pub answer_length : List ℕ → Option ℕ
 answer_length [] = None
 answer_length (code ∷ fields) =
-    if code == 177 then Some 8
-    else (if code == 178 then Some 2
-    else (if code == 179 then Some 2
-    else (if code == 180 then Some 13
-    else (if code == 181 then Some 13
-    else (if code == 182 then Some (block_fields_length fields)
-    else (if code == 183 then Some (1 + length fields)
-    else (if code == 184 then Some (1 + length fields)
-    else (if code == 185 then Some (1 + length fields)
-    else (if code == 186 then Some 2
-    else (if code == 187 then Some (1 + length fields)
-    else (if code == 188 then Some (1 + length fields) else None)))))))))))
+    if code == STATUS_ANSWER then Some 8
+    else (if code == LOAD_COUNTER_ANSWER then Some 2
+    else (if code == CONFIGURE_INPUTS_ANSWER then Some 2
+    else (if code == RAW_INPUTS_ANSWER then Some 13
+    else (if code == FILTERED_INPUTS_ANSWER then Some 13
+    else (if code == BLOCK_ANSWER then Some (block_fields_length fields)
+    else (if code == SET_OUTPUTS_ANSWER then Some (1 + length fields)
+    else (if code == TRACK_INPUTS_ANSWER then Some (1 + length fields)
+    else (if code == COMPLEX_OUTPUTS_ANSWER then Some (1 + length fields)
+    else (if code == WATCHDOG_ANSWER then Some 2
+    else (if code == CONTROLLER_ID_ANSWER then Some (1 + length fields)
+    else (if code == IDENTIFY_ANSWER then Some (1 + length fields) else None)))))))))))
 
 -- The same where block answers alone are read: every other type is unknown.
 abbrev pub block_length : List ℕ → Option ℕ
 block_length [] = None
-block_length (code ∷ fields) = if code == 182 then Some (block_fields_length fields) else None
+block_length (code ∷ fields) = if code == BLOCK_ANSWER then Some (block_fields_length fields) else None

@@ -8,25 +8,26 @@ use Rattle.fio_message.specs.declared.commands.Command.{Command}
 use Rattle.fio_message.specs.declared.commands.Command.TheVariants.{Status, LoadCounter, ConfigureInputs, RawInputs, FilteredInputs, Poll, SetOutputs, Watchdog, Identify, Other}
 use Rattle.fio_message.specs.declared.commands.OtherCommand.{OtherCommand}
 use Rattle.fio_message.specs.declared.commands.OtherCommand.TheVariants.{TrackInputs, ComplexOutputs, ControllerId}
+use Rattle.fio_message.specs.declared.types.TheConstants.{STATUS, LOAD_COUNTER, CONFIGURE_INPUTS, RAW_INPUTS, FILTERED_INPUTS, POLL, SET_OUTPUTS, TRACK_INPUTS, COMPLEX_OUTPUTS, WATCHDOG, CONTROLLER_ID, IDENTIFY}
 use Rattle.fio_message.specs.declared.limits.TheConstants.{BODY_OCTETS, CONFIGURATION_ITEMS}
 
 -- the type of a command that has a body only
 abbrev pub other_command_code : OtherCommand → ℕ
-other_command_code TrackInputs = 56
-other_command_code ComplexOutputs = 57
-other_command_code ControllerId = 59
+other_command_code TrackInputs = TRACK_INPUTS
+other_command_code ComplexOutputs = COMPLEX_OUTPUTS
+other_command_code ControllerId = CONTROLLER_ID
 
 -- the type of a command, its first octet
 abbrev pub command_code : Command → ℕ
-command_code (Status _) = 49
-command_code (LoadCounter _) = 50
-command_code (ConfigureInputs _) = 51
-command_code RawInputs = 52
-command_code FilteredInputs = 53
-command_code (Poll _) = 54
-command_code (SetOutputs _ _) = 55
-command_code (Watchdog _) = 58
-command_code Identify = 60
+command_code (Status _) = STATUS
+command_code (LoadCounter _) = LOAD_COUNTER
+command_code (ConfigureInputs _) = CONFIGURE_INPUTS
+command_code RawInputs = RAW_INPUTS
+command_code FilteredInputs = FILTERED_INPUTS
+command_code (Poll _) = POLL
+command_code (SetOutputs _ _) = SET_OUTPUTS
+command_code (Watchdog _) = WATCHDOG
+command_code Identify = IDENTIFY
 command_code (Other kind _) = other_command_code kind
 
 -- The octets after the type: a number most significant octet first, a count before its items, the
@@ -73,15 +74,15 @@ pub record SpellsCommand (command : Command) (octets : List ℕ) : Type 0 where
 abbrev pub command_length : List ℕ → Option ℕ
 command_length [] = None
 command_length (code ∷ fields) =
-    if code == 49 then Some 2
-    else (if code == 50 then Some 5
-    else (if code == 51 then Some (2 + 3 * slice_index_or fields 0 0)
-    else (if code == 52 then Some 1
-    else (if code == 53 then Some 1
-    else (if code == 54 then Some 2
-    else (if code == 55 then Some 17
-    else (if code == 56 then Some (1 + length fields)
-    else (if code == 57 then Some (1 + length fields)
-    else (if code == 58 then Some 2
-    else (if code == 59 then Some (1 + length fields)
-    else (if code == 60 then Some 1 else None)))))))))))
+    if code == STATUS then Some 2
+    else (if code == LOAD_COUNTER then Some 5
+    else (if code == CONFIGURE_INPUTS then Some (2 + 3 * slice_index_or fields 0 0)
+    else (if code == RAW_INPUTS then Some 1
+    else (if code == FILTERED_INPUTS then Some 1
+    else (if code == POLL then Some 2
+    else (if code == SET_OUTPUTS then Some 17
+    else (if code == TRACK_INPUTS then Some (1 + length fields)
+    else (if code == COMPLEX_OUTPUTS then Some (1 + length fields)
+    else (if code == WATCHDOG then Some 2
+    else (if code == CONTROLLER_ID then Some (1 + length fields)
+    else (if code == IDENTIFY then Some 1 else None)))))))))))

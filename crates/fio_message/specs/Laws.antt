@@ -85,6 +85,7 @@ pub record StatusReadsBack (more lost again out_of_sequence : Bool) : Type 0 whe
 abbrev pub ErrorReadsBack : Type 0
 ErrorReadsBack = (error : Bool) → status.says_error (error_status error) ≡ error
 
+-- the status of a watchdog answer reads back as whether a timeout had been set before
 abbrev pub SetBeforeReadsBack : Type 0
 SetBeforeReadsBack = (before : Bool) → status.says_set_before (set_before_status before) ≡ before
 

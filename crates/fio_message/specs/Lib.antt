@@ -6,6 +6,7 @@ pub mod Status
 pub mod Refusals
 pub mod Reading
 pub mod Decoding
+pub mod Views
 pub mod Blocks
 pub mod KeptBlock
 pub mod Texts

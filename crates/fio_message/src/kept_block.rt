@@ -1,31 +1,33 @@
 //! The octets of a block answer that are kept, so that they can be sent again.
 ghost use Rattle.std.specs.Prelude.{◌≡◌, ◌≤◌, ◌+◌, ◌++◌, [], length, take, Some, None};
 ghost use Rattle.fio_message.specs.Blocks.{Block, SpellsBlock};
-ghost use Rattle.fio_message.specs.KeptBlock.{kept_octets, block_octets, sent_again, marked_octets};
+ghost use Rattle.fio_message.specs.KeptBlock.{kept_octets, no_block, block_octets, sent_again, marked_octets};
 
 use crate::fields::EntryOctets;
 use crate::frames::Frame;
 use crate::limits::{BLOCK_ENTRIES, FRAME_OCTETS};
 use crate::status::BlockStatus;
-
-/// The type of a block answer.
-const BLOCK: u8 = 182;
+use crate::types::BLOCK_ANSWER;
 
 /// The octets of one block answer, or none. It takes no memory of its own, so C may hold one.
 #[derive(Debug, Drop)]
 #[repr(C)]
 pub struct KeptBlock {
     octets: [u8; FRAME_OCTETS],
+    /// It makes `length` aligned.
+    reserved: u8,
     length: u16,
 }
 
 impl KeptBlock {
     /// No block.
     pub fn new() -> KeptBlock
-        ensures { kept_octets result ≡ [] }
+        ensures none { kept_octets result ≡ [] }
+        ensures cleared { result ≡ no_block }
     {
         KeptBlock {
             octets: [0; FRAME_OCTETS],
+            reserved: 0,
             length: 0,
         }
     }
@@ -71,7 +73,7 @@ impl KeptBlock {
         let count = (first.len() + second.len()) as u8;
         let [a, b, c, d] = stamp.to_be_bytes();
         self.length = 0;
-        self.append(&[BLOCK, number, count]);
+        self.append(&[BLOCK_ANSWER, number, count]);
         self.append(first.as_flattened());
         self.append(second.as_flattened());
         self.append(&[status.octet(), a, b, c, d]);

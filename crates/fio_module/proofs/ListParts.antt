@@ -39,3 +39,20 @@ get_in_drop zero xs k x is = let same : 0 + k ≡ k = omega arith in ap (slice_g
 get_in_drop (suc n) [] k x is = absurd (cc is)
 get_in_drop (suc n) (y ∷ xs) k x is =
     let same : suc n + k ≡ suc (n + k) = omega arith in ap (slice_get (y ∷ xs)) same ∙ get_in_drop n xs k x is
+
+-- what stands in one of two lists stands in both, and the last element stands at the end
+pub get_from_front : {A : Type 0} (xs ys : List A) (k : ℕ) (x : A) → slice_get xs k ≡ Some x → slice_get (xs ++ ys) k ≡ Some x
+get_from_front [] ys k x is = absurd (cc is)
+get_from_front (z ∷ xs) ys zero x is = is
+get_from_front (z ∷ xs) ys (suc k) x is = get_from_front xs ys k x is
+
+pub get_from_back : {A : Type 0} (xs ys : List A) (k : ℕ) (x : A) → slice_get ys k ≡ Some x
+    → slice_get (xs ++ ys) (length xs + k) ≡ Some x
+get_from_back [] ys k x is = let same : 0 + k ≡ k = omega arith in ap (slice_get ys) same ∙ is
+get_from_back (z ∷ xs) ys k x is =
+    let same : length (z ∷ xs) + k ≡ suc (length xs + k) = omega arith in
+    ap (slice_get (z ∷ (xs ++ ys))) same ∙ get_from_back xs ys k x is
+
+pub get_last : {A : Type 0} (xs : List A) (x : A) → slice_get (xs ++ x ∷ []) (length xs) ≡ Some x
+get_last [] x = refl
+get_last (y ∷ xs) x = get_last xs x

@@ -3,6 +3,7 @@ use Rattle.std.specs.Prelude.{ℕ, zero, suc, ◌+◌, ◌*◌, ◌^◌, ◌==�
 use Rattle.fio_message.specs.Bits.{is_set, bit_of}
 use Rattle.fio_message.specs.declared.commands.Command.TheVariants.{Status, Watchdog, SetOutputs}
 use Rattle.fio_module.specs.declared.outputs.Outputs.{Outputs}
+use Rattle.fio_module.specs.declared.limits.TheConstants.{LEAST_TIMEOUT, MOST_TIMEOUT}
 use Rattle.fio_module.specs.Life.{Raised, Commanded, Life}
 
 -- whether the flag in this bit is up: of the start, the raises and the clearings that hold the bit,
@@ -27,7 +28,7 @@ flags_of life = word_of 8 (λ place. is_flag_up place life)
 -- the latest timeout of the watchdog in ms, at least 10 and at most 100; None before the first
 abbrev pub watchdog_of : Life → Option ℕ
 watchdog_of [] = None
-watchdog_of (Commanded (Watchdog timeout) ∷ life) = Some (min 100 (max 10 timeout))
+watchdog_of (Commanded (Watchdog timeout) ∷ life) = Some (min MOST_TIMEOUT (max LEAST_TIMEOUT timeout))
 watchdog_of (other ∷ life) = watchdog_of life
 
 -- what the latest command to set outputs set, all 0 before the first

@@ -53,6 +53,7 @@ pub record KeepsUp (settings : Settings) (filter scans : ℕ) (life later : Life
       AllByRecursion (IsYoung (scans_behind scans later life) filter (later ++ life))
       (waiting_of settings (later ++ life))
 
+-- Where rounds keep up, the module keeps up at each time.
 abbrev pub KeptUpKeepsUp : Type 0
 KeptUpKeepsUp =
     (settings : Settings) (filter scans most : ℕ) (life later : Life) →

@@ -15,6 +15,7 @@ pub data Event : Type 0 where
   Received : (octets : List ℕ) → Event
   Restart : Event
 
+-- all that has reached a module since it was made, newest first
 abbrev pub History : Type 0
 History = List Event
 
@@ -59,6 +60,7 @@ counter_of life = counting.counter (counter_events life)
 abbrev pub scans_of : Life → ℕ
 scans_of life = counting.ticks_in (counter_events life)
 
+-- how many line syncs of a life loaded the counter
 abbrev pub loads_of : Life → ℕ
 loads_of life = counting.loads_in (counter_events life)
 

@@ -1,13 +1,11 @@
 -- The reply that octets get after a history.
-use Rattle.std.specs.Prelude.{◌≡◌, ℕ, false, not, List, [], ◌∷◌, Option, Some, None, option_map, is_some}
-use Rattle.std.specs.Int.{w32, to_be_bytes}
+use Rattle.std.specs.Prelude.{◌≡◌, ℕ, false, not, List, ◌∷◌, Option, Some, None, option_map, is_some}
 use Rattle.arrayvec.specs.ArrayVec.{ArrayVec}
 use Rattle.fio_message.specs.declared.answers.Answer.{Answer}
 use Rattle.fio_message.specs.declared.answers.Answer.TheVariants as answers
-use Rattle.fio_message.specs.declared.answers.OtherAnswer.TheVariants as other_answers
 use Rattle.fio_message.specs.declared.commands.Command.{Command}
 use Rattle.fio_message.specs.declared.commands.Command.TheVariants.{Status, LoadCounter, ConfigureInputs, Poll, Watchdog, RawInputs, FilteredInputs, SetOutputs, Identify, Other}
-use Rattle.fio_message.specs.Answers.{SpellsAnswer}
+use Rattle.fio_message.specs.Answers.{SpellsAnswer, outputs_answer, identity_answer}
 use Rattle.fio_message.specs.Status.{error_status, set_before_status}
 use Rattle.fio_message.specs.Decoding.{command_in}
 use Rattle.fio_input.specs.FilterHistory.{all_present, raw_levels, input_state}
@@ -34,15 +32,11 @@ answer_to settings life FilteredInputs =
     Some (answers.FilteredInputs inputs (counter_of life))
 answer_to settings life (Poll number) =
     option_map answer_of (latest_sending settings (Commanded (Poll number) ∷ life))
--- the octet 0 and the four octets of the stamp
-answer_to settings life (SetOutputs levels controls) =
-    let octets = 0 ∷ to_be_bytes w32 (counter_of life) in
-    Some (answers.Other other_answers.SetOutputs (record { items = octets }))
+answer_to settings life (SetOutputs levels controls) = Some (outputs_answer (counter_of life))
 -- Y is set where the watchdog had been set before
 answer_to settings life (Watchdog timeout) =
     Some (answers.Watchdog (set_before_status (is_some (watchdog_of life))))
-answer_to settings life Identify =
-    Some (answers.Other other_answers.Identify (record { items = settings.id ∷ [] }))
+answer_to settings life Identify = Some (identity_answer settings.id)
 -- 56, 57 and 59 get none
 answer_to settings life (Other kind body) = None
 

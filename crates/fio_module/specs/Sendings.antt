@@ -48,6 +48,7 @@ sending_of block number out_of_sequence =
       stamp = block.stamp;
     }
 
+-- the next block as it is sent first, for a new poll with this number
 abbrev pub first_sending : Settings → Life → ℕ → Sending
 first_sending settings life number =
     sending_of (next_block settings life) number (is_out_of_sequence (latest_poll life) number)

@@ -10,6 +10,7 @@ pub record Settings : Type 0 where
   pub per_block : ℕ
   pub waiting : ℕ
 
+-- the settings of a module with this identification and these limits
 abbrev pub settings_with : ℕ → Limits → Settings
 settings_with id limits =
     record { id = id; per_block = limits.per_block; waiting = limits.waiting }

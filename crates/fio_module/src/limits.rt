@@ -1,4 +1,4 @@
-//! How many entries a block has, and how many may wait.
+//! How many entries a block has, how many may wait, and how long a watchdog waits.
 use fio_message::BLOCK_ENTRIES;
 use std::marker::Model;
 
@@ -8,6 +8,12 @@ pub const STANDARD_WAITING: u16 = 1024;
 
 /// The most that a caller may give (own profile).
 pub const MOST_WAITING: u16 = 8192;
+
+/// The least timeout of the watchdog in milliseconds: less is taken as this (TEES 2009).
+pub const LEAST_TIMEOUT: u8 = 10;
+
+/// The most: more is taken as this (TEES 2009).
+pub const MOST_TIMEOUT: u8 = 100;
 
 /// The limits of a module: the most entries of one block, 1 to 255, and the most entries that wait
 /// for a poll, 1,024 to 8,192 (own profile; TEES 2009 has 255 and 1,024).

@@ -26,8 +26,10 @@ pub struct ModuleState {
     watchdog: u8,
     /// 1 where an entry was pushed out since the newest block was made, else 0.
     pushed_out: u8,
-    outputs: Outputs,
+    /// It makes the fields below aligned.
+    reserved: [u8; 7],
     counter: Counter,
+    outputs: Outputs,
     filters: Filters,
     sent: KeptBlock,
 }
@@ -41,12 +43,13 @@ impl ModuleState {
     ghost use Rattle.fio_module.specs.Settings.{Settings, settings_with};
     ghost use Rattle.fio_module.specs.Life.{History, Scan, LineSync, Raise, Restart, life_of, counter_of, filter_events};
     ghost use Rattle.fio_module.specs.Flags.{watchdog_of, outputs_of};
-    ghost use Rattle.fio_module.specs.State.{IsAfter, IsAfterHistory};
+    ghost use Rattle.fio_module.specs.State.{IsAfter, IsAfterHistory, state_at_start};
 
     /// A module with these limits whose ring is empty.
     #[tactic(auto, unfolding(crate::specs::Flags::word_of))]
     pub fn new(id: u8, limits: Limits) -> ModuleState
-        ensures { IsAfter (settings_with id limits) result (buffer [] limits.waiting) [] }
+        ensures life { IsAfter (settings_with id limits) result (buffer [] limits.waiting) [] }
+        ensures cleared { result ≡ state_at_start id limits.per_block }
     {
         ModuleState {
             id,
@@ -54,8 +57,9 @@ impl ModuleState {
             flags: RESET,
             watchdog: 0,
             pushed_out: 0,
-            outputs: Outputs::OFF,
+            reserved: [0; 7],
             counter: Counter::new(),
+            outputs: Outputs::OFF,
             filters: Filters::new(),
             sent: KeptBlock::new(),
         }

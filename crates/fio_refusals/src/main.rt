@@ -1,6 +1,6 @@
 //! Makes each call that can allocate once, and reports of each whether its answer was right. Where a growth
 //! of memory is refused to the program, the one call that meets it has to say so and to leave all as it was.
-//! `tests/refused-memory` runs it once for each growth, with that one refused.
+//! `tests/refused-memory.py` runs it once for each growth, with that one refused.
 #![tactic(auto)]
 
 mod answers;
@@ -32,7 +32,7 @@ fn main(rt: HostRuntime) -> ExitCode {
     ExitCode::from(u8::from(!rows.are_right))
 }
 
-/// A line of output for each call, written before the next call is made: `tests/refused-memory` sees by it
+/// A line of output for each call, written before the next call is made: `tests/refused-memory.py` sees by it
 /// which call met the refusal.
 #[derive(Drop)]
 struct Rows<'a> {

@@ -90,7 +90,7 @@ fn expect_rows(rt: &impl Abort, alloc: Global, rows: &[Row<'_>]) {
     }
 }
 
-/// Worked examples. The items of a record, and blocks heard again, are in the reports of `tests/scripts`.
+/// Worked examples. The items of a record, and blocks heard again, are in the reports of `tests/scripts.py`.
 #[test]
 fn hears_octets(rt: HostRuntime) {
     expect_rows(&rt, rt.alloc(), &ROWS);

@@ -1,4 +1,4 @@
-//! Tests of the public calls of the six libraries, for what no clause says: worked examples, that calls
+//! Tests of the public calls of the libraries, for what no clause says: worked examples, that calls
 //! succeed where memory is there, and failing readers and writers. Refused memory is the matter of the crate
 //! `fio_refusals`.
 //!

@@ -5,15 +5,18 @@ use Rattle.std.proofs.lemmas.Option.{same_Some}
 use Rattle.std.specs.Result.{result_err}
 use Rattle.fio_world.specs.Collected.{collected, with_first}
 use Rattle.fio_world.specs.Lines.{lines_of, numbered, with_front, is_skipped}
-use Rattle.fio_tool.specs.Transcript.{TranscriptLine, frame_in, line_in, transcript_in}
-use Rattle.fio_tool.specs.TranscriptFacts.{facts_at, rule_broken_by, said_by_frame, said_on, with_line}
-use Rattle.fio_tool.specs.TranscriptRules.{verdict_in, verdict_of, verdict_on}
-use Rattle.fio_tool.specs.declared.transcript.facts.Facts.{Facts}
+use Rattle.fio_check.specs.Facts.{facts_at, facts_with}
+use Rattle.fio_check.specs.Lines.{TranscriptLine}
+use Rattle.fio_check.specs.Observations.{observation_in, observation_on}
+use Rattle.fio_check.specs.Rules.{first_broken}
+use Rattle.fio_check.specs.Verdicts.{verdict_on}
+use Rattle.fio_check.specs.declared.facts.Facts.{Facts}
+use Rattle.fio_check.specs.declared.observation.Observation.{Observation}
+use Rattle.fio_check.specs.declared.verdict.Verdict.{Verdict}
+use Rattle.fio_check.specs.declared.verdict.Verdict.TheVariants.{Good, Broken}
+use Rattle.fio_check.proofs.BreachesSoFar.{StandsSoFar, stands_after_breach, stands_with_line, verdict_so_far}
+use Rattle.fio_tool.specs.Transcript.{frame_in, line_in, observation_of_frame, transcript_in, verdict_in, verdict_of}
 use Rattle.fio_tool.specs.declared.transcript.lines.TraceError.{TraceError}
-use Rattle.fio_tool.specs.declared.transcript.said.Said.{Said}
-use Rattle.fio_tool.specs.declared.transcript.verdict.Verdict.{Verdict}
-use Rattle.fio_tool.specs.declared.transcript.verdict.Verdict.TheVariants.{Good, Broken}
-use Rattle.fio_tool.proofs.BreachesSoFar.{StandsSoFar, stands_after_breach, stands_with_line, verdict_so_far}
 
 -- ---- a text has no more lines than octets
 
@@ -73,20 +76,20 @@ pub record IsCourse (lines : List TranscriptLine) (frames : ℕ) (left : List (�
 next-stands : (lines : List TranscriptLine) (place : ℕ) (line : TranscriptLine) → slice_get lines place ≡ Some line
     → (facts facts' : Facts) (breach breach' : Option Verdict)
     → (breach ≢ None → breach' ≡ breach)
-    → (breach ≡ None → breach' ≡ option_map (Broken line.number) (rule_broken_by facts (said_on line)))
-    → (breach ≡ None → breach' ≡ None → facts' ≡ with_line facts (said_on line))
+    → (breach ≡ None → breach' ≡ option_map (Broken line.number) (first_broken facts (observation_on line)))
+    → (breach ≡ None → breach' ≡ None → facts' ≡ facts_with facts (observation_on line))
     → StandsSoFar lines place facts breach → StandsSoFar lines (suc place) facts' breach'
 next-stands lines place line here facts facts' (Some verdict) breach' same broken added so_far =
     let is : breach' ≡ Some verdict = same (λ e. absurd (cc)) in
     rw is (stands_after_breach lines place facts facts' verdict so_far)
 next-stands lines place line here facts facts' None breach' same broken added so_far =
     let is = broken refl in
-    rw is (stands_with_line lines place facts line facts' (rule_broken_by facts (said_on line)) here refl
+    rw is (stands_with_line lines place facts line facts' (first_broken facts (observation_on line)) here refl
     (λ holds. added refl (is ∙ ap (option_map (Broken line.number)) holds)) so_far)
 
 -- the frame of a line that says something
-pub framed : (found : Option (Bool × List ℕ)) (said : Said) → Some said ≡ option_map said_by_frame found
-    → (from_cpu : Bool) × (octets : List ℕ) × (found ≡ Some (from_cpu, octets)) × (said ≡ said_by_frame (from_cpu, octets))
+pub framed : (found : Option (Bool × List ℕ)) (said : Observation) → Some said ≡ option_map observation_of_frame found
+    → (from_cpu : Bool) × (octets : List ℕ) × (found ≡ Some (from_cpu, octets)) × (said ≡ observation_of_frame (from_cpu, octets))
 framed (Some (from_cpu, octets)) said is = (from_cpu, octets, refl, same_Some _ _ is)
 framed None said is = absurd (cc)
 
@@ -102,18 +105,18 @@ first_course text lines facts reads kept =
     record { left_is = reads; within = omega arith; stands = record { found = refl; kept = λ none. kept } }
 
 -- one frame more
-pub next_course : (lines : List TranscriptLine) (frames number : ℕ) (text : List ℕ) (left : List (ℕ × List ℕ)) (line : TranscriptLine) (said : Said) (facts facts' : Facts) (breach breach' : Option Verdict)
-    → line_in (number, text) ≡ Ok line → line.number ≡ number → said ≡ said_on line
+pub next_course : (lines : List TranscriptLine) (frames number : ℕ) (text : List ℕ) (left : List (ℕ × List ℕ)) (line : TranscriptLine) (said : Observation) (facts facts' : Facts) (breach breach' : Option Verdict)
+    → line_in (number, text) ≡ Ok line → line.number ≡ number → said ≡ observation_on line
     → IsCourse lines frames ((number, text) ∷ left) facts breach
     → (breach ≢ None → breach' ≡ breach)
-    → (breach ≡ None → breach' ≡ option_map (Broken number) (rule_broken_by facts said))
-    → (breach ≡ None → breach' ≡ None → facts' ≡ with_line facts said)
+    → (breach ≡ None → breach' ≡ option_map (Broken number) (first_broken facts said))
+    → (breach ≡ None → breach' ≡ None → facts' ≡ facts_with facts said)
     → IsCourse lines (frames + 1) left facts' breach'
 next_course lines frames number text left line said facts facts' breach breach' reads numbered says course same broken added =
     let first = first-left line (collected (map line_in left)) (drop frames lines) (rw reads at course.left_is) in
     let cut = dropped-first lines frames line first.0 first.2 in
-    let broken_by = λ (none : breach ≡ None). broken none ∙ ap (λ s. option_map (Broken number) (rule_broken_by facts s)) says in
-    let added_by = λ (none : breach ≡ None) (holds : breach' ≡ None). added none holds ∙ ap (with_line facts) says in
+    let broken_by = λ (none : breach ≡ None). broken none ∙ ap (λ s. option_map (Broken number) (first_broken facts s)) says in
+    let added_by = λ (none : breach ≡ None) (holds : breach' ≡ None). added none holds ∙ ap (facts_with facts) says in
     record {
       left_is = first.1 ∙ ap Ok (sym cut.1) ∙ ap (λ n. Ok (drop n lines)) (sym (add-one frames));
       within = omega (arith, cut.2);

@@ -1,12 +1,6 @@
-pub mod PlacesAbove
-pub mod MessagesSaid
-pub mod AnsweredPolls
-pub mod KeptFacts
-pub mod Verdicts
 pub mod TranscriptLemmas
 pub mod CommandLineLemmas
 pub mod BlocksSpelled
 pub mod LongFrames
-pub mod BreachesSoFar
 pub mod CheckedLines
 pub mod FramesShown

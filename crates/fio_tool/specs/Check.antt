@@ -2,31 +2,21 @@
 use Rattle.std.specs.Prelude.{ℕ, Bool, true, false, List, ◌++◌, ◌&&◌, codes, decimal, not, if◌then◌else◌, Result, Ok, Err}
 use Rattle.fio_message.specs.Texts.{memory_text}
 use Rattle.fio_world.specs.Faults.{bad_line_text}
+use Rattle.fio_check.specs.Rules.{rule_name}
+use Rattle.fio_check.specs.declared.verdict.Verdict.{Verdict}
+use Rattle.fio_check.specs.declared.verdict.Verdict.TheVariants.{Good, Broken}
 use Rattle.fio_tool.specs.InputFaults.{is_too_long, too_long_text}
-use Rattle.fio_tool.specs.TranscriptRules.{verdict_in}
+use Rattle.fio_tool.specs.Transcript.{verdict_in}
 use Rattle.fio_tool.specs.declared.transcript.lines.TraceError.{TraceError}
 use Rattle.fio_tool.specs.declared.transcript.lines.TraceError.TheVariants.{BadLine, Memory}
-use Rattle.fio_tool.specs.declared.transcript.rules.Rule.{Rule}
-use Rattle.fio_tool.specs.declared.transcript.rules.Rule.TheVariants.{Readable, Pair, Number, Advance, Same, Sequence, Limits, Rest, Refusal}
-use Rattle.fio_tool.specs.declared.transcript.verdict.Verdict.{Verdict}
-use Rattle.fio_tool.specs.declared.transcript.verdict.Verdict.TheVariants.{Good, Broken}
 
-abbrev pub rule_name : Rule → List ℕ
-rule_name Readable = codes "readable"
-rule_name Pair = codes "pair"
-rule_name Number = codes "number"
-rule_name Advance = codes "advance"
-rule_name Same = codes "same"
-rule_name Sequence = codes "sequence"
-rule_name Limits = codes "limits"
-rule_name Rest = codes "rest"
-rule_name Refusal = codes "refusal"
-
+-- the line for a verdict
 abbrev pub verdict_text : Verdict → List ℕ
 verdict_text (Good frames) = codes "good " ++ (decimal frames ++ codes " frames\n")
 verdict_text (Broken number rule) =
     codes "line " ++ (decimal number ++ (codes " breaks " ++ (rule_name rule ++ codes "\n")))
 
+-- a verdict that no rule is broken
 abbrev pub is_good : Verdict → Bool
 is_good (Good frames) = true
 is_good (Broken number rule) = false
@@ -41,6 +31,7 @@ abbrev pub transcript_text : Result Verdict TraceError → List ℕ
 transcript_text (Ok verdict) = verdict_text verdict
 transcript_text (Err fault) = trace_error_text fault ++ codes "\n"
 
+-- a transcript that breaks no rule
 abbrev pub is_transcript_good : Result Verdict TraceError → Bool
 is_transcript_good (Ok verdict) = is_good verdict
 is_transcript_good (Err fault) = false

@@ -21,6 +21,7 @@ program =
     on_top (λ top. record top { disable_help_subcommand = true; has_version = true })
     (new_app (codes "fio2070"))
 
+-- a command line with the subcommand of one tool more
 abbrev pub with_tool : App → Tool → App
 with_tool app tool = with_subcommand app (new_shape (name_of tool))
 

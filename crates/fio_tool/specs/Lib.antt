@@ -8,9 +8,7 @@ pub mod ShowCommands
 pub mod ShowAnswers
 pub mod Simulate
 pub mod Check
-pub mod TranscriptRules
 pub mod Transcript
-pub mod TranscriptFacts
 pub mod TranscriptLaws
 pub mod InputFaults
 pub mod Streams

@@ -10,10 +10,10 @@ use Rattle.fio_tool.specs.Show.{show_text, is_show_good}
 use Rattle.fio_tool.specs.Simulate.{simulate_text, is_simulate_good}
 use Rattle.fio_tool.specs.Check.{check_text, is_check_good}
 use Rattle.fio_tool.specs.Streams.{TakesInput}
-use Rattle.fio_tool.specs.declared.program.Ending.{Ending}
-use Rattle.fio_tool.specs.declared.program.Ending.TheVariants.{Good, Bad}
-use Rattle.fio_tool.specs.declared.program.ToolFault.{ToolFault}
-use Rattle.fio_tool.specs.declared.program.ToolFault.TheVariants.{Read, Write, Memory}
+use Rattle.fio_tool.specs.declared.endings.Ending.{Ending}
+use Rattle.fio_tool.specs.declared.endings.Ending.TheVariants.{Good, Bad}
+use Rattle.fio_tool.specs.declared.endings.ToolFault.{ToolFault}
+use Rattle.fio_tool.specs.declared.endings.ToolFault.TheVariants.{Read, Write, Memory}
 use Rattle.fio_tool.specs.declared.tools.Tool.{Tool}
 use Rattle.fio_tool.specs.declared.tools.Tool.TheVariants.{Show, Simulate, Check}
 
@@ -29,6 +29,7 @@ is_program_good Show input = is_show_good input
 is_program_good Simulate input = is_simulate_good input
 is_program_good Check input = is_check_good input
 
+-- the ending of a tool that found no fault, or one
 abbrev pub ending_of : Bool → Ending
 ending_of true = Good
 ending_of false = Bad

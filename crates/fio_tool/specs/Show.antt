@@ -15,9 +15,11 @@ abbrev pub shown : {M : Type 0} → (M → List ℕ) → Result M DecodeError �
 shown text (Ok message) = Ok (text message)
 shown text (Err fault) = Err (fault_text fault)
 
+-- the lines of the command that octets spell, or the words of their fault
 abbrev pub shown_command : List ℕ → Result (List ℕ) (List ℕ)
 shown_command octets = shown command_text (decoded_command octets)
 
+-- the lines of the answer that octets spell, or the words of their fault
 abbrev pub shown_answer : List ℕ → Result (List ℕ) (List ℕ)
 shown_answer octets = shown answer_text (decoded_answer octets)
 
@@ -26,6 +28,7 @@ abbrev pub shown_frame : List ℕ → Result (List ℕ) (List ℕ)
 shown_frame octets =
     if nat_le 128 (slice_index_or octets 0 0) then shown_answer octets else shown_command octets
 
+-- the lines for the octets of a line, or why there are none
 abbrev pub shown_octets : Option (List ℕ) → Result (List ℕ) (List ℕ)
 shown_octets None = Err (codes "bad line")
 shown_octets (Some octets) = shown_frame octets
@@ -43,6 +46,7 @@ text_at number (Err fault) = line_fault_text number fault
 abbrev pub line_text : ℕ × List ℕ → List ℕ
 line_text line = text_at line.0 (shown_line line.1)
 
+-- a line whose octets are a message
 abbrev pub is_line_good : ℕ × List ℕ → Bool
 is_line_good line = is_ok (shown_line line.1)
 

@@ -18,6 +18,7 @@ errors_text receive_errors transmit_errors stamp =
     ++ (codes " transmit " ++ (decimal transmit_errors
     ++ (codes " stamp " ++ (decimal stamp ++ codes "\n")))))
 
+-- the line for an answer with the status flags
 abbrev pub flags_text : ℕ → ℕ → ℕ → ℕ → List ℕ
 flags_text flags receive_errors transmit_errors stamp =
     codes "status flags "
@@ -39,6 +40,7 @@ entry_text stamp entry =
     codes "  "
     ++ entry_line entry.input entry.level entry.stamp (widened stamp entry.stamp)
 
+-- the first line for a block answer
 abbrev pub block_head_text : ℕ → ℕ → ℕ → ℕ → List ℕ
 block_head_text block count status stamp =
     codes "block " ++ (decimal block
@@ -46,10 +48,12 @@ block_head_text block count status stamp =
     ++ (codes " status " ++ (octet_digits status
     ++ (codes " stamp " ++ (decimal stamp ++ codes "\n")))))))
 
+-- the lines for a block answer: the first, and one for each entry
 abbrev pub block_text : ℕ → List Entry → ℕ → ℕ → List ℕ
 block_text block entries status stamp =
     block_head_text block (length entries) status stamp ++ flat_map (entry_text stamp) entries
 
+-- the lines for an answer
 abbrev pub answer_text : Answer → List ℕ
 answer_text (Status flags receive_errors transmit_errors stamp) =
     flags_text flags receive_errors transmit_errors stamp

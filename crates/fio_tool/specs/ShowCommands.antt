@@ -20,13 +20,16 @@ item_text item =
     ++ (codes " leading " ++ (decimal item.leading
     ++ (codes " trailing " ++ (decimal item.trailing ++ codes "\n")))))))
 
+-- the line for a command that clears status flags
 abbrev pub clearing_text : ℕ → List ℕ
 clearing_text clear = codes "status clear " ++ (octet_digits clear ++ codes "\n")
 
+-- the lines for a configuration: the first, and one for each item
 abbrev pub configuration_text : List InputItem → List ℕ
 configuration_text items =
     number_text (codes "configure inputs ") (length items) ++ flat_map item_text items
 
+-- the line for a command that sets outputs
 abbrev pub outputs_text : List ℕ → List ℕ → List ℕ
 outputs_text levels controls =
     codes "set outputs data " ++ (digits_of levels
@@ -42,6 +45,7 @@ abbrev pub other_text : ℕ → List ℕ → List ℕ
 other_text code body =
     codes "other " ++ (decimal code ++ (codes " body " ++ (body_text body ++ codes "\n")))
 
+-- the lines for a command
 abbrev pub command_text : Command → List ℕ
 command_text (Status clear) = clearing_text clear
 command_text (LoadCounter load) = number_text (codes "load counter ") load

@@ -11,6 +11,7 @@ abbrev pub script_text : Result Scenario ScriptError → List ℕ
 script_text (Ok scenario) = (report_of scenario).text
 script_text (Err fault) = script_error_text fault ++ codes "\n"
 
+-- a script whose events are all done
 abbrev pub is_script_good : Result Scenario ScriptError → Bool
 is_script_good (Ok scenario) = (report_of scenario).good
 is_script_good (Err fault) = false

@@ -10,13 +10,13 @@
 //! The definitions stand in `specs/`. `Program` comes first: the text that each tool writes for an
 //! input, and the exit status; below it the command line (`CommandLine`). The three texts are `Show`
 //! above the lines of each message (`ShowCommands`, `ShowAnswers`); `Simulate`; and `Check`
-//! above the rules of transcripts and the verdict (`TranscriptRules`), the lines of a transcript and
-//! what they say (`Transcript`), and what is kept while one is checked (`TranscriptFacts`). What is
-//! reported of an input with a fault is in `InputFaults`, what is read and written in `Streams`. The
+//! above the lines of a transcript (`Transcript`), whose rules and verdict are those of `fio_check`.
+//! What is reported of an input with a fault is in `InputFaults`, what is read and written in `Streams`. The
 //! laws are the contracts of the modules `laws` and `transcript_laws`.
 #![tactic(auto)]
 
 mod command_line;
+mod endings;
 mod help;
 pub mod laws;
 mod program;
@@ -27,7 +27,9 @@ mod transcript;
 pub mod transcript_laws;
 
 pub use command_line::choose;
-pub use program::{Ending, ToolFault, run_program};
+pub use endings::{Ending, ToolFault};
+pub use fio_check::{Line, Rule, Verdict, check_trace};
+pub use program::run_program;
 pub use text::{check_text, show_text, simulate_text};
 pub use tools::{Tool, check, show, simulate};
-pub use transcript::{Line, Rule, TraceError, Verdict, check_trace, read_trace};
+pub use transcript::{TraceError, read_trace};

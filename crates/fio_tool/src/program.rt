@@ -1,90 +1,22 @@
-//! The program, but for what it is given by `main`: how a tool ends, the exit statuses, and the lines
-//! of the program itself.
-ghost use Rattle.std.specs.Prelude.{◌≡◌, ◌≢◌, ◌⊎◌, ◌≤◌, ℕ, List, [], None, Some, length, map};
+//! The program, but for what it is given by `main`: its exit status, and the lines of the program
+//! itself.
+ghost use Rattle.std.specs.Prelude.{◌≡◌, ◌≢◌, ◌⊎◌, ◌≤◌, ℕ, List, [], None, map};
 ghost use Rattle.clap.specs.Faults.{fault_of};
 ghost use Rattle.clap.specs.Values.{kind_of};
 ghost use Rattle.fio_tool.specs.CommandLine.{NamesTool, chosen_name, command_line};
-ghost use Rattle.fio_tool.specs.Program.{HasReported, IsRefusalStatus, fault_line, no_subcommand_line, program_status, refusal_status, status_of, tool_fault_text};
+ghost use Rattle.fio_tool.specs.Program.{HasReported, IsRefusalStatus, fault_line, no_subcommand_line, program_status, refusal_status};
 ghost use Rattle.fio_tool.specs.Streams.{TakesAtMost};
 ghost use Rattle.fio_tool.specs.declared.streams.TheConstants.{MOST_READ};
 ghost use Rattle.fio_tool.specs.declared.tools.Tool.{Tool};
 
 use crate::command_line::choose;
+use crate::endings::{ToolFault, status_of};
 use crate::streams::write_text;
 use crate::tools::{Tool, run_tool};
 use arrayvec::ArrayString;
 use clap::error::ErrorKind;
-use fio_message::Memory;
-use std::alloc::{AllocError, Global};
-use std::fmt;
-use std::fmt::{Display, Formatter};
+use std::alloc::Global;
 use std::io::{Read, Write};
-use thiserror::Error;
-
-/// How a tool ended that wrote its text.
-#[derive(Clone, Copy, Debug, PartialEq, Eq, Hash)]
-pub enum Ending {
-    /// The text reports no fault.
-    Good,
-    /// The text reports a fault, or an input that is too long.
-    Bad,
-}
-
-/// Why a tool ended without its text.
-#[derive(Clone, Copy, Debug, PartialEq, Eq, Hash, Error)]
-pub enum ToolFault {
-    /// A read failed; `Interrupted` counts and is not retried. Nothing was written.
-    Read,
-    /// A write or the flush failed, or a write took no octet; `Interrupted` counts and is not retried.
-    /// Some of the text may have been written.
-    Write,
-    /// An allocation failed, for the input or its text. Nothing was written.
-    Memory,
-}
-
-impl ToolFault {
-    /// `read fault`, `write fault` or `out of memory`.
-    fn words(self) -> &'static str
-        ensures words { result.now ≡ tool_fault_text self }
-        ensures short { length result.now ≤ 13 }
-    {
-        match self {
-            ToolFault::Read => "read fault",
-            ToolFault::Write => "write fault",
-            ToolFault::Memory => Memory.words(),
-        }
-    }
-}
-
-impl Display for ToolFault {
-    ghost output = { λ fault. Some (tool_fault_text fault) };
-
-    fn fmt<W: fmt::Write>(&self, f: &mut Formatter<W>) -> fmt::Result {
-        f.write_str(self.words())
-    }
-}
-
-impl From<Memory> for ToolFault {
-    ghost use Rattle.std.specs.Prelude.{◌≡◌};
-    ghost use Rattle.fio_tool.specs.declared.program.ToolFault.TheVariants as fault;
-
-    ghost from_gives = { λ _ e. e ≡ fault.Memory };
-
-    fn from(_fault: Memory) -> ToolFault {
-        ToolFault::Memory
-    }
-}
-
-impl From<AllocError> for ToolFault {
-    ghost use Rattle.std.specs.Prelude.{◌≡◌};
-    ghost use Rattle.fio_tool.specs.declared.program.ToolFault.TheVariants as fault;
-
-    ghost from_gives = { λ _ e. e ≡ fault.Memory };
-
-    fn from(_fault: AllocError) -> ToolFault {
-        ToolFault::Memory
-    }
-}
 
 /// Runs the tool that the words of a command line name, the program's name first, and gives the
 /// exit status of the program.
@@ -157,17 +89,6 @@ fn report_tool<R: Read, W: Write>(alloc: Global, tool: Tool, reader: &mut R, wri
         say(writer, fault_line(fault).as_str());
     }
     status_of(ending)
-}
-
-/// The exit status after a tool.
-fn status_of(ending: Result<Ending, ToolFault>) -> u8
-    ensures { result ≡ status_of ending }
-{
-    match ending {
-        Ok(Ending::Good) => 0,
-        Ok(Ending::Bad) => 1,
-        Err(_) => 3,
-    }
 }
 
 /// The line that reports a tool's fault.

@@ -5,7 +5,7 @@ ghost use Rattle.std.specs.Io.KnownBytes.{Appends};
 ghost use Rattle.fio_tool.specs.Streams.{TakesAtMost, TakesInput};
 ghost use Rattle.fio_tool.specs.Program.{ending_of};
 
-use crate::program::{Ending, ToolFault};
+use crate::endings::{Ending, ToolFault};
 use crate::text::MAX_INPUT;
 use fio_world::Report;
 use std::alloc::Global;

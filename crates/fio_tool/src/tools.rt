@@ -5,8 +5,8 @@ ghost use Rattle.fio_tool.specs.Program.{HasReported, is_program_good, program_e
 ghost use Rattle.fio_tool.specs.Streams.{TakesAtMost};
 ghost use Rattle.fio_tool.specs.declared.streams.TheConstants.{MOST_READ};
 
+use crate::endings::{Ending, ToolFault};
 use crate::help;
-use crate::program::{Ending, ToolFault};
 use crate::streams::{read_input, write_report};
 use crate::text::{check_text, show_text, simulate_text};
 use fio_message::Memory;

@@ -30,9 +30,13 @@ pub mod CatchingUp
 pub mod CleanRoundsInTime
 pub mod Arrivals
 pub mod InAllRounds
+pub mod AnyTime
+pub mod Gained
+pub mod NewLevels
 pub mod MovedScans
 pub mod WholeRecords
 pub mod Promises
+pub mod StandardLinks
 pub mod Examples
 pub mod EndToEndLemmas
 pub mod Shown

@@ -17,8 +17,7 @@ use Rattle.fio_world.specs.Claims.{blocks_in, StandsAtTaken, RestIsLostOrWaits, 
 use Rattle.fio_world.specs.Rounds.{next_round, PollsOf, PollsReceivedHaveRounds, NewestPollMadeNewestBlock, BlockAnswersOf, AnswersCarryBlocks}
 use Rattle.fio_world.specs.Rising.{IsRising}
 use Rattle.fio_world.specs.Delivery.{CleanRoundTakesBlock}
-use Rattle.fio_world.specs.InTime.{Delivers}
-use Rattle.fio_world.specs.Sound.{IsSound, IsSoundRun, HoldsOfRuns, HoldsWithoutRestart}
+use Rattle.fio_world.specs.Sound.{Delivers, IsSound, IsSoundRun, HoldsOfRuns, HoldsWithoutRestart}
 use Rattle.fio_world.proofs.MadeBlocks.{each-take}
 use Rattle.fio_world.proofs.PieceLaws.{taken_are_pieces, pieces_begin_log}
 use Rattle.fio_world.proofs.Runs.{invariant, rising, in_sequence, takes}
@@ -29,6 +28,8 @@ use Rattle.fio_world.proofs.CatchingUp.{IsBetween, clean_round_takes_all, clean_
 use Rattle.fio_world.proofs.Arrivals.{got_entries}
 use Rattle.fio_world.proofs.InAllRounds.{arrives, keeps_up}
 use Rattle.fio_world.proofs.CleanRoundsInTime.{has_stretch}
+use Rattle.fio_world.proofs.AnyTime.{never_late}
+use Rattle.fio_world.proofs.NewLevels.{new_levels_are_recorded}
 use Rattle.fio_world.proofs.WholeRecords.{whole_unless_full, gaps_name_times, whole_where_polled_often, whole_after_outage}
 use Rattle.fio_world.proofs.Times.{BlockTimely, blocks_timely, blocks_timed}
 
@@ -126,6 +127,8 @@ module _ (settings : Settings) (range : AreInRange settings) (first : ℕ) (mach
         in_time = λ filter untaken scans begins last later p.
             arrives settings range first filter untaken scans machine between p.all_taken p.nothing_waits p.some p.filters p.enough
             begins last later p.rounds p.since p.not_applied;
+        never_late = never_late settings range first machine between;
+        new_levels = new_levels_are_recorded settings range first machine between;
       }
 
   -- all that is promised without restarts

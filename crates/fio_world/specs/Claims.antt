@@ -68,6 +68,7 @@ pub data Source : Type 0 where
   Loss : Source
   From : (transition : Transition) → (block : MadeBlock) → Source
 
+-- what a block has for the record: a loss before it, if it says so, and its transitions
 abbrev pub sources_of : MadeBlock → List Source
 sources_of block =
     (if block.lost then Loss ∷ [] else [])

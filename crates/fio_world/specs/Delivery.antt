@@ -40,6 +40,7 @@ pub record TakesBlock (settings : Settings) (first : ℕ) (machine later : Machi
   pub newest : blocks_in settings later ≡ earlier ++ block ∷ []
   pub carried : CarriesBlock answer block
 
+-- a clean round takes a block
 abbrev pub CleanRoundTakesBlock : Settings → ℕ → Machine → Type 0
 CleanRoundTakesBlock settings first machine =
     (later : Machine) × TakesBlock settings first machine later

@@ -5,6 +5,7 @@ use Rattle.arrayvec.specs.ArrayVec.{ArrayVec}
 use Rattle.fio_module.specs.declared.module.Module.{Module}
 use Rattle.fio_cpu.specs.Poller.{Polling}
 
+-- what a contract sees of a world: its two ends and the frames between them
 pub record Ends : Type 0 where
   pub module_end : Module
   pub poller_end : Polling

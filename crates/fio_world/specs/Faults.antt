@@ -21,6 +21,10 @@ world_error_text (errors.OutOfOrder index last) = refusal_text (OutOfOrder index
 world_error_text errors.PollIsOurs = refusal_text PollIsOurs
 world_error_text errors.Memory = memory_text
 
+-- why a run stopped behind so many events
+abbrev pub run_error_text : ℕ → WorldError → List ℕ
+run_error_text place fault = codes "after " ++ (decimal place ++ (codes " events: " ++ world_error_text fault))
+
 -- the fault of the line with this number, by its words
 abbrev pub at_line : ℕ → List ℕ → List ℕ
 at_line line fault = codes "line " ++ (decimal line ++ (codes ": " ++ fault))

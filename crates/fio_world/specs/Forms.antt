@@ -12,6 +12,7 @@ exactly words value line other = if bytes_eq line words then value else other
 abbrev pub begins : {A : Type 0} → List ℕ → (List ℕ → Option A) → List ℕ → Option A → Option A
 begins beginning read line other = option_map_or read (after_prefix beginning line) other
 
+-- two values as a pair, where there are both
 abbrev pub pair_of : {A B : Type 0} → Option A → Option B → Option (A × B)
 pair_of (Some left) (Some right) = Some (left, right)
 pair_of left right = None

@@ -14,10 +14,12 @@ use Rattle.fio_world.specs.declared.event.Event.TheVariants.{Restart}
 use Rattle.fio_world.specs.Link.{Machine, IsRun}
 use Rattle.fio_world.specs.Pieces.{piece_of, ArePieces, until_gap, BeginLog}
 
+-- an event that does not restart the module
 abbrev pub IsNotRestart : Event → Type 0
 IsNotRestart Restart = ⊥
 IsNotRestart other = Unit {0}
 
+-- none of these events restarts the module
 abbrev pub HaveNoRestart : List Event → Type 0
 HaveNoRestart events = AllByRecursion IsNotRestart events
 

@@ -16,7 +16,7 @@ use Rattle.fio_world.specs.Link.{Machine, Leads}
 use Rattle.fio_world.specs.Claims.{blocks_in}
 use Rattle.fio_world.specs.Pieces.{Got, piece_of}
 use Rattle.fio_world.specs.Headline.{HaveNoRestart, end_taken}
-use Rattle.fio_world.specs.Delivery.{clean_round, CleanRoundTakesAll, CleanRoundsCatchUp, IsWholeUnlessFull, GapsNameTimes, IsWholeWherePolledOften, IsWholeAfterOutage}
+use Rattle.fio_world.specs.Delivery.{clean_round}
 
 -- how many scans there are among events
 abbrev pub scans_among : List Event → ℕ
@@ -128,6 +128,7 @@ pub record MakesBlock (settings : Settings) (machine last : Machine) : Type 0 wh
   pub one_more : length (blocks_in settings machine) < length (blocks_in settings last)
   pub all_taken : last.round ≡ length (blocks_in settings last)
 
+-- each clean round that begins in time, where the CPU has taken all, makes a block
 abbrev pub RoundsMakeBlocks : Settings → ℕ → Machine → Type 0
 RoundsMakeBlocks settings first machine =
     (scans : ℕ) (begin last : Machine) →
@@ -166,15 +167,3 @@ ScansMoveOut settings first machine =
     (Poll ∷ (before ++ ToModule command ∷ (later ++ ToCpu answer ∷ []))) last →
     Leads settings first machine
     (before ++ Poll ∷ ToModule command ∷ ToCpu answer ∷ later) last
-
--- all that is promised of what arrives without restarts
-pub record Delivers (settings : Settings) (first : ℕ) (machine : Machine) : Type 0 where
-  pub takes_all : CleanRoundTakesAll settings first machine
-  pub catches_up : CleanRoundsCatchUp settings first machine
-  pub unless_full : IsWholeUnlessFull settings machine
-  pub gaps : GapsNameTimes settings machine
-  pub polled_often : IsWholeWherePolledOften settings machine
-  pub outage : IsWholeAfterOutage settings machine
-  pub rounds_make_blocks : RoundsMakeBlocks settings first machine
-  pub rounds_keep_up : RoundsKeepUp settings first machine
-  pub in_time : AllArrivesInTime settings first machine

@@ -24,6 +24,8 @@ pub mod Rounds
 pub mod Rising
 pub mod Delivery
 pub mod InTime
+pub mod AnyTime
+pub mod NewLevels
 pub mod Sound
 -- what contracts see of a world
 pub mod EndToEnd

@@ -7,6 +7,7 @@ abbrev pub with_front : ℕ → List (List ℕ) → List (List ℕ)
 with_front octet [] = (octet ∷ []) ∷ []
 with_front octet (line ∷ lines) = (octet ∷ line) ∷ lines
 
+-- the lines of a text: each ends before a line feed, and the last may lack its own
 abbrev pub lines_of : List ℕ → List (List ℕ)
 lines_of [] = []
 lines_of (octet ∷ rest) =

@@ -29,6 +29,7 @@ pub record Sent : Type 0 where
   pub octets : List ℕ
   pub round : ℕ
 
+-- what the link has come to after some events
 pub record Machine : Type 0 where
   -- what has reached the module, newest first
   pub history : History
@@ -45,6 +46,7 @@ pub record Machine : Type 0 where
   -- the rounds of the polls that the module has received, newest first
   pub polls : List ℕ
 
+-- before the first event
 abbrev pub start : Machine
 start =
     record {
@@ -79,6 +81,7 @@ abbrev pub sending_refusal : Command → Option Refusal
 sending_refusal (commands.Poll number) = Some PollIsOurs
 sending_refusal other = None
 
+-- why an event is refused, if it is
 abbrev pub refusal : Machine → Event → Option Refusal
 refusal machine (ToModule index) =
     delivery_refusal (length machine.to_module) machine.last_to_module index

@@ -14,6 +14,7 @@ pub data Piece : Type 0 where
   Gap : Piece
   Got : (entry : Entry) → Piece
 
+-- an item of the record without its wide time
 abbrev pub piece_of : Item → Piece
 piece_of items.Gap = Gap
 piece_of (items.Entry input level stamp wide) =

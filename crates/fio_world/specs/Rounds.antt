@@ -25,6 +25,7 @@ pub record PollsAreInOrder (first : ℕ) (frames : List Sent) (last round next :
   -- from the last delivered frame on they are at least the newest received
   pub ahead : (place n r : ℕ) → last ≤ place + 1 → HasPoll frames place n r → next ≤ r + 1
 
+-- the polls of a machine are in order
 abbrev pub PollsOf : ℕ → Machine → Type 0
 PollsOf first machine =
     PollsAreInOrder first machine.to_module machine.last_to_module
@@ -43,6 +44,7 @@ pub record BlockAnswersAreInOrder (frames : List Sent) (last round next : ℕ) :
   -- the CPU has taken answers to polls received alone
   pub behind : round ≤ next
 
+-- the block answers of a machine are in order
 abbrev pub BlockAnswersOf : Machine → Type 0
 BlockAnswersOf machine =
     BlockAnswersAreInOrder machine.to_cpu machine.last_to_cpu

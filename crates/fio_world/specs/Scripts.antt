@@ -41,14 +41,17 @@ scenario_with id first limits events = record {
 abbrev pub scenario_below : Header → List Event → Scenario
 scenario_below header events = scenario_with header.id header.first header.limits events
 
+-- the script with this header and these events, or the fault of a line of events
 abbrev pub with_events : Header → Result (List Event) ScriptError → Result Scenario ScriptError
 with_events header (Ok events) = Ok (scenario_below header events)
 with_events header (Err fault) = Err fault
 
+-- the script that lines spell below this header, if it is one
 abbrev pub below : Option Header → List (List ℕ) → Result Scenario ScriptError
 below None lines = Err BadHeader
 below (Some header) lines = with_events header (events_of header.restarts lines)
 
+-- the script that lines spell: a header, and the events below it
 abbrev pub scenario_in : List (List ℕ) → Result Scenario ScriptError
 scenario_in [] = Err BadHeader
 scenario_in (header ∷ lines) = below (header_of header) lines

@@ -10,6 +10,7 @@ abbrev pub after_prefix : List ℕ → List ℕ → Option (List ℕ)
 after_prefix prefix line =
     if bytes_eq (take (length prefix) line) prefix then Some (drop (length prefix) line) else None
 
+-- the octet 32, which stands between words
 abbrev pub is_blank : ℕ → Bool
 is_blank octet = octet == 32
 
@@ -25,6 +26,7 @@ is_number word = nat_lt 0 (length word) && (nat_lt (length word) 10 && list_all 
 abbrev pub number_in : List ℕ → Option ℕ
 number_in word = if is_number word then Some (digits_value 10 word) else None
 
+-- a number, where it is at most 255
 abbrev pub up_to_255 : ℕ → Option ℕ
 up_to_255 number = if nat_lt number 256 then Some number else None
 

@@ -18,6 +18,7 @@ use Rattle.fio_world.specs.Outcomes.{outcome_of, error_of}
 
 -- ---- what is shown
 
+-- the octets of a frame
 abbrev pub octets_sent : Sent → List ℕ
 octets_sent frame = frame.octets
 

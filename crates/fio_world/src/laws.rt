@@ -11,6 +11,9 @@ ghost use Rattle.fio_world.specs.Rising.{IsRising};
 ghost use Rattle.fio_world.specs.Sound.{HoldsOfRuns, HoldsWithoutRestart, IsSoundRun, LeadToOneMachine};
 ghost use Rattle.fio_world.specs.Delivery.{CleanRoundTakesBlock, CleanRoundTakesAll, CleanRoundsCatchUp, IsWholeUnlessFull, GapsNameTimes, IsWholeWherePolledOften, IsWholeAfterOutage};
 ghost use Rattle.fio_world.specs.InTime.{RoundsMakeBlocks, RoundsKeepUp, AllArrivesInTime, ScansMoveOut};
+ghost use Rattle.std.specs.Prelude.{false};
+ghost use Rattle.fio_world.specs.AnyTime.{IsNeverLate, StandardLinkIsNeverLater};
+ghost use Rattle.fio_world.specs.NewLevels.{NewLevelsAreRecorded, StandardLinkRecordsNewLevels};
 ghost use Rattle.std.specs.List.{AllByRecursion};
 ghost use Rattle.fio_world.specs.Collected.{Collects};
 ghost use Rattle.fio_world.specs.Scripts.{Scenario};
@@ -123,6 +126,36 @@ pub fn clean_rounds_keep_up()
 /// n + f - 2 scans ago. Where no answer is lost it is one round, and f - 2 scans.
 pub fn all_arrives_in_time()
     ensures { HoldsWithoutRestart AllArrivesInTime }
+{}
+
+/// The record is never late where a link is polled in time: at any time what the log has and the record
+/// has not is at most n + f - 2 scans old, or 2 n + f - 2 where a clean round may begin before the CPU
+/// has taken all, until the next clean round has ended.
+pub fn records_are_never_late()
+    ensures { HoldsWithoutRestart IsNeverLate }
+{}
+
+/// Under the standard limits, with up to 64 open inputs, filters of at least 5 and a clean round at least
+/// every 19 scans, a transition is in the record at most 22 scans after its own; and at most 41 where
+/// answers are lost.
+pub fn standard_links_are_never_late()
+    ensures no_answer_lost { StandardLinkIsNeverLater 19 false 22 }
+    ensures answers_lost { StandardLinkIsNeverLater 19 true 41 }
+{}
+
+/// Where a link is polled in time, an open input that keeps a new level for as many samples in a row as
+/// its filter asks for is in the record once more than n + f - 2 scans came after the last of them, or
+/// 2 n + f - 2 where a clean round may begin before the CPU has taken all.
+pub fn new_levels_are_recorded()
+    ensures { HoldsWithoutRestart NewLevelsAreRecorded }
+{}
+
+/// Under the standard limits, with up to 64 open inputs, filters of at least 5 and a clean round at least
+/// every 19 scans, an input that has a new level for as many samples in a row as its filter f is in the
+/// record at most f - 1 + 22 scans after the first of them; and at most f - 1 + 41 where answers are lost.
+pub fn standard_links_record_new_levels()
+    ensures no_answer_lost { StandardLinkRecordsNewLevels 19 false 22 }
+    ensures answers_lost { StandardLinkRecordsNewLevels 19 true 41 }
 {}
 
 /// Scans that come while a poll or its answer is under way lead where they lead before the poll is

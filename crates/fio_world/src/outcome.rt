@@ -1,6 +1,6 @@
 //! The outcome of an event, and why it may not happen.
 ghost use Rattle.std.specs.Prelude.{Some};
-ghost use Rattle.fio_world.specs.Faults.{world_error_text};
+ghost use Rattle.fio_world.specs.Faults.{run_error_text, world_error_text};
 
 use fio_cpu::Heard;
 use fio_message::{Frame, Memory};
@@ -62,10 +62,18 @@ impl Display for WorldError {
 
 /// What stopped a run.
 #[derive(Clone, Copy, Debug, PartialEq, Eq, Hash, Error)]
-#[error("after {place} events: {fault}")]
 pub struct RunError {
     /// How many events were done; 0 also where there was no memory for a start.
     pub place: usize,
     /// Why the next one was not.
     pub fault: WorldError,
+}
+
+impl Display for RunError {
+    ghost output = { λ stop. Some (run_error_text stop.place stop.fault) };
+
+    fn fmt<W: fmt::Write>(&self, f: &mut Formatter<W>) -> fmt::Result {
+        let RunError { place, fault } = *self;
+        write!(f, "after {place} events: {fault}")
+    }
 }

@@ -84,6 +84,7 @@ impl Default for Counter {
             value: 0,
             load: 0,
             is_asked: 0,
+            reserved: [0; 3],
         };
         unsafe { raw::fio2070_counter_start(&mut counter) };
         Counter(counter)

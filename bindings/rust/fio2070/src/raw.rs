@@ -107,6 +107,7 @@ pub(crate) struct RawCounter {
     pub value: u32,
     pub load: u32,
     pub is_asked: u8,
+    pub reserved: [u8; 3],
 }
 
 #[derive(Clone)]

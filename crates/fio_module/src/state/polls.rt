@@ -1,42 +1,19 @@
 //! Polls: the block that a module makes, and sends again.
-ghost use Rattle.std.specs.Prelude.{◌≡◌, ℕ, List, ◌∷◌, Some, true, false, is_some};
+ghost use Rattle.std.specs.Prelude.{◌≡◌, ℕ, List, ◌∷◌, Some, true, false};
 ghost use Rattle.circular_buffer.specs.Buffer.{Buffer};
 ghost use Rattle.fio_message.specs.declared.commands.Command.TheVariants.{Poll};
-ghost use Rattle.fio_message.specs.Decoding.{poll_in};
 ghost use Rattle.fio_module.specs.Settings.{Settings};
-ghost use Rattle.fio_module.specs.Life.{History, Life, Commanded, Received};
+ghost use Rattle.fio_module.specs.Life.{Life, Commanded};
 ghost use Rattle.fio_module.specs.Blocks.{latest_poll};
 ghost use Rattle.fio_module.specs.Blocks as blocks;
-ghost use Rattle.fio_module.specs.Replies.{reply_to, Encodes};
-ghost use Rattle.fio_module.specs.State.{IsAfter, IsAfterHistory, Obeys, sent_frame};
+ghost use Rattle.fio_module.specs.State.{IsAfter, Obeys, sent_frame};
 
 use super::ModuleState;
 use crate::numbers::{is_new, is_out_of_sequence};
 use crate::ring::EntryRing;
-use fio_message::{BlockStatus, read_poll};
+use fio_message::BlockStatus;
 
 impl ModuleState {
-    /// Takes the octets of a frame if they are a poll, and says whether they are. The answer is then
-    /// `block`. Any other octets change nothing.
-    pub fn receive_poll<R: EntryRing>(&mut self, ring: &mut R, octets: &[u8]) -> bool
-        ensures polled { result ≡ is_some (poll_in octets.now) }
-        ensures stands { result ≡ true → (settings : Settings) (history : History)
-            → IsAfterHistory settings self.old (R.held ring.old) history
-            → IsAfterHistory settings self.new (R.held ring.new) (Received octets.now ∷ history) }
-        ensures reply { result ≡ true → (settings : Settings) (history : History)
-            → IsAfterHistory settings self.old (R.held ring.old) history
-            → Encodes (reply_to settings history octets.now) (Some (sent_frame self.new)) }
-        ensures kept { result ≡ false → (self.new ≡ self.old) × (ring.new ≡ ring.old) }
-    {
-        match read_poll(octets) {
-            Some(number) => {
-                self.poll(ring, number);
-                true
-            }
-            None => false,
-        }
-    }
-
     /// The octets of the block that was sent last, at most 773, none before the first.
     pub fn block(&self) -> &[u8]
         ensures { result.now ≡ (sent_frame self.now).items }
@@ -44,9 +21,10 @@ impl ModuleState {
         self.sent.as_slice()
     }
 
-    // Not inlined, as two ways lead to it: octets read in place, and a command.
+    /// Takes a poll for this number. The answer is then `block`.
+    // Not inlined, as two ways lead to it: a poll alone, and any command.
     #[inline(never)]
-    pub(super) fn poll<R: EntryRing>(&mut self, ring: &mut R, number: u8)
+    pub fn poll<R: EntryRing>(&mut self, ring: &mut R, number: u8)
         ensures { Obeys self.old (R.held ring.old) self.new (R.held ring.new)
             (Poll number) (Some (sent_frame self.new)) }
     {

@@ -1,4 +1,4 @@
-//! Worked examples. Random configurations and samples of all inputs are runs of `tests/computed-reports`.
+//! Worked examples. Random configurations and samples of all inputs are runs of `tests/computed-reports.py`.
 use crate::rows::expect_word;
 use fio_input::Filters;
 use fio_message::{InputItem, InputNumber};

@@ -1,4 +1,4 @@
-//! The octets of worked examples, read and written again. What they say is in the texts of `tests/shows`.
+//! The octets of worked examples, read and written again. What they say is in the texts of `tests/shows.py`.
 use crate::rows::{expect_row, expect_word};
 use fio_message::*;
 use std::alloc::{AllocError, Global};
@@ -73,11 +73,21 @@ fn is_encoded_command(command: &Command, octets: &[u8]) -> bool {
     encode_command(command).as_slice() == octets && octets.first() == Some(&command.code())
 }
 
+/// Whether octets are read in place as this command, and have its code.
+fn is_read_command(command: &Command, octets: &[u8]) -> bool {
+    match read_command(octets) {
+        Ok(view) => view.code() == command.code() && view.to_command() == *command,
+        Err(_) => false,
+    }
+}
+
 /// Whether the octets are a command that is written as they are.
 fn is_command(octets: &[u8], frame: &mut Frame) -> bool {
     match decode_command(octets) {
         Ok(command) => {
-            is_written_command(&command, octets, frame) && is_encoded_command(&command, octets)
+            is_written_command(&command, octets, frame)
+                && is_encoded_command(&command, octets)
+                && is_read_command(&command, octets)
         }
         Err(_) => false,
     }
@@ -99,6 +109,14 @@ fn has_type(octets: &[u8], code: u8) -> bool {
     answer_type(octets) == Ok(code)
 }
 
+/// Whether octets are read in place as this answer, and have its code.
+fn is_read_answer(answer: &Answer, octets: &[u8]) -> bool {
+    match read_answer(octets) {
+        Ok(view) => view.code() == answer.code() && view.to_answer() == *answer,
+        Err(_) => false,
+    }
+}
+
 /// Whether the octets are an answer that is written as they are.
 fn is_answer(octets: &[u8], frame: &mut Frame) -> bool {
     match decode_answer(octets) {
@@ -106,6 +124,7 @@ fn is_answer(octets: &[u8], frame: &mut Frame) -> bool {
             is_written_answer(&answer, octets, frame)
                 && is_encoded_answer(&answer, octets)
                 && has_type(octets, answer.code())
+                && is_read_answer(&answer, octets)
         }
         Err(_) => false,
     }
@@ -179,6 +198,22 @@ fn blocks_in_place(rt: HostRuntime) {
 fn most_entries_in_place(rt: HostRuntime) {
     let most = most_entries(rt.alloc()).expect(&rt, "octets");
     assert!(rt; has_head(most.as_slice(), 5, 255, 8, 255));
+}
+
+/// Whether an answer is written as these octets.
+fn is_spelt(answer: Answer, octets: &[u8]) -> bool {
+    encode_answer(&answer).as_slice() == octets
+}
+
+#[test]
+fn answers_of_a_module(rt: HostRuntime) {
+    let outputs = [0xb7, 0, 0, 0, 3, 0xe8];
+    expect_word(
+        &rt,
+        "outputs",
+        is_spelt(Answer::outputs_set(1000), &outputs),
+    );
+    expect_word(&rt, "identity", is_spelt(Answer::identity(7), &[0xbc, 7]));
 }
 
 fn is_empty_command(octets: &[u8]) -> bool {

@@ -4,102 +4,34 @@ use fio_tool::{Tool, choose, run_program};
 use std::alloc::Global;
 use std::process::Abort;
 
-/// Words, and the tool that they name, if any.
-const TOOLS: [(&str, Option<Tool>); 9] = [
-    ("show", Some(Tool::Show)),
-    ("simulate", Some(Tool::Simulate)),
-    ("check", Some(Tool::Check)),
-    ("other", None),
-    ("help", None),
-    ("Show", None),
-    ("--help", None),
-    ("--version", None),
-    ("-x", None),
-];
-
-/// Whether a word names this tool, or has a fault where there is none.
-fn names(alloc: Global, word: &str, tool: Option<Tool>) -> bool {
-    match choose(alloc, &["fio2070", word]) {
-        Ok(found) => found.is_some() && found == tool,
-        Err(_) => tool.is_none(),
-    }
-}
-
-/// Fails the test at the first word that names another tool.
-fn expect_tools(rt: &impl Abort, alloc: Global, rows: &[(&str, Option<Tool>)]) {
-    for (word, tool) in rows {
-        expect_word(rt, word, names(alloc, word, *tool));
-    }
-}
-
 #[test]
-fn tools_of_words(rt: HostRuntime) {
-    expect_tools(&rt, rt.alloc(), &TOOLS);
+fn show_is_a_tool(rt: HostRuntime) {
+    assert!(rt;
+        matches!(
+            choose(rt.alloc(), &["fio2070", "show"]),
+            Ok(Some(Tool::Show))
+        )
+    );
 }
 
-#[test]
-fn no_word_and_one_too_many(rt: HostRuntime) {
-    assert!(rt; matches!(choose(rt.alloc(), &["fio2070"]), Ok(None)));
-    assert!(rt; choose(rt.alloc(), &["fio2070", "show", "x"]).is_err());
-}
-
-/// Whether the program, given these words and this input, ends with this status and a text that
-/// begins so.
-fn runs(alloc: Global, words: &[&str], input: &[u8], status: u8, text: &str) -> bool {
+/// Whether the program, given these words and this input, ends with this status and writes this text.
+fn runs(alloc: Global, words: &[&str], input: &[u8], status: u8, text: &[u8]) -> bool {
     let mut sink = Sink::new(alloc, 1000);
     let ended = run_program(alloc, words, &mut Feed::new(input, 100), &mut sink);
-    ended == status && sink.flushes == 1 && sink.octets.as_slice().starts_with(text.as_bytes())
-}
-
-/// A word that names a tool, an input, the status that the program ends with, and what its text begins with.
-type Run<'a> = (&'a str, &'a [u8], u8, &'a str);
-
-const RUNS: [Run<'static>; 5] = [
-    ("show", b"3605", 0, "poll block 5\n"),
-    ("show", b"zz", 1, "line 1: bad line\n"),
-    ("simulate", b"", 1, "line 1: bad header\n"),
-    ("check", b"> 3605", 0, "good 1 frames\n"),
-    ("check", b"> 33", 1, "line 1 breaks readable\n"),
-];
-
-/// Fails the test at the first row that does not hold.
-fn expect_runs(rt: &impl Abort, alloc: Global, rows: &[Run<'_>]) {
-    for (word, input, status, text) in rows {
-        expect_word(
-            rt,
-            word,
-            runs(alloc, &["fio2070", word], input, *status, text),
-        );
-    }
+    ended == status && sink.flushes == 1 && sink.octets.as_slice() == text
 }
 
 #[test]
-fn statuses_of_the_program(rt: HostRuntime) {
-    expect_runs(&rt, rt.alloc(), &RUNS);
-}
-
-/// The same of words that name no tool.
-const OTHERS: [Run<'static>; 4] = [
-    (
-        "other",
-        b"3605",
-        2,
-        "error: unrecognized subcommand 'other'",
-    ),
-    ("help", b"3605", 2, "error: unrecognized subcommand 'help'"),
-    ("--help", b"3605", 0, "Reads the messages"),
-    ("--version", b"3605", 0, "fio2070 1.0.0\n"),
-];
-
-/// Whether the program, given no word, says so.
-fn says_no_subcommand(alloc: Global) -> bool {
-    runs(alloc, &["fio2070"], b"3605", 2, "fio2070: no subcommand\n")
-}
-
-#[test]
-fn statuses_of_other_words(rt: HostRuntime) {
-    expect_runs(&rt, rt.alloc(), &OTHERS);
-    assert!(rt; says_no_subcommand(rt.alloc()));
+fn program_shows_a_poll(rt: HostRuntime) {
+    assert!(rt;
+        runs(
+            rt.alloc(),
+            &["fio2070", "show"],
+            b"3605",
+            0,
+            b"poll block 5\n"
+        )
+    );
 }
 
 /// Whether the program, given these words, reports that its first read failed.

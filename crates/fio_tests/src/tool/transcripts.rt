@@ -115,5 +115,5 @@ fn are_counted(alloc: Global, count: usize) -> bool {
 
 #[test]
 fn more_lines_than_sixteen_bits_count(rt: HostRuntime) {
-    assert!(rt; are_counted(rt.alloc(), 65_536) && are_counted(rt.alloc(), 65_537));
+    assert!(rt; are_counted(rt.alloc(), 65_536) && are_counted(rt.alloc(), 300_001));
 }

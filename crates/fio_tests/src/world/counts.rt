@@ -3,8 +3,10 @@ use fio_world::text::read_octets;
 use fio_world::{Event, Report, Script, World, read_script, report};
 use std::alloc::{AllocError, Global};
 
-/// One more than sixteen bits count.
-const MANY: usize = 65_537;
+/// More frames each way, and more events, than sixteen bits count.
+const FRAMES: usize = 131_073;
+
+const EVENTS: usize = 200_003;
 
 /// Delivers and answers so many polls, and delivers the last answer: whether all is done.
 fn poll(world: &mut World, count: usize) -> bool {
@@ -34,7 +36,7 @@ fn polls_are_done(alloc: Global, count: usize) -> bool {
 
 #[test]
 fn many_frames_each_way(rt: HostRuntime) {
-    assert!(rt; polls_are_done(rt.alloc(), MANY));
+    assert!(rt; polls_are_done(rt.alloc(), FRAMES));
 }
 
 /// So many scans of ones. Like the next function it has no contract, so that no proof of a test writes
@@ -74,7 +76,7 @@ fn scans_are_counted(alloc: Global, count: usize, expected: u32) -> bool {
 
 #[test]
 fn many_events_at_once(rt: HostRuntime) {
-    assert!(rt; scans_are_counted(rt.alloc(), MANY, 65_537));
+    assert!(rt; scans_are_counted(rt.alloc(), EVENTS, 200_003));
 }
 
 /// The end of the report of 10,000 polls.
@@ -149,5 +151,5 @@ fn digits_are_read(alloc: Global, count: usize) -> bool {
 #[test]
 fn a_word_of_many_digits(rt: HostRuntime) {
     assert!(rt; digits_are_read(rt.alloc(), 65_536));
-    assert!(rt; digits_are_read(rt.alloc(), 1_048_576));
+    assert!(rt; digits_are_read(rt.alloc(), 4_194_306));
 }

@@ -72,3 +72,21 @@ fn octets_as_digits(rt: HostRuntime) {
     assert!(rt; has_digits(alloc, b"", "") && has_digits(alloc, &[0x36, 5], "3605"));
     assert!(rt; has_digits(alloc, &[0, 0x0f, 0xf0, 0xab, 0xff], "000ff0abff"));
 }
+
+/// Whether so many octets 0x33 are displayed as twice as many digits 3.
+fn has_threes(alloc: Global, count: usize) -> bool {
+    let Ok(octets) = vec![in alloc; 0x33; count] else {
+        return false;
+    };
+    let digits = Hexadecimal(octets.as_slice());
+    match format!(in alloc; "{digits}") {
+        Ok(digits) => digits.len() == 2 * count
+            && digits.as_bytes().iter().all(|digit| *digit == b'3'),
+        Err(_) => false,
+    }
+}
+
+#[test]
+fn many_octets_as_digits(rt: HostRuntime) {
+    assert!(rt; has_threes(rt.alloc(), 100_003));
+}

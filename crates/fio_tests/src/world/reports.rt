@@ -1,5 +1,4 @@
 use crate::rows::expect_row;
-use fio_message::DecodeError;
 use fio_world::{Report, ScriptError, read_script, report, report_text};
 use std::alloc::Global;
 
@@ -38,40 +37,5 @@ const REPORTS: [(&[u8], &[u8]); 2] = [
 fn scripts_with_reports(rt: HostRuntime) {
     for (text, expected) in &REPORTS {
         expect_row(&rt, text, has_report(rt.alloc(), text, expected));
-    }
-}
-
-/// Texts that spell no script, with their faults.
-const FAULTY: [(&[u8], ScriptError); 4] = [
-    (b"", ScriptError::BadHeader),
-    (
-        b"fio2070 script 1 2 0\n\nrestart\n",
-        ScriptError::BadLine { line: 3 },
-    ),
-    (
-        b"fio2070 script 2 2 0\nto-cpu 1\nsend 3\n",
-        ScriptError::BadLine { line: 3 },
-    ),
-    (
-        b"fio2070 script 2 2 0\npoll\nsend 36\n",
-        ScriptError::BadFrame {
-            line: 3,
-            fault: DecodeError::WrongLength { needed: 2, got: 1 },
-        },
-    ),
-];
-
-/// Whether a text has this fault.
-fn has_fault(alloc: Global, text: &[u8], expected: &ScriptError) -> bool {
-    match report_text(alloc, text) {
-        Ok(_) => false,
-        Err(fault) => fault == *expected,
-    }
-}
-
-#[test]
-fn texts_with_no_report(rt: HostRuntime) {
-    for (text, fault) in &FAULTY {
-        expect_row(&rt, text, has_fault(rt.alloc(), text, fault));
     }
 }

@@ -1,5 +1,5 @@
 //! The ways to run events: at once, in two parts, one by one. What comes of each event is in the reports of
-//! `tests/scripts`.
+//! `tests/scripts.py`.
 use fio_module::Limits;
 use fio_world::{Event, RunError, World, WorldError, read_script};
 use std::alloc::Global;

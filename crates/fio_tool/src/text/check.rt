@@ -1,9 +1,10 @@
 //! The text that says whether a transcript keeps the rules.
 ghost use Rattle.std.specs.Prelude.{◌≡◌, ◌++◌, IfOk, OnOk, string_bytes};
-ghost use Rattle.fio_tool.specs.Check.{check_text, is_check_good, rule_name, verdict_text};
+ghost use Rattle.fio_tool.specs.Check.{check_text, is_check_good, verdict_text};
 
 use super::{is_too_long, report_too_long};
-use crate::transcript::{Rule, Verdict, check_lines};
+use crate::transcript::check_lines;
+use fio_check::Verdict;
 use fio_message::Memory;
 use fio_world::Report;
 use std::alloc::{AllocError, Global};
@@ -50,25 +51,8 @@ fn push_verdict(text: &mut String, verdict: Verdict) -> Result<(), AllocError>
     match verdict {
         Verdict::Good { frames } => write!(text, "good {frames} frames\n"),
         Verdict::Broken { number, rule } => {
-            let rule = rule_name(rule);
+            let rule = rule.name();
             write!(text, "line {number} breaks {rule}\n")
         }
-    }
-}
-
-/// The name of a rule in lower case.
-fn rule_name(rule: Rule) -> &'static str
-    ensures { result.now ≡ rule_name rule }
-{
-    match rule {
-        Rule::Readable => "readable",
-        Rule::Pair => "pair",
-        Rule::Number => "number",
-        Rule::Advance => "advance",
-        Rule::Same => "same",
-        Rule::Sequence => "sequence",
-        Rule::Limits => "limits",
-        Rule::Rest => "rest",
-        Rule::Refusal => "refusal",
     }
 }

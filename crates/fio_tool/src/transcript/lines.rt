@@ -2,36 +2,13 @@
 ghost use Rattle.std.specs.Prelude.{◌≡◌, ◌≢◌, Ok, Err, None, IfOk, IfErr, IfSome, IfNone, is_ok, true};
 ghost use Rattle.fio_tool.specs.Transcript.{HasFrameToKeep, frame_in, frame_with, line_in, transcript_in};
 
+use fio_check::Line;
 use fio_message::Memory;
 use fio_world::text::{BadLine, after_prefix, is_octets, numbered_lines, read_octets};
 use std::alloc::{AllocFailed, Global};
 use std::fmt;
 use std::fmt::{Display, Formatter};
-use std::marker::Model;
 use thiserror::Error;
-
-/// A line of a transcript: a frame that the CPU's end of the link sent or heard.
-#[derive(Debug, Drop)]
-pub struct Line {
-    /// The number of the line in its text, from 1.
-    pub number: usize,
-    /// Whether the CPU sent the frame. If not, it heard it.
-    pub from_cpu: bool,
-    /// The octets of the frame.
-    pub octets: Vec<u8>,
-}
-
-impl Model for Line {
-    ghost use Rattle.fio_tool.specs.Transcript.{TranscriptLine};
-
-    ghost Value = { TranscriptLine };
-
-    ghost view = { λ line. record {
-      number = line.number;
-      from_cpu = line.from_cpu;
-      octets = line.octets.items;
-    } };
-}
 
 /// Why a text is no transcript.
 #[derive(Clone, Copy, Debug, PartialEq, Eq, Hash, Error)]

@@ -1,14 +1,12 @@
 //! A transcript checked in one pass over its text, without memory.
 ghost use Rattle.std.specs.Prelude.{◌≡◌, ◌≢◌, None, Ok, Err, IfOk, IfErr, option_map};
 ghost use Rattle.fio_world.specs.Hexadecimal.{octets_in};
-ghost use Rattle.fio_tool.specs.Transcript.{frame_in};
-ghost use Rattle.fio_tool.specs.TranscriptFacts.{rule_broken_by, said_by_frame, with_line};
-ghost use Rattle.fio_tool.specs.TranscriptRules.{verdict_in};
+ghost use Rattle.fio_check.specs.Facts.{facts_with};
+ghost use Rattle.fio_check.specs.Rules.{first_broken};
+ghost use Rattle.fio_tool.specs.Transcript.{frame_in, observation_of_frame, verdict_in};
 
-use super::facts::Facts;
 use super::lines::{TraceError, frame_word};
-use super::said::Said;
-use super::verdict::Verdict;
+use fio_check::{Facts, Observation, Verdict, rule_broken};
 use fio_message::FRAME_OCTETS;
 use fio_world::text::{BadLine, numbered_lines, read_octets_to};
 
@@ -26,10 +24,10 @@ pub(crate) fn check_lines(text: &[u8]) -> Result<Verdict, BadLine>
     let mut breach = None;
     let mut frames = 0;
     'lines: for (number, line) in numbered_lines(text, 1) {
-        let Some(said) = read_frame(line, &mut room) else {
+        let Some(observation) = read_frame(line, &mut room) else {
             return Err(BadLine { line: number });
         };
-        breach = breach_with(breach, &mut facts, number, said);
+        breach = breach_with(breach, &mut facts, number, observation);
         frames += 1;
     }
     Ok(breach.unwrap_or(Verdict::Good { frames }))
@@ -37,24 +35,28 @@ pub(crate) fn check_lines(text: &[u8]) -> Result<Verdict, BadLine>
 
 /// What the frame of a line says, whose octets are read into room for the longest; `None` where the
 /// line is no frame.
-fn read_frame(line: &[u8], room: &mut [u8; FRAME_OCTETS]) -> Option<Said>
-    ensures { result ≡ option_map said_by_frame (frame_in line.now) }
+fn read_frame(line: &[u8], room: &mut [u8; FRAME_OCTETS]) -> Option<Observation>
+    ensures { result ≡ option_map observation_of_frame (frame_in line.now) }
 {
     let (from_cpu, word) = frame_word(line)?;
-    read_said(from_cpu, word, room)
+    read_observation(from_cpu, word, room)
 }
 
 /// The same of the word that has the octets.
-#[tactic(auto, using(crate::proofs::LongFrames::short_said))]
-fn read_said(from_cpu: bool, word: &[u8], room: &mut [u8; FRAME_OCTETS]) -> Option<Said>
+#[tactic(auto, using(crate::proofs::LongFrames::short_observed))]
+fn read_observation(
+    from_cpu: bool,
+    word: &[u8],
+    room: &mut [u8; FRAME_OCTETS],
+) -> Option<Observation>
     ensures { result
-        ≡ option_map (λ octets. said_by_frame (from_cpu, octets)) (octets_in word.now) }
+        ≡ option_map (λ octets. observation_of_frame (from_cpu, octets)) (octets_in word.now) }
 {
     let count = read_octets_to(word, room)?;
     if count > room.len() {
-        return Some(Said::Nothing);
+        return Some(Observation::Unreadable);
     }
-    Some(Said::by(from_cpu, &room[..count]))
+    Some(Observation::of(from_cpu, &room[..count]))
 }
 
 /// The first breach with one line more, which is added to the facts while there is no breach.
@@ -62,18 +64,19 @@ fn breach_with(
     breach: Option<Verdict>,
     facts: &mut Facts,
     number: usize,
-    said: Said,
+    observation: Observation,
 ) -> Option<Verdict>
     ensures first { breach ≢ None → result ≡ breach }
     ensures broken { breach ≡ None
-        → result ≡ option_map (Verdict.Broken number) (rule_broken_by facts.old said) }
-    ensures kept { breach ≡ None → result ≡ None → facts.new ≡ with_line facts.old said }
+        → result ≡ option_map (Verdict.Broken number) (first_broken facts.old observation) }
+    ensures kept { breach ≡ None → result ≡ None → facts.new ≡ facts_with facts.old observation }
 {
     if breach.is_some() {
         return breach;
     }
-    match facts.add(said) {
-        Ok(()) => None,
-        Err(rule) => Some(Verdict::Broken { number, rule }),
+    if let Some(rule) = rule_broken(facts, observation) {
+        return Some(Verdict::Broken { number, rule });
     }
+    facts.add(observation);
+    None
 }

@@ -1,10 +1,24 @@
-use Rattle.fio_module.specs.Replies.{reply_to}
-use Rattle.fio_module.specs.State.{sent_frame}
-use Rattle.fio_c.proofs.Replies.{writes-encoded}
+use Rattle.fio_message.specs.Commands.{command_length}
+use Rattle.fio_message.specs.Decoding.{command_in, fault_in}
+use Rattle.fio_message.specs.Views.{command_of}
+use Rattle.fio_message.specs.declared.commands.Command.TheVariants.{Poll}
+use Rattle.fio_message.proofs.Decoded.{message_read}
+use Rattle.fio_module.specs.Life.{life_of}
+use Rattle.fio_module.proofs.PollAnswers.{received-obeyed}
 use Rattle.fio_c.proofs.module.fio2070_module_receive.Goals as goal
 
-pub returns-then-receive_poll-clause-reply : goal.returns-then-receive_poll-clause-reply
-returns-then-receive_poll-clause-reply c settings history after =
-    writes-encoded (reply_to settings history c.args.octets.now) (sent_frame c.receive_poll.new.self) c.block.result.now _ _ _
-    (c.receive_poll.ensures.reply c.if-receive_poll.true settings history after)
-    c.block.ensures c.write_front.ensures
+pub returns-in-Ok-Poll-clause-stands : goal.returns-in-Ok-Poll-clause-stands
+returns-in-Ok-Poll-clause-stands c settings history after =
+    let octets = c.args.octets.now in
+    let exact = rw c.in-Ok-Poll.field-0-is at c.in-Ok-Poll.ensures.exact in
+    let read = message_read (command_in octets) (fault_in (command_length octets) octets) (Poll c.in-Ok-Poll.block) exact in
+    (received-obeyed _ _ _ _ octets (Poll c.in-Ok-Poll.block) _ read c.poll.ensures settings history after).0
+
+pub returns-in-Ok : goal.returns-in-Ok
+returns-in-Ok c =
+    let octets = c.args.octets.now in
+    let read = message_read (command_in octets) (fault_in (command_length octets) octets) (command_of c.in-Ok.command) c.in-Ok.ensures.exact in
+    record {
+      stands = λ settings history after. rw read (c.obey.ensures settings (life_of history) after).0;
+      reply = λ settings history after. rw read (c.obey.ensures settings (life_of history) after).1;
+    }

@@ -3,8 +3,8 @@ use Rattle.std.proofs.lemmas.Simd.{get_or-replicate}
 use Rattle.fio_message.proofs.Bits.{is_set-ones}
 use Rattle.fio_input.proofs.filters.Filters.new.Goals as goal
 
-pub returns : goal.returns
-returns c =
+pub returns-clause-history : goal.returns-clause-history
+returns-clause-history c =
     record {
       raw = refl;
       inputs = λ i h. record {

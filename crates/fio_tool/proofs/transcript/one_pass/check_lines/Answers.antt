@@ -1,6 +1,7 @@
 use Rattle.std.proofs.Common.{◌≡◌, ◌∙◌, sym, refl, ap, arith, rules, Ok, length, map}
 use Rattle.fio_world.specs.Collected.{collected}
-use Rattle.fio_tool.specs.Transcript.{TranscriptLine, line_in, transcript_in}
+use Rattle.fio_check.specs.Lines.{TranscriptLine}
+use Rattle.fio_tool.specs.Transcript.{line_in, transcript_in}
 use Rattle.fio_tool.proofs.CheckedLines.{course_end, first_course, framed, line_read, lines_within, next_course, read_whole, verdict_read, with_first-err}
 use Rattle.fio_tool.proofs.transcript.one_pass.check_lines.Goals as goal
 

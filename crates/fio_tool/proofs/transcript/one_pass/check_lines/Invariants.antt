@@ -1,7 +1,8 @@
 use Rattle.std.proofs.Common.{◌≡◌, ◌+◌, ◌≤◌, List, length, map, Ok}
 use Rattle.std.specs.Result.{result_err}
 use Rattle.fio_world.specs.Collected.{collected}
-use Rattle.fio_tool.specs.Transcript.{TranscriptLine, line_in, transcript_in}
+use Rattle.fio_check.specs.Lines.{TranscriptLine}
+use Rattle.fio_tool.specs.Transcript.{line_in, transcript_in}
 use Rattle.fio_tool.proofs.CheckedLines.{IsCourse}
 use Rattle.fio_tool.proofs.transcript.one_pass.check_lines.Given as goal
 

@@ -1,0 +1,70 @@
+"""The command `fiolog`."""
+
+import argparse
+import importlib
+import os
+import re
+import sys
+
+from .terminal import say
+
+COMMANDS = {
+    'decode': 'what each frame says',
+    'check': 'every breach of the rules, with what was due and what came',
+    'stats': 'how much, how often, how fast',
+    'plan': 'how often to poll, how long an outage may last, how late a transition can be',
+    'convert': 'the frames as a transcript, frames, pcapng or VCD',
+    'record': 'what the CPU learned',
+    'live': 'decodes and checks a line that talks now',
+}
+
+
+def parser_of(name):
+    """The module of a subcommand, or None where it is not there."""
+    try:
+        return importlib.import_module('fiolog.' + name)
+    except ModuleNotFoundError as missing:
+        if missing.name != 'fiolog.' + name:
+            raise
+        return None
+
+
+def arguments(words):
+    """The command line."""
+    parser = argparse.ArgumentParser(prog='fiolog', description='Reads logs of the field I/O transition link.')
+    choices = parser.add_subparsers(dest='command', metavar='COMMAND', required=True)
+    wanted = [word for word in words[:1] if word in COMMANDS] or COMMANDS
+    for name in COMMANDS:
+        module = parser_of(name) if name in wanted else None
+        one = choices.add_parser(name, help=COMMANDS[name], description=module.__doc__ if module else '')
+        if module:
+            module.add_arguments(one)
+    return parser, parser.parse_args(words)
+
+
+def main(words=None):
+    """Runs a subcommand. Status 0: good; 1: a fault is reported; 2: the command line is invalid; 3: a read failed."""
+    parser, option = arguments(sys.argv[1:] if words is None else words)
+    if getattr(option, 'pattern', None):
+        try:
+            if 'octets' not in re.compile(option.pattern).groupindex:
+                parser.error('--pattern needs the group octets')
+        except re.error as fault:
+            parser.error('--pattern: %s' % fault)
+    try:
+        status = parser_of(option.command).run(option)
+        sys.stdout.flush()
+        return status
+    except BrokenPipeError:
+        # The reader, such as `head`, has enough.
+        os.dup2(os.open(os.devnull, os.O_WRONLY), sys.stdout.fileno())
+        return 1
+    except KeyboardInterrupt:
+        return 130
+    except OSError as fault:
+        say(str(fault))
+        return 3
+
+
+if __name__ == '__main__':
+    sys.exit(main())

@@ -1,0 +1,131 @@
+"""`fiolog check`: every breach of the nine rules, with what was due and what came."""
+
+import json
+import sys
+
+import fio2070
+
+from . import log, terminal
+from .counts import Counts
+from .decode import direction_of
+from .events import DAMAGED, FRAME
+from .judge import words_of
+from .message import POLL, message_of
+
+RULES = [None, 'readable', 'pair', 'number', 'advance', 'same', 'sequence', 'limits', 'rest', 'refusal']
+# What was due and what came, by rule, where the library says both.
+DUE = {
+    'pair': 'an answer %d was due, %d came', 'number': 'block %d was asked for, %d came',
+    'advance': 'block %d was due, %d came', 'same': 'E needs another poll for block %d, the one before was for %d'}
+WORDS = {
+    'readable': 'no message of its direction', 'pair': 'an answer without its command directly above',
+    'number': 'a block with another number than the poll', 'advance': 'another number than was due',
+    'same': 'E is set, and the poll before had another number', 'sequence': 'G with E, or G behind another block',
+    'limits': 'F without C, C without 255 entries, or an input above 63',
+    'rest': 'no entries, and the block before said with C that more wait',
+    'refusal': 'done, to a configuration that names an input above 63'}
+
+
+def add_arguments(parser):
+    log.add_arguments(parser)
+    parser.add_argument('--at', choices=('auto', 'cpu', 'module', 'bus'), default='auto',
+                        help='where the log was taken; auto: at the CPU where directions say so, else on the bus')
+    parser.add_argument('--start-at-poll', action='store_true', help='leave out what comes before the first poll')
+    parser.add_argument('--json', action='store_true', help='an object for each breach, and one for the summary')
+
+
+def has_checker():
+    """Whether the library has the checker."""
+    return hasattr(fio2070, 'Checker')
+
+
+class Judge:
+    """The library's checker, fed with frames as the CPU's end sent and heard them."""
+
+    def __init__(self, at):
+        self.at, self.checker, self.excused, self.polled = at, fio2070.Checker(), 0, None
+
+    def place(self, read, event):
+        """Where this frame was logged: the CPU's end, the module's or the bus between."""
+        if self.at != 'auto':
+            return self.at
+        if not event.direction:
+            return 'bus'
+        is_own = event.text[:2] in ('> ', '< ')
+        return 'module' if read.reader.reversed > read.reader.agreeing and not is_own else 'cpu'
+
+    def breach(self, read, event):
+        """The breach of a frame, as its rule and words; nothing where it keeps the rules."""
+        place, direction = self.place(read, event), direction_of(event)
+        if place == 'module' and event.direction:
+            direction = {'>': '<', '<': '>'}[direction]
+        hear = self.checker.sent if direction == '>' else self.checker.heard
+        found = hear(event.octets)
+        before, self.polled = self.polled, event.octets[1] if event.octets[:1] == bytes([POLL]) else self.polled
+        if found is None:
+            return None
+        rule = RULES[found.rule] if isinstance(found.rule, int) else str(found.rule)
+        if rule == 'advance' and place != 'cpu' and event.octets[1] == before:
+            # Whether the CPU heard the answer is not known here: asking again may be right.
+            self.excused += 1
+            return None
+        return rule, self.words(rule, found, event), found
+
+    @staticmethod
+    def words(rule, found, event):
+        if rule == 'readable':
+            return words_of(event.octets) or WORDS[rule]
+        if found.has_due and rule in DUE:
+            return DUE[rule] % (found.due, found.got)
+        return WORDS[rule]
+
+
+def due_of(found):
+    """What was due and what came, where the library says it."""
+    return {'due': found.due, 'got': found.got} if found.has_due else {}
+
+
+def run(option):
+    """Checks the logs; status 1 where a rule is broken or no frame is there."""
+    if not has_checker():
+        terminal.say('this libfio2070 has no checker; a later one has')
+        return 3
+    paint, read, counts = terminal.painter('auto'), log.Log(option, sys.stdout.flush), Counts()
+    judge, name, is_open, breaches = Judge(option.at), None, not option.start_at_poll, 0
+    for event in read.events():
+        if event.kind not in (FRAME, DAMAGED):
+            continue
+        if name != read.name:
+            judge, name, is_open = Judge(option.at), read.name, not option.start_at_poll
+        is_open = is_open or event.octets[:1] == bytes([POLL])
+        if not is_open:
+            continue
+        counts.add(event, message_of(event.octets) if event.kind == FRAME else None)
+        found = judge.breach(read, event)
+        if found:
+            breaches += 1
+            rule, words, breach = found
+            if option.json:
+                print(json.dumps({'file': name, 'line': event.number, 'rule': rule, **due_of(breach), 'says': words}))
+            else:
+                print('line %d: %s: %s' % (event.number, paint('fault', rule), words))
+    if not read.summary():
+        return 1
+    return end(option, read, counts, judge, breaches)
+
+
+def end(option, read, counts, judge, breaches):
+    """The summary, and the hints."""
+    numbers = {**counts.in_short(), 'breaches': breaches}
+    if option.json:
+        print(json.dumps({'summary': numbers}))
+    else:
+        print(', '.join('%s %d' % (name.replace('_', ' '), number) for name, number in numbers.items()))
+    if judge.excused:
+        terminal.say('%d polls repeat a block that was answered: where the CPU did not hear the answer they are right; '
+                     'this log was not taken at the CPU, so they are not judged' % judge.excused)
+    if read.is_reversed and option.at in ('cpu', 'bus'):
+        terminal.say('the directions are those of the other end: try --at module')
+    if breaches and not option.start_at_poll and not counts.begins_with_poll:
+        terminal.say('the log begins in the middle of traffic: try --start-at-poll')
+    return 1 if breaches else 0

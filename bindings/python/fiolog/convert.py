@@ -1,0 +1,65 @@
+"""`fiolog convert`: the frames as a transcript for `fio2070 check`, as frames for `fio2070 show`, as a pcapng file for
+Wireshark, or the blocks as a VCD file for viewers of waveforms."""
+
+import sys
+
+from . import log
+from .decode import direction_of
+from .message import BLOCK, LOST, message_of
+from .pcapng import Writer
+from .waveform import Block, draw
+
+TEXTS = {'transcript': lambda event, direction: direction + ' ' + event.octets.hex(),
+         'frames': lambda event, direction: event.octets.hex()}
+
+
+def add_arguments(parser):
+    log.add_arguments(parser)
+    parser.add_argument('--to', choices=('transcript', 'frames', 'pcapng', 'vcd'), required=True)
+    parser.add_argument('-o', '--output', metavar='FILE', help='where to (standard output)')
+    parser.add_argument('--at', choices=('cpu', 'module'), default='cpu', help='the end whose log it is (cpu)')
+    parser.add_argument('--times', action='store_true', help='begin lines with their time in seconds')
+
+
+def direction_at(event, place):
+    """The direction as the CPU's end has it."""
+    direction = direction_of(event)
+    return {'>': '<', '<': '>'}[direction] if place == 'module' and event.direction else direction
+
+
+def blocks_of(events):
+    """The blocks among the frames."""
+    for event in events:
+        message = message_of(event.octets)
+        if message.code == BLOCK:
+            yield Block(message.fields['block'], message.fields['stamp'], bool(message.fields['status'] & LOST),
+                        [(part['input'], part['state'], part['wide']) for part in message.parts])
+
+
+def write(option, read, out):
+    """Writes the frames in the form that was asked for."""
+    if option.to == 'vcd':
+        draw(blocks_of(read.frames()), out)
+    elif option.to == 'pcapng':
+        writer = Writer(out)
+        for event in read.frames():
+            writer.add(event.time, direction_at(event, option.at), event.octets)
+    else:
+        text = TEXTS[option.to]
+        for event in read.frames():
+            time = '%.6f ' % event.time if option.times and event.time is not None else ''
+            out.write(time + text(event, direction_at(event, option.at)) + '\n')
+
+
+def run(option):
+    """Converts the logs; status 1 where no frame is there."""
+    is_binary = option.to == 'pcapng'
+    out = open(option.output, 'wb' if is_binary else 'w') if option.output else (
+        sys.stdout.buffer if is_binary else sys.stdout)
+    try:
+        read = log.Log(option, out.flush)
+        write(option, read, out)
+    finally:
+        if option.output:
+            out.close()
+    return 0 if read.summary() else 1

@@ -1,0 +1,101 @@
+"""What is counted of frames: messages by type, repeats, losses, response times, entries, marks."""
+
+from collections import Counter
+
+from .events import DAMAGED
+from .message import AGAIN, BLOCK, LOST, POLL
+
+# How many response times are kept for the median and the 99th percentile: beyond, every second one, and so on.
+MOST_TIMES = 1 << 16
+
+
+class Sample:
+    """Numbers of which about as many are kept, evenly spread; the greatest is exact."""
+
+    def __init__(self):
+        self.kept, self.every, self.count, self.most = [], 1, 0, None
+
+    def add(self, number):
+        self.most = number if self.most is None else max(self.most, number)
+        if self.count % self.every == 0:
+            self.kept.append(number)
+            if len(self.kept) > MOST_TIMES:
+                self.kept, self.every = self.kept[::2], self.every * 2
+        self.count += 1
+
+    def at(self, part):
+        """The number below which this part of all lies; None where there is none."""
+        if not self.kept:
+            return None
+        ordered = sorted(self.kept)
+        return ordered[min(int(part * len(ordered)), len(ordered) - 1)]
+
+
+class Counts:
+    """Counts messages, each as it comes."""
+
+    def __init__(self):
+        self.frames = self.damaged = self.polls = self.repeats = self.lost_answers = self.marks = 0
+        self.types, self.inputs, self.fill = Counter(), Counter(), Sample()
+        self.responses, self.entries = Sample(), 0
+        self.first = self.last = self.open_poll = self.number = self.sent_at = self.command = None
+        self.begins_with_poll = self.block = None
+
+    def add(self, event, message):
+        """Counts a frame; a damaged one has no message."""
+        self.frames += 1
+        if event.time is not None:
+            self.first, self.last = event.time if self.first is None else self.first, event.time
+        if message is None:
+            self.damaged += event.kind == DAMAGED
+            return
+        self.types[message.code] += 1
+        if self.begins_with_poll is None:
+            self.begins_with_poll = message.code == POLL
+        if message.is_answer:
+            self._answer(event, message)
+        else:
+            self._command(event, message)
+
+    def _command(self, event, message):
+        if self.open_poll is not None:
+            self.lost_answers += 1
+        self.command, self.sent_at = message.code, event.time
+        self.open_poll = None
+        if message.code == POLL:
+            self.polls += 1
+            self.repeats += message.fields['block'] == self.number
+            self.open_poll = self.number = message.fields['block']
+
+    def _answer(self, event, message):
+        if self.command is not None and message.code == self.command + 128:
+            if event.time is not None and self.sent_at is not None and event.time >= self.sent_at:
+                self.responses.add(event.time - self.sent_at)
+            self.command = None
+        if message.code == BLOCK:
+            self.open_poll = None
+            is_repeat = message.fields['status'] & AGAIN and message.fields['block'] == self.block
+            self.block = message.fields['block']
+            if not is_repeat:
+                self._block(message)
+
+    def _block(self, message):
+        self.marks += bool(message.fields['status'] & LOST)
+        self.fill.add(len(message.parts))
+        self.entries += len(message.parts)
+        self.inputs.update(part['input'] for part in message.parts)
+
+    def end(self):
+        """A poll at the end has no answer."""
+        lost = self.lost_answers + (self.open_poll is not None)
+        return lost
+
+    def in_short(self):
+        """The numbers of a summary."""
+        return {'frames': self.frames, 'polls': self.polls, 'repeats': self.repeats, 'answers_lost': self.end(),
+                'marks': self.marks}
+
+    @property
+    def seconds(self):
+        """How long the log is; None without times."""
+        return None if self.first is None or self.last <= self.first else self.last - self.first

@@ -1,0 +1,153 @@
+"""`fiolog decode`: what each frame says."""
+
+import argparse
+import csv
+import functools
+import json
+import sys
+import time
+
+from . import log, terminal
+from .events import DAMAGED, FRAME
+from .judge import is_answer
+from .message import BLOCK, LETTERS, POLL, message_of, part_words
+
+# Times from here on are of a date.
+DATED = 1e8
+COLUMNS = ['file', 'line', 'time', 'direction', 'octets', 'type', 'says', 'input', 'state', 'stamp', 'wide']
+TYPES = {'poll': POLL, 'block': BLOCK}
+
+
+def add_arguments(parser):
+    log.add_arguments(parser)
+    form = parser.add_mutually_exclusive_group()
+    form.add_argument('--json', action='store_true', help='one object a line')
+    form.add_argument('--csv', action='store_true', help='a table; an entry a row')
+    parser.add_argument('--input', type=int, metavar='N', help='only messages with this input, and of them its lines')
+    parser.add_argument('--type', action='append', metavar='N', help='only this type: 49 to 60, 177 to 188, poll, block')
+    parser.add_argument('--block', type=int, metavar='N', help='only polls and blocks with this number')
+    parser.add_argument('--status', metavar='LETTERS', help='only blocks with one of these bits: C, F, E, G')
+    parser.add_argument('--direction', choices=('sent', 'heard'), help='only what the CPU sent or heard')
+    parser.add_argument('--lines', metavar='A-B', help='only these lines')
+    parser.add_argument('--color', choices=('auto', 'always', 'never'), default='auto', help='colours (on a terminal)')
+
+
+@functools.lru_cache(maxsize=64)
+def _date(whole):
+    return time.strftime('%Y-%m-%d %H:%M:%S.', time.gmtime(whole))
+
+
+def clock(seconds):
+    """A time as it is shown: with its date where it has one, in UTC."""
+    if seconds is None:
+        return ''
+    if seconds < DATED:
+        return '%.6f' % seconds
+    whole, part = divmod(round(seconds * 1e6), 1_000_000)
+    return _date(whole) + ('%06d' % part if part % 1000 else '%03d' % (part // 1000))
+
+
+def direction_of(event):
+    """The direction of a frame: what the log says, or what the type does."""
+    return event.direction or ('<' if is_answer(event.octets) else '>')
+
+
+class Filter:
+    """Which messages are asked for."""
+
+    def __init__(self, option):
+        self.option = option
+        self.types = {TYPES.get(one) or int(one) for one in option.type or ()}
+        self.bits = sum(LETTERS[letter] for letter in set((option.status or '').upper()))
+        first, _, last = (option.lines or '').partition('-')
+        self.lines = range(int(first or 1), int(last or first) + 1) if option.lines else None
+        self.is_open = not any((self.types, self.bits, self.lines, option.direction, option.block is not None,
+                                option.input is not None))
+
+    def takes(self, event, message):
+        """Whether this message is asked for; a damaged one has None."""
+        if self.is_open:
+            return True
+        if self.lines is not None and event.number not in self.lines:
+            return False
+        if self.option.direction and direction_of(event) != {'sent': '>', 'heard': '<'}[self.option.direction]:
+            return False
+        if message is None:
+            return not (self.types or self.bits or self.option.block is not None or self.option.input is not None)
+        return (not self.types or message.code in self.types) and self._by_fields(message)
+
+    def _by_fields(self, message):
+        if self.bits and not (message.code == BLOCK and message.fields['status'] & self.bits):
+            return False
+        if self.option.block is not None and message.fields.get('block') != self.option.block:
+            return False
+        return self.option.input is None or any(part['input'] == self.option.input for part in message.parts)
+
+    def parts(self, message):
+        """The entries or items that are asked for."""
+        if self.option.input is None:
+            return message.parts
+        return [part for part in message.parts if part['input'] == self.option.input]
+
+
+def as_text(write, paint):
+    """Writes messages in the words of `show`."""
+    def line(name, event, message, parts):
+        direction = direction_of(event)
+        head = '%-6s %s%s ' % ('%d:' % event.number, clock(event.time) + ' ' if event.time is not None else '', direction)
+        if message is None:
+            write('%s%s\n' % (head, paint('fault', event.note)))
+            return
+        colour = 'heard' if direction == '<' else 'sent'
+        if message.code == BLOCK and message.fields['status']:
+            colour = 'mark'
+        write('%s%s\n' % (head, paint(colour, message.says)) + ''.join(part_words(part) + '\n' for part in parts))
+    return line
+
+
+def as_json(write):
+    """Writes an object a line."""
+    def line(name, event, message, parts):
+        one = {'file': name, 'line': event.number, 'time': event.time, 'direction': direction_of(event),
+               'octets': event.octets.hex()}
+        if message is None:
+            one['fault'] = event.note
+        else:
+            one.update(type=message.code, says=message.says, **message.fields)
+            if message.parts:
+                one['entries' if message.code == BLOCK else 'items'] = parts
+        write(json.dumps(one) + '\n')
+    return line
+
+
+def as_csv(write):
+    """Writes a row for each message without entries, and for each entry."""
+    rows = csv.writer(argparse.Namespace(write=write), lineterminator='\n')
+    rows.writerow(COLUMNS)
+
+    def line(name, event, message, parts):
+        head = [name, event.number, '' if event.time is None else event.time, direction_of(event), event.octets.hex(),
+                '' if message is None else message.code, event.note if message is None else message.says]
+        for part in parts or [{}]:
+            rows.writerow(head + [part.get(column, '') for column in COLUMNS[len(head):]])
+    return line
+
+
+def run(option):
+    """Decodes the logs; status 1 where a frame is damaged or none is there."""
+    write, taken = sys.stdout.write, Filter(option)
+    if option.json or option.csv:
+        line = as_json(write) if option.json else as_csv(write)
+    else:
+        line = as_text(write, terminal.painter(option.color))
+    read = log.Log(option, sys.stdout.flush)
+    for event in read.events():
+        if event.kind == FRAME:
+            message = message_of(event.octets)
+        elif event.kind == DAMAGED:
+            message = None
+        else:
+            continue
+        if taken.takes(event, message):
+            line(read.name, event, message, taken.parts(message) if message else [])
+    return 0 if read.summary() and not read.kinds[DAMAGED] else 1

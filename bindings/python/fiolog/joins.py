@@ -1,0 +1,99 @@
+"""Frames that stand on several lines: dumps with offsets, octets wrapped at a width, arrays, one octet a row."""
+
+import re
+
+from . import judge
+from .notations import HEX_LIST
+
+# The longest frame with SDLC around it takes fewer octets, and an array of it fewer lines.
+MOST_OCTETS = 4096
+MOST_LINES = 1024
+WIDTHS = (8, 16, 24, 32)
+_OPENED = re.compile(r'(?:=[^{}=;]*|\b(?:bytes|bytearray|frozenset|list)[ \t]*\(?)[{\[][^{}\[\]]*$')
+_CLOSED = re.compile(r'[}\]]')
+_ARRAY_LINE = re.compile(r'[ \t]*(?:(?:0x[0-9a-f]{1,2}|\d{1,3})(?:[ \t]*[,;][ \t]*|[ \t]+|$))*(?:/\*.*?\*/|//.*|#.*)?[ \t]*',
+                         re.IGNORECASE)
+_COMMENT = re.compile(r'/\*.*?\*/|//.*$')
+
+
+def opens_array(text):
+    """Whether a line opens an array and does not close it."""
+    return bool(_OPENED.search(_COMMENT.sub(' ', text)))
+
+
+def goes_on(text):
+    """Whether a line has octets of an array alone, or its end."""
+    return bool(_CLOSED.search(text)) or bool(_ARRAY_LINE.fullmatch(text))
+
+
+def offsets(text):
+    """The numbers that an offset may be."""
+    return {int(text, base) for base in (16, 10, 8) if re.fullmatch('[0-7]+' if base == 8 else '[0-9]+' if base == 10
+                                                                    else '[0-9a-fA-F]+', text)}
+
+
+class Dump:
+    """A dump, whose lines begin with offsets."""
+
+    def __init__(self, reading):
+        self.first, self.octets, self.width = reading, reading.octets, len(reading.octets)
+        self.is_over = self.width not in WIDTHS
+
+    def takes(self, reading):
+        """Adds a line that goes on; False where it does not."""
+        if self.is_over or len(self.octets) not in offsets(reading.offset) or len(self.octets) > MOST_OCTETS:
+            return False
+        self.octets += reading.octets
+        self.is_over = len(reading.octets) < self.width
+        return True
+
+
+def chain(octets):
+    """Messages that follow one another, where all octets are such; no message of any length is in it."""
+    found = []
+    while octets:
+        fault = judge.fault_of(octets)
+        length = len(octets) if fault.kind == 0 else fault.needed if fault.kind == judge.WRONG_LENGTH else 0
+        if not 0 < length <= len(octets) or not judge.is_sure(octets[:length]) and length > 1:
+            return []
+        found.append(octets[:length])
+        octets = octets[length:]
+    return found
+
+
+class Wrap:
+    """Octets wrapped at a width: the first line lacks some, or is of any length."""
+
+    def __init__(self, reading):
+        self.first, self.octets, self.width = reading, reading.octets, len(reading.octets)
+        self.is_over = False
+
+    def takes(self, octets):
+        """Adds the octets of a line that has nothing else. False where they are too many."""
+        joined = self.octets + octets
+        if len(joined) > MOST_OCTETS or len(octets) > self.width or not is_open(joined, self.first.count, True):
+            return False
+        self.octets = joined
+        self.is_over = len(octets) < self.width or not is_open(joined, self.first.count, False)
+        return True
+
+
+def is_open(octets, count, may_end):
+    """Whether octets may go on, or, if they `may_end`, whether they may end here too."""
+    if count:
+        return len(octets) < count + may_end
+    if judge.spells(octets):
+        return may_end or not judge.is_sure(octets)
+    return judge.missing(octets) > 0
+
+
+def is_wrapped(reading):
+    """Whether the octets of a line end at a width, and may go on in the next one."""
+    at_width = len(reading.octets) in WIDTHS or bool(reading.count) and len(reading.octets) >= WIDTHS[0]
+    return at_width and is_open(reading.octets, reading.count, False)
+
+
+def bare(text):
+    """The octets of a line that has nothing but digits; None where it has more."""
+    text = text.strip()
+    return text if HEX_LIST.fullmatch(text) else None

@@ -1,0 +1,66 @@
+"""What libfio2070 says of octets: whether they spell a message, and how many octets it needs."""
+
+from fio2070 import _library as c
+
+_command, _answer = c.CCommand(), c.CAnswer()
+_decode_command, _decode_answer = c.library.fio2070_decode_command, c.library.fio2070_decode_answer
+_ANSWERS = 128      # `show` reads a frame as an answer from this first octet on
+WRONG_LENGTH = 4
+# Loggers wrap octets at 8 of them or more.
+SHORTEST_WIDTH = 8
+
+
+def fault_of(octets):
+    """The library's fault; its kind is 0 where the octets spell a message."""
+    if octets and octets[0] >= _ANSWERS:
+        return _decode_answer(octets, len(octets), _answer)
+    return _decode_command(octets, len(octets), _command)
+
+
+def last_read(octets):
+    """The fields of the message that was judged last, which these octets spell."""
+    return _answer if is_answer(octets) else _command
+
+
+def spells(octets):
+    """Whether the octets spell a message."""
+    return fault_of(octets).kind == 0
+
+
+# The first octets after which any number of octets may come.
+_LOOSE = frozenset(octet for octet in range(256) if spells(bytes([octet])) and spells(bytes([octet, 0])))
+
+
+def is_sure(octets):
+    """Whether a message can hardly be other text: its length is that of its type, and above 1."""
+    return len(octets) > 1 and octets[0] not in _LOOSE
+
+
+def fits_surely(octets):
+    """Whether the octets spell a message that can hardly be other text."""
+    return len(octets) > 1 and octets[0] not in _LOOSE and fault_of(octets).kind == 0
+
+
+def fits_short(octets):
+    """Whether the octets spell a message in fewer octets than a log wraps lines at."""
+    return len(octets) < SHORTEST_WIDTH and spells(octets)
+
+
+def missing(octets):
+    """How many octets the message still needs; 0 where that cannot be said."""
+    fault = fault_of(octets)
+    return max(fault.needed - fault.got, 0) if fault.kind == WRONG_LENGTH else 0
+
+
+def words_of(octets):
+    """The words of the fault, as `show` writes them; empty where there is none."""
+    fault = fault_of(octets)
+    if fault.kind == 0:
+        return ''
+    out = (c.c_uint8 * c.LONGEST_FAULT_TEXT)()
+    return bytes(out[:c.library.fio2070_fault_text(fault, out, len(out))]).decode('ascii')
+
+
+def is_answer(octets):
+    """Whether `show` reads the octets as an answer."""
+    return bool(octets) and octets[0] >= _ANSWERS

@@ -1,0 +1,132 @@
+"""Octets as logs write them: digits with all kinds of signs between, numbers, and string literals."""
+
+import re
+
+from .forms import CHECK_TAIL, DECIMAL, HEX, HEX_LIST, TAILS
+
+_MARK = re.compile(r'0x|[^0-9a-f]+', re.IGNORECASE)
+_PAIRS = {'[': ']', '{': '}', '(': ')', '<': '>', '"': '"', "'": "'"}
+_SPLIT = re.compile(r'[ \t]{2,}|\t|[ \t]*\||[ \t]+(?=["\'<\[(:])')
+_QUOTED = re.compile(r'''(?P<prefix>\b(?:b|rb|br|u8))?(?P<quote>["'])(?P<text>(?:[^"'\\]|\\.|(?!(?P=quote))["'])*)(?P=quote)''')
+_LISTED = re.compile(r'\{(?P<braces>[^{}]*)\}|\[(?P<brackets>[^\[\]]*)\]|\((?P<rounds>[^()]*)\)')
+_COMMENT = re.compile(r'/\*.*?\*/|//.*$')
+_ESCAPE = re.compile(r'\\(?:x([0-9a-fA-F]{1,2})|([0-7]{1,3})|(.))', re.DOTALL)
+_ESCAPED = {'n': '\n', 'r': '\r', 't': '\t', 'a': '\a', 'b': '\b', 'f': '\f', 'v': '\v', 'e': '\x1b'}
+
+
+def from_digits(text):
+    """The octets of a list of hexadecimal words."""
+    return bytes.fromhex(''.join('0' + one if len(one) == 1 else one for one in _MARK.split(text)))
+
+
+def _from_numbers(text):
+    numbers = [int(one) for one in re.findall(r'\d+', text)]
+    return bytes(numbers) if numbers and max(numbers) < 256 else None
+
+
+def _is_tail(text):
+    """Whether nothing but a remark, a count or an ending is left."""
+    while text.strip():
+        found = next((tail for tail in (pattern.match(text) for pattern in TAILS) if tail and tail.end()), None)
+        if not found:
+            return False
+        text = text[found.end():]
+    return True
+
+
+def _shows(column, octets):
+    """Whether a column of characters is that of the octets."""
+    if not column or len(column) > len(octets):
+        return False
+    for shown, octet in zip(column.ljust(len(octets)), octets):
+        if 0x21 <= octet <= 0x7e and shown != chr(octet):
+            return False
+        if octet <= 0x20 and shown.isalnum():
+            return False
+    return True
+
+
+def with_column(text):
+    """The octets before a column of their characters; None where there is no such column."""
+    for split in _SPLIT.finditer(text):
+        left, right = text[:split.start()], text[split.end():]
+        if len(right) > len(left) // 2 + 4 or not HEX_LIST.fullmatch(left.strip()):
+            continue    # a column has a character for an octet, which takes two digits or more
+        octets = from_digits(left)
+        columns = [right, right[:-1], right[1:-1], right[1:]] if right else []
+        if any(_shows(column, octets) for column in columns):
+            return octets
+    return None
+
+
+def _digits(text):
+    """The list of octets that a text is but for its tail; nothing where it is none."""
+    text = CHECK_TAIL.sub('', text)
+    found = HEX_LIST.match(text)
+    return found[0] if found and _is_tail(text[found.end():]) else ''
+
+
+def _inside(text):
+    """The text between brackets or quotes around all of it."""
+    while len(text) > 1 and _PAIRS.get(text[0]) == text[-1]:
+        text = text[1:-1].strip()
+    return text
+
+
+def readings(text):
+    """How a text may be octets and nothing more but a tail: the notation, and the octets."""
+    if HEX['plain'].fullmatch(text):
+        yield 'hex', bytes.fromhex(text)
+        column = with_column(text) if '  ' in text or '\t' in text else None
+        if column is not None:
+            yield 'column', column
+        return
+    inner = _inside(text)
+    digits = _digits(text) or _digits(inner)
+    if digits:
+        yield 'hex', from_digits(digits)
+    elif HEX['single'].fullmatch(inner):
+        yield 'digits', from_digits(inner)
+    column = with_column(text)
+    if column is not None:
+        yield 'column', column
+    if DECIMAL.fullmatch(text) or DECIMAL.fullmatch(inner):
+        numbers = _from_numbers(inner)
+        if numbers:
+            yield 'decimal', numbers
+
+
+def from_literal(text):
+    """The octets of a string literal of C, Python or a shell; None where a character is above 255."""
+    def character(escape):
+        if escape[1]:
+            return chr(int(escape[1], 16))
+        return chr(int(escape[2], 8) & 0xff) if escape[2] else _ESCAPED.get(escape[3], escape[3])
+    try:
+        return _ESCAPE.sub(character, text).encode('latin-1')
+    except UnicodeEncodeError:
+        return None
+
+
+def delimited(text):
+    """Octets in quotes, braces or brackets anywhere in a line: where they begin, and each way to read them."""
+    for quoted in _QUOTED.finditer(text):
+        inner = quoted['text'].strip()
+        if not quoted['prefix'] and HEX_LIST.fullmatch(inner) and '\\' not in inner:
+            yield quoted.start(), from_digits(inner)
+        literal = from_literal(quoted['text']) if quoted['prefix'] or '\\' in quoted['text'] else None
+        if literal:
+            yield quoted.start(), literal
+    for listed in _LISTED.finditer(text):
+        if listed['brackets'] is not None and re.search(r'\w[ \t]*$', text[:listed.start()]):
+            continue    # the length of an array
+        inner = _COMMENT.sub(' ', next(group for group in listed.groups() if group is not None)).strip(' \t,;')
+        found = re.fullmatch(r'(?:\(\w+\)\s*)?(?:0x[0-9a-f]{1,2}[uU]?|\d{1,3})(?:[\s,;]+(?:\(\w+\)\s*)?(?:0x[0-9a-f]{1,2}[uU]?|\d{1,3}))*',
+                             inner, re.IGNORECASE)
+        if found:
+            words = re.findall(r'0x[0-9a-f]+|\b\d+', re.sub(r'\(\w+\)', '', inner), re.IGNORECASE)
+            numbers = [int(word, 16) if word[:2] in ('0x', '0X') else int(word) for word in words]
+            if max(numbers) < 256:
+                yield listed.start(), bytes(numbers)
+        if HEX_LIST.fullmatch(inner):
+            yield listed.start(), from_digits(inner)

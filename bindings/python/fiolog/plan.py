@@ -1,0 +1,105 @@
+"""`fiolog plan`: the row of docs/PLANNING.md for a setting, and what an outage costs. Each number has its clause, or the
+words *computed, not proved*."""
+
+import json
+import sys
+
+from . import terminal
+
+LIMITS = {'standard': (255, 1024), 'largest': (255, 8192)}
+COMPUTED = 'computed, not proved'
+MOST_ROUNDS = 10_000
+MOST_INPUTS, MOST_FILTER, MOST_SCANS = 64, 255, 1 << 31
+
+
+def number_in(low, high):
+    """A number of the command line, from low to high."""
+    def read(text):
+        number = int(text)
+        if not low <= number <= high:
+            raise ValueError(text)
+        return number
+    read.__name__ = 'number from %d to %d' % (low, high)
+    return read
+
+
+def add_arguments(parser):
+    parser.add_argument('--inputs', type=number_in(1, MOST_INPUTS), required=True, metavar='N',
+                        help='inputs that are not ignored, 1 to 64')
+    parser.add_argument('--filter', type=number_in(0, MOST_FILTER), required=True, metavar='N',
+                        help='the smallest filter of one of them, 0 to 255')
+    parser.add_argument('--limits', choices=LIMITS, default='standard', help='1,024 entries wait (standard) or 8,192')
+    parser.add_argument('--outage', type=number_in(0, MOST_SCANS), metavar='MS', help='the link is down so long')
+    parser.add_argument('--lost', type=number_in(0, 1000), default=0, metavar='N', help='rounds lost in a row')
+    parser.add_argument('--every', type=number_in(1, MOST_SCANS), metavar='MS', help='a poll comes so often')
+    parser.add_argument('--json', action='store_true', help='a list of objects')
+
+
+def logged_in(inputs, filter_length, scans):
+    """The most transitions in so many scans: all inputs change at the first, then whenever a filter lets them."""
+    return inputs * -(-scans // filter_length)
+
+
+def paces(inputs, filter_length, per_block, waiting, left):
+    """How far apart rounds may begin so that the entries that wait get fewer and never too many, and after how many
+    of them all are caught up; the first makes its block before the next scan."""
+    longest = per_block * filter_length // inputs
+    for every in sorted({longest // 4, longest // 2, longest - filter_length}):
+        rounds = scans = taken = most = 0
+        while every > 0 and taken < left + logged_in(inputs, filter_length, scans) and rounds < MOST_ROUNDS:
+            rounds, taken, scans = rounds + 1, taken + per_block, scans + every
+            most = max(most, left + logged_in(inputs, filter_length, scans) - taken)
+        if 0 < rounds < MOST_ROUNDS and most <= waiting:
+            yield every, rounds + 1
+
+
+def row(option):
+    """The rows: a name, a number with its unit, and where it is from."""
+    inputs, length = option.inputs, max(option.filter, 1)
+    per_block, waiting = LIMITS[option.limits]
+    every = per_block * length // inputs
+    apart = every // (option.lost + 1)
+    yield 'poll every', '%d ms' % every, '`enough` of `IsPolledInTime`'
+    if option.lost:
+        yield ('begin a round every, so that %d lost in a row lose nothing' % option.lost, '%d ms' % apart,
+               '`enough` of `IsPolledInTime`')
+    yield 'entries that wait, at most', inputs * (every + length - 1) // length, '`few_wait` of `KeepsUp`'
+    yield 'late, at most', '%d ms' % (every + length - 2), '`never_late` of `Delivers`'
+    yield ('entries that wait, at most, answers lost', inputs * (2 * every + length - 1) // length,
+           '`rounds_keep_up` of `Delivers`')
+    yield 'late, at most, answers lost', '%d ms' % (2 * every + length - 2), '`never_late` of `Delivers`'
+    longest = waiting // inputs * length
+    yield 'outage without loss, at most', '%d ms' % longest, '`room` of `IsOutage`; `outage` of `Delivers`'
+    if option.every is not None:
+        fits = 'nothing is lost' if option.every <= every else 'some may be lost in the densest traffic'
+        yield 'a poll every %d ms' % option.every, fits, ('`enough` of `IsPolledInTime`' if option.every <= every
+                                                          else COMPUTED)
+    if option.outage is not None:
+        yield from outage(option, inputs, length, per_block, waiting, longest)
+
+
+def outage(option, inputs, length, per_block, waiting, longest):
+    """What waits after an outage, and how it is caught up."""
+    logged = logged_in(inputs, length, option.outage)
+    left = min(logged, waiting)
+    yield 'wait after an outage of %d ms, at most' % option.outage, left, COMPUTED
+    if option.outage <= longest:
+        yield 'lost in it', 0, '`outage` of `Delivers`'
+    else:
+        yield 'lost in it, at most', logged - left, COMPUTED
+    rounds = 1 + -(-left // per_block)
+    yield 'caught up, with nothing between the rounds', '%d rounds' % rounds, '`caught_up` of `clean_rounds_catch_up`'
+    for every, count in paces(inputs, length, per_block, waiting, left):
+        yield 'caught up, a round every %d ms' % every, '%d rounds, %d ms' % (count, count * every), COMPUTED
+
+
+def run(option):
+    """Writes the row."""
+    rows = list(row(option))
+    if option.json:
+        json.dump([{'what': what, 'number': number, 'from': source} for what, number, source in rows], sys.stdout, indent=1)
+        print()
+    else:
+        terminal.table('%d open inputs with filters of at least %d, %s limits'
+                       % (option.inputs, option.filter, option.limits), ['what', 'number', 'from'], rows)
+    return 0

@@ -1,0 +1,160 @@
+"""Rows of tables with a header, and lines of JSON."""
+
+import csv
+import json
+import re
+
+from . import times
+from .forms import COLUMNS, MATCHERS, TIMES, direction_of
+from .grammar import Reading
+from .notations import delimited, readings
+
+DELIMITERS = '\t;,|'
+# How much longer than the shortest step between two octets a pause is that ends a frame.
+PAUSE = 2.5
+
+
+def time_of(value):
+    """The seconds of a cell: a number, or a time of the table."""
+    if isinstance(value, (int, float)) and not isinstance(value, bool):
+        value = repr(value)
+    text = str(value).strip().strip('"')
+    for name in TIMES:
+        found = MATCHERS[name].fullmatch(text)
+        if found:
+            return times.seconds(found.groupdict())
+    return float(text) if re.fullmatch(r'[+-]?\d{1,12}(?:\.\d*)?(?:e[+-]?\d{1,2})?', text, re.I) else None
+
+
+def octets_of(value):
+    """The ways to read a cell as octets."""
+    if isinstance(value, list):
+        if value and all(isinstance(one, int) and 0 <= one < 256 for one in value):
+            yield bytes(value)
+        elif value and all(isinstance(one, str) for one in value):
+            yield from octets_of(' '.join(value))
+        return
+    text = str(value).strip()
+    for _, octets in readings(text):
+        yield octets
+    for _, octets in delimited(text):
+        yield octets
+
+
+def cells_of(text, delimiter):
+    """The cells of a row; none where it is no row."""
+    try:
+        return next(csv.reader([text], delimiter=delimiter, skipinitialspace=True), [])
+    except csv.Error:
+        return []
+
+
+def direction_of_cell(value):
+    """The direction that a cell names."""
+    return direction_of(str(value).strip().strip('"[](): '))
+
+
+class Table:
+    """A table with a header: which columns have the time, the direction and the octets."""
+
+    def __init__(self, delimiter, names):
+        self.delimiter = delimiter
+        self.names = [name.strip().strip('"\ufeff').strip() for name in names]
+        self.time = self._first('time')
+        self.directions = self._all('direction')
+        self.octets = self._all('octets')
+        self.sides = [(place, '>' if COLUMNS['sent'].match(self.names[place]) else '<')
+                      for place in self.octets
+                      if COLUMNS['sent'].match(self.names[place]) or COLUMNS['heard'].match(self.names[place])]
+        if len({side for _, side in self.sides}) < 2:
+            self.sides = []
+
+    def _all(self, kind):
+        return [place for place, name in enumerate(self.names) if COLUMNS[kind].match(name)]
+
+    def _first(self, kind):
+        return next(iter(self._all(kind)), None)
+
+    def cells(self, text):
+        return cells_of(text, self.delimiter)
+
+    def readings(self, text):
+        """The ways to read a row."""
+        cells = self.cells(text)
+        cell = dict(enumerate(cells)).get
+        time = time_of(cell(self.time, '')) if self.time is not None else None
+        direction = next(filter(None, (direction_of_cell(cell(place, '')) for place in self.directions)), '')
+        sides = dict(self.sides)
+        for place in [place for place, _ in self.sides] or self.octets:
+            for octets in octets_of(cell(place, '')):
+                yield Reading(('column ' + self.names[place],), 'cell', octets, time, sides.get(place, direction))
+
+    def channel(self, text):
+        """What tells the octets of one line of a bus from those of another, where a row has one octet."""
+        cells = dict(enumerate(self.cells(text)))
+        return tuple(cells.get(place, '') for place in self.directions)
+
+
+def table_of(text):
+    """The table whose header a text is; None where it is none."""
+    for delimiter in DELIMITERS:
+        names = cells_of(text, delimiter)
+        if len(names) < 2 or sum(bool(re.search('[A-Za-z]', name)) for name in names) < 2:
+            continue
+        table = Table(delimiter, names)
+        if table.octets and (table.time is not None or table.directions or table.sides):
+            return table
+    return None
+
+
+def _flat(value, name=''):
+    """The names and values of an object, those of objects in it too."""
+    for key, one in value.items():
+        if isinstance(one, dict):
+            yield from _flat(one, key)
+        else:
+            yield key, one
+
+
+def in_object(text):
+    """The ways to read a line that is an object of JSON; None where it is none."""
+    try:
+        value = json.loads(text.rstrip(',').lstrip('['))
+    except ValueError:
+        return None
+    if not isinstance(value, dict):
+        return None
+    time, direction, found = None, '', []
+    for key, one in _flat(value):
+        name = re.sub(r'([a-z])([A-Z])', r'\1_\2', str(key)).lstrip('@_')
+        if COLUMNS['time'].match(name) and time is None:
+            time = time_of(one)
+        if COLUMNS['direction'].match(name) and not direction:
+            direction = direction_of_cell(one)
+        if one is True and not direction:
+            direction = direction_of(name)
+    for key, one in _flat(value):
+        if COLUMNS['octets'].match(str(key)) or direction_of(str(key)):
+            side = direction or direction_of(str(key))
+            found += [Reading(('key ' + str(key),), 'cell', octets, time, side) for octets in octets_of(one)]
+    return found
+
+
+class Pauses:
+    """Says where a pause ends a frame whose octets come one a row."""
+
+    def __init__(self):
+        self.last = self.shortest = None
+
+    def is_one(self, time):
+        """Whether there was a pause before this octet."""
+        if time is None or self.last is None:
+            self.last = time
+            return False
+        step, self.last = time - self.last, time
+        if step <= 0:
+            return False
+        is_pause = self.shortest is not None and step > PAUSE * self.shortest
+        if not is_pause:
+            self.shortest = step if self.shortest is None else min(self.shortest, step)
+        return is_pause

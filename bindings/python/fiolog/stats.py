@@ -1,0 +1,62 @@
+"""`fiolog stats`: how much, how often, how fast. Repeated blocks are counted once."""
+
+import json
+import sys
+
+from . import log, terminal
+from .counts import Counts
+from .events import DAMAGED, FRAME
+from .message import message_of
+
+MILLI = 1000
+
+
+def add_arguments(parser):
+    log.add_arguments(parser)
+    parser.add_argument('--json', action='store_true', help='one object')
+
+
+def milliseconds(seconds):
+    """Seconds as milliseconds with a microsecond's digits."""
+    return None if seconds is None else round(seconds * MILLI, 3)
+
+
+def numbers(counts):
+    """All that is counted, by name."""
+    times, length = counts.responses, counts.seconds
+    return {
+        'frames': counts.frames, 'damaged': counts.damaged, 'seconds': None if length is None else round(length, 6),
+        'types': {str(code): count for code, count in sorted(counts.types.items())},
+        'polls': counts.polls, 'polls_a_second': round(counts.polls / length, 3) if length else None,
+        'repeats': counts.repeats, 'answers_lost': counts.end(),
+        'response_ms': {'count': times.count, 'median': milliseconds(times.at(0.5)),
+                        'percentile_99': milliseconds(times.at(0.99)), 'most': milliseconds(times.most)},
+        'entries': counts.entries, 'entries_a_second': round(counts.entries / length, 3) if length else None,
+        'entries_by_input': {str(number): count for number, count in sorted(counts.inputs.items())},
+        'block_fill': {'blocks': counts.fill.count, 'median': counts.fill.at(0.5), 'most': counts.fill.most},
+        'marks': counts.marks}
+
+
+def flat(one, above=''):
+    """The rows of a table: a name, and its number."""
+    for name, value in one.items():
+        if isinstance(value, dict):
+            yield from flat(value, above + name.replace('_', ' ') + ' ')
+        elif value is not None:
+            yield above + name.replace('_', ' '), value
+
+
+def run(option):
+    """Counts the logs; status 1 where no frame is there."""
+    read, counts = log.Log(option), Counts()
+    for event in read.events():
+        if event.kind in (FRAME, DAMAGED):
+            counts.add(event, message_of(event.octets) if event.kind == FRAME else None)
+    if not read.summary():
+        return 1
+    if option.json:
+        json.dump(numbers(counts), sys.stdout, indent=1)
+        print()
+    else:
+        terminal.table('Frames of %s' % ', '.join(option.files), ['what', 'number'], list(flat(numbers(counts))))
+    return 0

@@ -1,0 +1,94 @@
+"""What is said on standard error, colours, tables and the progress bar. `rich` draws the last two where it is there."""
+
+import os
+import sys
+
+try:
+    import rich
+except ImportError:
+    rich = None
+
+# Files of fewer octets need no bar.
+SHORT = 1 << 22
+COLOURS = {'sent': '36', 'heard': '32', 'fault': '31;1', 'mark': '33', 'dim': '2'}
+_said = set()
+
+
+def say(words):
+    """A line on standard error."""
+    sys.stderr.write('fiolog: %s\n' % words)
+    sys.stderr.flush()
+
+
+def say_once(words):
+    """A line on standard error, the first time alone."""
+    if words not in _said:
+        _said.add(words)
+        say(words)
+
+
+def has_colours(wish):
+    """Whether to write colours: `always`, `never`, or on a terminal that wants them."""
+    if wish == 'auto':
+        return sys.stdout.isatty() and not os.environ.get('NO_COLOR') and os.environ.get('TERM') != 'dumb'
+    return wish == 'always'
+
+
+def painter(wish):
+    """A function that paints a text in a colour of COLOURS, or leaves it."""
+    if has_colours(wish):
+        return lambda colour, text: '\x1b[%sm%s\x1b[0m' % (COLOURS[colour], text)
+    return lambda colour, text: text
+
+
+def table(title, names, rows):
+    """Writes a table: drawn on a terminal with `rich`, else in columns."""
+    if rich and sys.stdout.isatty():
+        from rich.console import Console
+        from rich.table import Table
+        drawn = Table(*names, title=title, title_justify='left')
+        for row in rows:
+            drawn.add_row(*map(str, row))
+        Console().print(drawn)
+        return
+    if sys.stdout.isatty():
+        say_once('rich is not installed: plain tables (Debian package python3-rich)')
+    cells = [list(map(str, names))] + [list(map(str, row)) for row in rows]
+    widths = [max(map(len, column)) for column in zip(*cells)]
+    print(title)
+    for row in cells:
+        print('  ' + '  '.join(cell.ljust(width) for cell, width in zip(row, widths)).rstrip())
+
+
+class Progress:
+    """A bar for a long file, where standard error is a terminal and standard output is none."""
+
+    def __init__(self, descriptor, is_quiet=False):
+        self.bar = self.task = None
+        try:
+            size = os.fstat(descriptor).st_size
+        except OSError:
+            size = 0
+        if is_quiet or size < SHORT or not sys.stderr.isatty() or sys.stdout.isatty():
+            return
+        if not rich:
+            say_once('rich is not installed: no progress bar (Debian package python3-rich)')
+            return
+        from rich.console import Console
+        from rich.progress import Progress as Bar
+        self.bar = Bar(console=Console(stderr=True), transient=True)
+        self.task = self.bar.add_task('reading', total=size)
+
+    def __enter__(self):
+        if self.bar:
+            self.bar.start()
+        return self
+
+    def __exit__(self, *reason):
+        if self.bar:
+            self.bar.stop()
+
+    def add(self, count):
+        """So many octets more were read."""
+        if self.bar:
+            self.bar.advance(self.task, count)

@@ -1,0 +1,67 @@
+-- What a check has found once it has gone through the first lines of a transcript.
+use Rattle.std.proofs.Common.{◌≡◌, ◌≤◌, ◌∙◌, ℕ, suc, List, Option, Some, None, refl, sym, ap, ap₂, arith, length}
+use Rattle.std.specs.Prelude.{option_map, slice_get, unwrap_or}
+use Rattle.std.specs.Option.{option_or}
+use Rattle.fio_check.specs.Facts.{facts_at, facts_with}
+use Rattle.fio_check.specs.Lines.{TranscriptLine}
+use Rattle.fio_check.specs.Observations.{observation_on}
+use Rattle.fio_check.specs.Places.{earliest_above}
+use Rattle.fio_check.specs.Rules.{first_broken, rule_broken}
+use Rattle.fio_check.specs.Verdicts.{breach_at, verdict_on}
+use Rattle.fio_check.specs.declared.facts.Facts.{Facts}
+use Rattle.fio_check.specs.declared.rules.Rule.{Rule}
+use Rattle.fio_check.specs.declared.verdict.Verdict.{Verdict}
+use Rattle.fio_check.specs.declared.verdict.Verdict.TheVariants.{Good, Broken}
+use Rattle.fio_check.proofs.KeptFacts.{facts_next, seen_at}
+use Rattle.fio_check.proofs.Verdicts.{breach-is, earliest_stays}
+
+-- the breach is that of the earliest line that breaks a rule; while there is none, the facts are those of the lines
+pub record StandsSoFar (lines : List TranscriptLine) (frames : ℕ) (facts : Facts) (breach : Option Verdict) : Type 0 where
+  pub found : breach ≡ earliest_above (breach_at lines) frames
+  pub kept : breach ≡ None → facts ≡ facts_at lines frames
+
+module _ (lines : List TranscriptLine) (frames : ℕ) (facts : Facts) where
+  -- no line is left
+  pub verdict_so_far : (breach : Option Verdict) → frames ≡ length lines → StandsSoFar lines frames facts breach
+      → verdict_on lines ≡ unwrap_or breach (Good frames)
+  verdict_so_far breach all so_far =
+      ap (λ n. unwrap_or (earliest_above (breach_at lines) n) (Good n)) (sym all)
+      ∙ ap (λ found. unwrap_or found (Good frames)) (sym so_far.found)
+
+  -- a breach decides, whatever is left
+  pub verdict_of_breach : (verdict : Verdict) → frames ≤ length lines → StandsSoFar lines frames facts (Some verdict)
+      → verdict_on lines ≡ verdict
+  verdict_of_breach verdict within so_far =
+      ap (λ breach. unwrap_or breach (Good (length lines)))
+      (earliest_stays (breach_at lines) frames (length lines) verdict (omega (arith, within)) (sym so_far.found))
+
+  -- ---- one line more
+
+  -- after a breach
+  pub stands_after_breach : (facts' : Facts) (verdict : Verdict) → StandsSoFar lines frames facts (Some verdict)
+      → StandsSoFar lines (suc frames) facts' (Some verdict)
+  stands_after_breach facts' verdict so_far = record {
+    found = ap (λ earlier. option_or earlier (breach_at lines frames)) so_far.found;
+    kept = λ none. absurd (cc);
+  }
+
+  unbroken : (number : ℕ) (broken : Option Rule) → option_map (Broken number) broken ≡ None → broken ≡ None
+  unbroken number None is = refl
+  unbroken number (Some rule) is = absurd (cc)
+
+  -- while there is no breach, by the rule that the line breaks
+  pub stands_with_line : (line : TranscriptLine) (facts' : Facts) (broken : Option Rule) → slice_get lines frames ≡ Some line
+      → broken ≡ first_broken facts (observation_on line) → (broken ≡ None → facts' ≡ facts_with facts (observation_on line))
+      → StandsSoFar lines frames facts None → StandsSoFar lines (suc frames) facts' (option_map (Broken line.number) broken)
+  stands_with_line line facts' broken here is added so_far =
+      let kept = so_far.kept refl in
+      let broken_here : rule_broken lines frames ≡ broken =
+      ap₂ first_broken (sym kept) (seen_at lines frames line here) ∙ sym is in
+      record {
+        found = sym (breach-is lines frames line broken here broken_here)
+            ∙ ap (λ earlier. option_or earlier (breach_at lines frames)) so_far.found;
+        kept = λ none.
+            added (unbroken line.number broken none)
+            ∙ ap (λ above. facts_with above (observation_on line)) kept
+            ∙ sym (facts_next lines frames line here);
+      }

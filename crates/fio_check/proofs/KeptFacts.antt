@@ -1,0 +1,32 @@
+-- What is kept line by line is what stands above the next line.
+use Rattle.std.proofs.Common.{◌≡◌, ℕ, suc, List, Some, refl}
+use Rattle.std.specs.Prelude.{◌==◌, not, slice_get}
+use Rattle.fio_check.specs.Facts.{facts_at, facts_with, latest_poll}
+use Rattle.fio_check.specs.Laws.{KeepsFacts}
+use Rattle.fio_check.specs.Lines.{TranscriptLine}
+use Rattle.fio_check.specs.Observations.{observation_at, observation_on}
+use Rattle.fio_check.specs.declared.observation.Observation.{Observation}
+use Rattle.fio_check.specs.declared.observation.Observation.TheVariants.{Unreadable, Poll, Command, Block, Answer}
+use Rattle.fio_check.proofs.Places.{is_some_and-map}
+
+-- the facts with a line more, by what it says
+facts-next : (lines : List TranscriptLine) (place : ℕ) (observation : Observation) → observation_at lines place ≡ observation
+    → facts_at lines (suc place) ≡ facts_with (facts_at lines place) observation
+facts-next lines place (Poll number) is =
+    rw (is, is_some_and-map (λ poll. poll.value) (λ polled. not (number == polled)) (latest_poll lines place)) refl
+facts-next lines place (Command answer absent) is = rw is refl
+facts-next lines place (Block number status entries absent) is = rw is refl
+facts-next lines place (Answer code accepted) is = rw is refl
+facts-next lines place Unreadable is = rw is refl
+
+-- the line at a place says this
+pub seen_at : (lines : List TranscriptLine) (place : ℕ) (line : TranscriptLine) → slice_get lines place ≡ Some line
+    → observation_at lines place ≡ observation_on line
+seen_at lines place line here = rw here refl
+
+pub facts_next : (lines : List TranscriptLine) (place : ℕ) (line : TranscriptLine) → slice_get lines place ≡ Some line
+    → facts_at lines (suc place) ≡ facts_with (facts_at lines place) (observation_on line)
+facts_next lines place line here = facts-next lines place (observation_on line) (seen_at lines place line here)
+
+pub facts_are_kept : (lines : List TranscriptLine) → KeepsFacts lines
+facts_are_kept lines = record { first = refl; next = facts_next lines }

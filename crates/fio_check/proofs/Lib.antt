@@ -1,0 +1,5 @@
+pub mod FirstFound
+pub mod Places
+pub mod KeptFacts
+pub mod Verdicts
+pub mod BreachesSoFar

@@ -1,0 +1,46 @@
+-- The latest that lines above a place say.
+use Rattle.std.proofs.Common.{◌≡◌, ◌<◌, ◌⊎◌, inl, inr, ℕ, zero, suc, Bool, Option, Some, None, refl, ap, sym, arith}
+use Rattle.std.specs.Prelude.{option_map}
+use Rattle.std.specs.Option.{option_or}
+use Rattle.fio_check.specs.Laws.{IsLatestAbove, IsTheLatest}
+use Rattle.fio_check.specs.Places.{Placed, is_some_and, latest_above}
+use Rattle.fio_check.proofs.Verdicts.{below-or-at}
+
+-- a test of a mapped option tests what is mapped
+pub is_some_and-map : {A B : Type 0} (f : A → B) (test : B → Bool) (o : Option A)
+    → is_some_and (option_map f o) test ≡ is_some_and o (λ x. test (f x))
+is_some_and-map f test None = refl
+is_some_and-map f test (Some x) = refl
+
+later-is_latest : {A : Type 0} (said : ℕ → Option A) (place : ℕ) (o : Option A) (found : Placed A) → said place ≡ o
+    → option_or (option_map (λ value. record { place = place; value = value }) o) (latest_above said place) ≡ Some found
+    → (latest_above said place ≡ Some found → IsLatestAbove said place found) → IsLatestAbove said (suc place) found
+later-is_latest said place (Some value) found is e above =
+    let here : place ≡ found.place = cc in
+    let same : value ≡ found.value = cc in
+    record { above = omega arith; here = rw (← here, ← same) is; none_between = λ between after before. absurd (omega arith) }
+later-is_latest said place None found is e above =
+    let latest = above e in
+    let less : found.place < place = latest.above in
+    let none : (between : ℕ) → found.place < between → between < suc place → (between ≡ place) ⊎ (between < place) → said between ≡ None =
+    λ between after before where_it_is. elim where_it_is as (λ _. said between ≡ None) [ inl same ↦ rw same is | inr below ↦ latest.none_between between after below ] in
+    record { above = omega arith; here = latest.here; none_between = λ between after before. none between after before (below-or-at between place before) }
+
+latest_above-is_latest : {A : Type 0} (said : ℕ → Option A) (place : ℕ) (found : Placed A) → latest_above said place ≡ Some found → IsLatestAbove said place found
+latest_above-is_latest said zero found e = absurd (cc)
+latest_above-is_latest said (suc place) found e = later-is_latest said place (said place) found refl e (latest_above-is_latest said place found)
+
+-- the latest is found
+is_latest-found : {A : Type 0} (said : ℕ → Option A) (place : ℕ) (found : Placed A) → IsLatestAbove said place found → latest_above said place ≡ Some found
+is_latest-found said zero found latest = let none : found.place < 0 = latest.above in absurd (omega arith)
+is_latest-found said (suc place) found latest =
+    elim (below-or-at found.place place latest.above) as (λ _. latest_above said (suc place) ≡ Some found) [
+      | inl here ↦ (let said_here : said place ≡ Some found.value = rw (← here) latest.here in rw said_here (ap (λ n. Some (record { place = n; value = found.value })) (sym here)))
+      | inr below ↦ (
+          let none : said place ≡ None = latest.none_between place below (omega arith) in
+          let above : IsLatestAbove said place found = record { above = below; here = latest.here; none_between = λ between after before. latest.none_between between after (omega arith) } in
+          rw none (is_latest-found said place found above))
+    ]
+
+pub is_the_latest : {A : Type 0} (said : ℕ → Option A) → IsTheLatest said
+is_the_latest said place found = (latest_above-is_latest said place found, is_latest-found said place found)

@@ -1,0 +1,28 @@
+//! Laws of the definitions that the contracts cite: a function states one in its contract, and does
+//! nothing.
+ghost use Rattle.std.specs.Prelude.{ℕ, List};
+ghost use Rattle.fio_check.specs.Facts.{is_answering, number_polled, status_of_block};
+ghost use Rattle.fio_check.specs.Laws.{HasOneVerdict, IsTheLatest, KeepsFacts};
+ghost use Rattle.fio_check.specs.Lines.{TranscriptLine};
+ghost use Rattle.fio_check.specs.Observations.{observation_at};
+
+/// The latest poll above a line is the latest that is sent above it, and so are the latest block
+/// answer and the latest of both.
+pub fn latest_is_latest_above()
+    ensures polls { (lines : List TranscriptLine)
+        → IsTheLatest (λ place. number_polled (observation_at lines place)) }
+    ensures blocks { (lines : List TranscriptLine)
+        → IsTheLatest (λ place. status_of_block (observation_at lines place)) }
+    ensures turns { (lines : List TranscriptLine)
+        → IsTheLatest (λ place. is_answering (observation_at lines place)) }
+{}
+
+/// What is kept line by line while a transcript is checked is what stands above the next line.
+pub fn facts_are_kept()
+    ensures { (lines : List TranscriptLine) → KeepsFacts lines }
+{}
+
+/// A transcript has exactly one verdict, that of `check_trace`.
+pub fn verdicts_are_one()
+    ensures { (lines : List TranscriptLine) → HasOneVerdict lines }
+{}

@@ -1,0 +1,25 @@
+//! The rules of a transcript, of what the CPU's end of the transition link sent and heard: which of
+//! them each line breaks, and the verdict. Nothing here takes memory.
+//!
+//! What the crates above use: `check_trace` gives the one verdict on a list of lines; `rule_broken`
+//! gives the first rule that a line breaks by what stands above it, and `Facts::add` keeps what the
+//! rules read of the lines above.
+//!
+//! The definitions stand in `specs/`, in this order: the lines (`Lines`), what a line says to the
+//! rules (`Observations`), the latest that is said above a place (`Places`), what stands above a line
+//! (`Facts`), the rules (`Rules`), the verdict (`Verdicts`). Their laws (`Laws`) are the contracts of
+//! the module `laws`.
+#![tactic(auto)]
+
+mod facts;
+pub mod laws;
+mod line;
+mod observation;
+mod rules;
+mod verdict;
+
+pub use facts::Facts;
+pub use line::Line;
+pub use observation::Observation;
+pub use rules::{Rule, rule_broken};
+pub use verdict::{Verdict, check_trace};

@@ -1,0 +1,163 @@
+//! What a line of a transcript says to the rules, read from its frame.
+ghost use Rattle.std.specs.Prelude.{◌≡◌, None};
+ghost use Rattle.std.specs.List.{list_any};
+ghost use Rattle.fio_message.specs.Decoding.{answer_in, command_in};
+ghost use Rattle.fio_message.specs.Views.{answer_of, command_of, entries_of, items_of};
+ghost use Rattle.fio_check.specs.Observations.{is_absent, observation_in, observation_of, observation_of_answer, observation_of_command, observation_on};
+
+use crate::line::Line;
+use fio_message::types::{ANSWER, CONFIGURE_INPUTS_ANSWER};
+use fio_message::{
+    AnswerView, CommandView, EntriesView, INPUTS, InputNumber, ItemsView, read_answer,
+    read_command, says_error,
+};
+
+/// What a line says to the rules. An input is absent if no module of this profile has it.
+#[derive(Clone, Copy, Debug, PartialEq, Eq, Hash)]
+pub enum Observation {
+    /// No message of the line's direction.
+    Unreadable,
+    /// A poll.
+    Poll {
+        /// Its number.
+        number: u8,
+    },
+    /// Any other command.
+    Command {
+        /// The type of the answer to it.
+        answer: u8,
+        /// Whether it is a configuration that names an absent input.
+        names_absent: bool,
+    },
+    /// A block answer.
+    Block {
+        /// Its number.
+        number: u8,
+        /// Its status.
+        status: u8,
+        /// How many entries it has.
+        entries: usize,
+        /// Whether one of them names an absent input.
+        names_absent: bool,
+    },
+    /// Any other answer.
+    Answer {
+        /// Its type.
+        code: u8,
+        /// Whether it says that a configuration was taken.
+        accepts: bool,
+    },
+}
+
+impl Observation {
+    /// What a line says.
+    pub fn on(line: &Line) -> Observation
+        ensures { result ≡ observation_on line.now }
+    {
+        Observation::of(line.from_cpu, line.octets.as_slice())
+    }
+
+    /// What a frame says that the CPU sent or heard.
+    pub fn of(from_cpu: bool, octets: &[u8]) -> Observation
+        ensures { result ≡ observation_in from_cpu octets.now }
+    {
+        if from_cpu {
+            Observation::sent(octets)
+        } else {
+            Observation::heard(octets)
+        }
+    }
+
+    /// What a frame says that the CPU sent.
+    fn sent(octets: &[u8]) -> Observation
+        ensures { result ≡ observation_of (command_in octets.now) None }
+    {
+        match read_command(octets) {
+            Ok(command) => Observation::of_command(&command),
+            Err(_) => Observation::Unreadable,
+        }
+    }
+
+    fn of_command(command: &CommandView<'_>) -> Observation
+        ensures { result ≡ observation_of_command (command_of command.now) }
+    {
+        match *command {
+            CommandView::Poll { block } => Observation::Poll { number: block },
+            CommandView::ConfigureInputs { items } => Observation::Command {
+                answer: CONFIGURE_INPUTS_ANSWER,
+                names_absent: names_absent_item(&items),
+            },
+            _ => Observation::Command {
+                answer: command.code() + ANSWER,
+                names_absent: false,
+            },
+        }
+    }
+
+    /// What a frame says that the CPU heard.
+    fn heard(octets: &[u8]) -> Observation
+        ensures { result ≡ observation_of None (answer_in octets.now) }
+    {
+        match read_answer(octets) {
+            Ok(answer) => Observation::of_answer(&answer),
+            Err(_) => Observation::Unreadable,
+        }
+    }
+
+    fn of_answer(answer: &AnswerView<'_>) -> Observation
+        ensures { result ≡ observation_of_answer (answer_of answer.now) }
+    {
+        match *answer {
+            AnswerView::Block {
+                block,
+                entries,
+                status,
+                ..
+            } => Observation::Block {
+                number: block,
+                status,
+                entries: entries.len(),
+                names_absent: names_absent_entry(&entries),
+            },
+            AnswerView::ConfigureInputs { status } => Observation::Answer {
+                code: CONFIGURE_INPUTS_ANSWER,
+                accepts: !says_error(status),
+            },
+            _ => Observation::Answer {
+                code: answer.code(),
+                accepts: false,
+            },
+        }
+    }
+}
+
+/// Whether an entry names an absent input.
+fn names_absent_entry(entries: &EntriesView<'_>) -> bool
+    ensures { result ≡ list_any (λ entry. is_absent entry.input) (entries_of entries.now) }
+{
+    for entry in entries.iter() {
+        if is_absent(entry.input) {
+            return true;
+        }
+    }
+    false
+}
+
+/// Whether an item names an absent input.
+fn names_absent_item(items: &ItemsView<'_>) -> bool
+    ensures { result ≡ list_any (λ item. is_absent item.input) (items_of items.now) }
+{
+    for item in items.iter() {
+        if is_absent(item.input) {
+            return true;
+        }
+    }
+    false
+}
+
+/// Whether an input is above 63, so that no module of this profile has it.
+fn is_absent(input: InputNumber) -> bool
+    ensures { result ≡ is_absent input }
+{
+    usize::from(input.get()) >= INPUTS
+}

@@ -1,6 +1,0 @@
-use Rattle.std.proofs.Common.{None}
-use Rattle.fio_tool.proofs.BreachesSoFar.{StandsSoFar}
-use Rattle.fio_tool.proofs.transcript.verdict.check_trace.Given as goal
-
-abbrev pub invariant-loop-line : goal.invariant-loop-line
-invariant-loop-line l = StandsSoFar l.lines l.line-index l.facts None

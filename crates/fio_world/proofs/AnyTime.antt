@@ -1,0 +1,147 @@
+-- What the record lacks at any time.
+use Rattle.std.proofs.Common.{◌≡◌, ℕ, zero, suc, ◌+◌, ◌-◌, ◌≤◌, Bool, true, false, List, [], ◌∷◌, ◌++◌, length, take, drop, Some, slice_get, refl, ap, sym, subst, ◌∙◌, arith, inl, inr, append_assoc, append-nil}
+use Rattle.std.proofs.lemmas.Bool.{cases_lt}
+use Rattle.std.proofs.lemmas.List.{take-append-le}
+use Rattle.fio_message.specs.declared.commands.Command.TheVariants.{Poll, ConfigureInputs}
+use Rattle.fio_input.specs.Delivery.{scans_in}
+use Rattle.fio_module.specs.Settings.{Settings, AreInRange}
+use Rattle.fio_module.specs.Life.{Life, Scanned, Commanded, life_of, scans_of, filter_events}
+use Rattle.fio_module.specs.Log.{Transition, log_of}
+use Rattle.fio_module.specs.Blocks.{MadeBlock, latest_poll, is_new, blocks_of, next_block, last_end, end_of_blocks}
+use Rattle.fio_module.specs.Laws.{FollowOneAnother}
+use Rattle.fio_module.specs.KeepingUp.{IsYoung}
+use Rattle.fio_module.proofs.Ages.{scans_in-append, was_logged}
+use Rattle.fio_module.proofs.NewLevels.{later_log, scans_of-append}
+use Rattle.fio_module.proofs.BlockLaws.{blocks_follow}
+use Rattle.fio_module.proofs.ListParts.{get_in_front, each-from_get, get_in_drop}
+use Rattle.fio_module.proofs.Stretches.{blocks_new, blocks_old}
+use Rattle.fio_world.specs.Link.{Machine}
+use Rattle.fio_world.specs.Claims.{blocks_in}
+use Rattle.fio_world.specs.Headline.{end_taken}
+use Rattle.fio_world.specs.InTime.{LeadsInTime, IsPolledInTime, behind_after, HasArrived}
+use Rattle.fio_world.specs.AnyTime.{LacksOnlyYoung, IsNeverLate}
+use Rattle.fio_world.proofs.MadeBlocks.{each-at}
+use Rattle.fio_world.proofs.CatchingUp.{IsBetween}
+use Rattle.fio_world.proofs.CleanRoundsInTime.{grows}
+use Rattle.fio_world.proofs.InAllRounds.{has_chain, arrives}
+
+-- what stands in a list from a place on
+pub get_from_drop : {A : Type 0} (n : ℕ) (xs : List A) (k : ℕ) (x : A) → n ≤ k → slice_get xs k ≡ Some x
+    → slice_get (drop n xs) (k - n) ≡ Some x
+get_from_drop zero xs k x low is = let same : k - 0 ≡ k = omega arith in ap (slice_get xs) same ∙ is
+get_from_drop (suc n) [] k x low is = absurd (cc is)
+get_from_drop (suc n) (y ∷ xs) zero x low is = absurd (omega arith)
+get_from_drop (suc n) (y ∷ xs) (suc k) x low is =
+    let same : suc k - suc n ≡ k - n = omega arith in
+    ap (slice_get (drop n xs)) same ∙ get_from_drop n xs k x (omega arith) is
+
+-- without a scan nothing is logged
+pub no_scan : (later life : Life) → scans_in (filter_events later) ≡ 0 → length (log_of (later ++ life)) ≡ length (log_of life)
+no_scan [] life none = refl
+no_scan (Scanned raw ∷ later) life none = absurd (omega arith)
+no_scan (Commanded (ConfigureInputs items) ∷ later) life none = no_scan later life none
+no_scan (other ∷ later) life none = no_scan later life none
+
+-- the blocks begin with what they were
+later_poll : (settings : Settings) (later life : Life) (number : ℕ) (new : Bool) → is_new (latest_poll (later ++ life)) number ≡ new
+    → (more : List MadeBlock) × (blocks_of settings (later ++ life) ≡ blocks_of settings life ++ more)
+    → (more : List MadeBlock) × (blocks_of settings (Commanded (Poll number) ∷ (later ++ life)) ≡ blocks_of settings life ++ more)
+later_poll settings later life number true is rest =
+    let next = next_block settings (later ++ life) in (
+      rest.0 ++ next ∷ [],
+      blocks_new settings (later ++ life) number is ∙ ap (λ bs. bs ++ next ∷ []) rest.1
+          ∙ append_assoc (blocks_of settings life) rest.0 (next ∷ []),
+    )
+later_poll settings later life number false is rest = (rest.0, blocks_old settings (later ++ life) number is ∙ rest.1)
+
+later_blocks : (settings : Settings) (later life : Life)
+    → (more : List MadeBlock) × (blocks_of settings (later ++ life) ≡ blocks_of settings life ++ more)
+later_blocks settings [] life = ([], sym (append-nil (blocks_of settings life)))
+later_blocks settings (Commanded (Poll number) ∷ later) life =
+    later_poll settings later life number (is_new (latest_poll (later ++ life)) number) refl (later_blocks settings later life)
+later_blocks settings (other ∷ later) life = later_blocks settings later life
+
+-- more blocks end no earlier
+ends_rise : (log : List Transition) (per_block before n m : ℕ) (blocks : List MadeBlock)
+    → FollowOneAnother log per_block before blocks → n ≤ m → last_end before (take n blocks) ≤ last_end before (take m blocks)
+ends_rise log per_block before zero zero blocks follow le = omega arith
+ends_rise log per_block before zero (suc m) [] follow le = omega arith
+ends_rise log per_block before zero (suc m) (block ∷ blocks) follow le =
+    let rest = ends_rise log per_block block.end zero m blocks follow.2 (omega arith) in
+    omega (arith, follow.0, follow.1.forward, follow.1.ends)
+ends_rise log per_block before (suc n) zero blocks follow le = absurd (omega arith)
+ends_rise log per_block before (suc n) (suc m) [] follow le = omega arith
+ends_rise log per_block before (suc n) (suc m) (block ∷ blocks) follow le =
+    ends_rise log per_block block.end n m blocks follow.2 (omega arith)
+
+-- nor does the record, where the CPU takes no fewer blocks
+pub end_taken-later : (settings : Settings) (machine now : Machine) (stretch : Life)
+    → life_of now.history ≡ stretch ++ life_of machine.history → machine.round ≤ length (blocks_in settings machine)
+    → machine.round ≤ now.round → end_taken settings machine ≤ end_taken settings now
+end_taken-later settings machine now stretch is within more =
+    let blocks = blocks_in settings machine in
+    let rest = later_blocks settings stretch (life_of machine.history) in
+    let longer : blocks_in settings now ≡ blocks ++ rest.0 = ap (blocks_of settings) is ∙ rest.1 in
+    let same : end_of_blocks (take machine.round (blocks_in settings now)) ≡ end_taken settings machine =
+    ap (λ bs. end_of_blocks (take machine.round bs)) longer ∙ ap end_of_blocks (take-append-le machine.round blocks rest.0 within) in
+    let rise = ends_rise (log_of (life_of now.history)) settings.per_block 0 machine.round now.round (blocks_in settings now)
+    (blocks_follow settings (life_of now.history)) more in
+    omega arith
+
+module _ (settings : Settings) (range : AreInRange settings) (first filter : ℕ) (untaken : Bool) (scans : ℕ) (machine : Machine)
+    (b : IsBetween settings first machine) (begins : List Machine) (last now : Machine) (later : Life)
+    (p : IsPolledInTime settings first filter untaken scans machine begins last later)
+    (t : LeadsInTime settings first scans last now) where
+  abbrev behind : ℕ
+  behind = behind_after untaken scans
+
+  pub arrived_last : HasArrived settings filter (scans + behind) behind machine begins last
+  arrived_last =
+      arrives settings range first filter untaken scans machine b p.all_taken p.nothing_waits p.some p.filters p.enough
+      begins last later p.rounds p.since p.not_applied
+
+  -- what had not been taken at the end of the latest clean round, and what was logged since then, is young
+  pub young_at : (place : ℕ) (transition : Transition) → end_taken settings last ≤ place
+      → slice_get (log_of (life_of now.history)) place ≡ Some transition
+      → IsYoung (scans + behind) filter (life_of now.history) transition
+  young_at place transition high is =
+      let g = grows settings first last now t.events t.no_restart t.leads in
+      let before = life_of last.history in
+      let some = p.some in
+      let here : slice_get (log_of (g.stretch ++ before)) place ≡ Some transition =
+      subst (λ l. slice_get (log_of l) place ≡ Some transition) g.life is in
+      let counts : scans_of (life_of now.history) ≡ scans_of (g.stretch ++ before) = ap scans_of g.life in
+      let few : scans_in (filter_events g.stretch) ≤ scans = omega (arith, g.few, t.few) in
+      elim (cases_lt place (length (log_of before))) as (λ _. IsYoung (scans + behind) filter (life_of now.history) transition) [
+        | inl old ↦
+            let more = later_log g.stretch before in
+            let was = get_in_front (log_of before) more.0 place transition old
+            (subst (λ ts. slice_get ts place ≡ Some transition) more.1 here) in
+            let young = each-at (IsYoung behind filter before) (drop (end_taken settings last) (log_of before)) (place - end_taken settings last)
+            transition arrived_last.young (get_from_drop (end_taken settings last) (log_of before) place transition high was) in
+            omega (arith, scans_of-append g.stretch before)
+        | inr new ↦
+            let w = was_logged g.stretch before place transition new here in
+            let parts : scans_in (filter_events g.stretch) ≡ scans_in (filter_events w.after) + scans_in (filter_events w.upto) =
+            ap (λ l. scans_in (filter_events l)) w.split ∙ scans_in-append w.after w.upto in
+            elim (cases_lt 0 (scans_in (filter_events w.upto))) as (λ _. IsYoung (scans + behind) filter (life_of now.history) transition) [
+              | inl once ↦ omega (arith, w.age)
+              | inr never ↦ absurd (omega (arith, w.logged, no_scan w.upto before (omega arith)))
+            ]
+      ]
+
+  -- so is all that the record lacks
+  pub lacks_only_young : LacksOnlyYoung (scans + behind) filter settings now
+  lacks_only_young =
+      let g = grows settings first last now t.events t.no_restart t.leads in
+      let chain = has_chain settings range first filter untaken scans machine b p.all_taken p.nothing_waits p.some p.filters p.enough begins last p.rounds in
+      let rises = end_taken-later settings last now g.stretch g.life (omega (arith, chain.reached.all_taken)) g.round in
+      let log = log_of (life_of now.history) in
+      each-from_get (IsYoung (scans + behind) filter (life_of now.history)) (drop (end_taken settings now) log)
+      (λ k transition is. young_at (end_taken settings now + k) transition (omega arith) (get_in_drop (end_taken settings now) log k transition is))
+
+-- where a link is polled in time it is never late
+pub never_late : (settings : Settings) → AreInRange settings → (first : ℕ) (machine : Machine) → IsBetween settings first machine
+    → IsNeverLate settings first machine
+never_late settings range first machine b filter untaken scans begins last now later p t =
+    lacks_only_young settings range first filter untaken scans machine b begins last now later p t

@@ -1,0 +1,70 @@
+-- The standard link is never late.
+use Rattle.std.proofs.Common.{ℕ, ◌+◌, ◌*◌, ◌≤◌, Bool, List, drop, arith}
+use Rattle.std.proofs.Math.Nat.{mul-le-mul_right}
+use Rattle.fio_input.specs.Delivery.{open_inputs}
+use Rattle.fio_input.proofs.FewReports.{open_inputs-few}
+use Rattle.fio_module.specs.Settings.{AreInRange, standard_settings}
+use Rattle.fio_module.specs.Life.{Life, life_of, scans_of, filter_events}
+use Rattle.fio_module.specs.Log.{log_of}
+use Rattle.fio_module.specs.KeepingUp.{IsYoung}
+use Rattle.fio_world.specs.declared.event.Event.{Event}
+use Rattle.fio_world.specs.Link.{Machine}
+use Rattle.fio_world.specs.Headline.{end_taken}
+use Rattle.fio_world.specs.InTime.{IsPolledInTime, behind_after}
+use Rattle.fio_world.specs.AnyTime.{IsStandardLink, StandardLinkIsNeverLater}
+use Rattle.fio_world.specs.NewLevels.{StandardLinkRecordsNewLevels}
+use Rattle.fio_world.specs.Sound.{Delivers}
+use Rattle.fio_world.proofs.MadeBlocks.{each-map}
+use Rattle.fio_world.proofs.Promises.{what_arrives}
+
+-- the standard settings are in their ranges
+pub standard_in_range : (id : ℕ) → id ≤ 255 → AreInRange (standard_settings id)
+standard_in_range id fits =
+    record { id_fits = fits; some_per_block = omega arith; few_per_block = omega arith; many_waiting = omega arith }
+
+module _ (scans : ℕ) (untaken : Bool) (few : 64 * scans ≤ 255 * 5) (id first : ℕ) (events : List Event) (begins : List Machine)
+    (machine last now : Machine) (later : Life) (l : IsStandardLink id first events untaken scans machine begins last later now) where
+  -- it is polled in time
+  pub polled : IsPolledInTime (standard_settings id) first 5 untaken scans machine begins last later
+  polled =
+      let all : open_inputs (filter_events (life_of machine.history)) * scans ≤ 64 * scans =
+      mul-le-mul_right scans (open_inputs-few (filter_events (life_of machine.history))) in
+      record {
+        all_taken = l.all_taken;
+        nothing_waits = l.nothing_waits;
+        some = omega arith;
+        filters = l.filters;
+        enough = omega arith;
+        rounds = l.rounds;
+        since = l.since;
+        not_applied = l.not_applied;
+      }
+
+  pub delivers : Delivers (standard_settings id) first machine
+  delivers = what_arrives (standard_settings id) first events machine (standard_in_range id l.id_fits) l.is_run l.no_restart
+
+-- so many scans after another, and their filter
+pub standard_late : (scans : ℕ) (untaken : Bool) (late : ℕ) → 64 * scans ≤ 255 * 5
+    → scans + behind_after untaken scans + 5 ≤ late + 2 → StandardLinkIsNeverLater scans untaken late
+standard_late scans untaken late few old id first events begins machine last now later l =
+    let p = polled scans untaken few id first events begins machine last now later l in
+    let d = delivers scans untaken few id first events begins machine last now later l in
+    let now_life = life_of now.history in
+    each-map (IsYoung (scans + behind_after untaken scans) 5 now_life) (λ transition. scans_of now_life ≤ transition.scans + late)
+    (λ transition is. omega arith) (drop (end_taken (standard_settings id) now) (log_of now_life))
+    (d.never_late 5 untaken scans begins last now later p l.until)
+
+-- and so many after the last sample of a new level
+pub standard_records : (scans : ℕ) (untaken : Bool) (late : ℕ) → 64 * scans ≤ 255 * 5
+    → scans + behind_after untaken scans + 5 ≤ late + 2 → late ≤ 65535 → StandardLinkRecordsNewLevels scans untaken late
+standard_records scans untaken late few old small id first events begins machine last now later l input level before samples after is new long =
+    let p = polled scans untaken few id first events begins machine last now later l in
+    let d = delivers scans untaken few id first events begins machine last now later l in
+    let r = d.new_levels 5 untaken scans begins last now later p l.until input level before samples after is new (omega arith) in
+    let g = r.gained in
+    record {
+      place = r.place;
+      transition = r.transition;
+      logged = r.logged;
+      gained = record { place = g.place; since = g.since; there = g.there; timed = λ same. g.timed (same, omega arith) };
+    }

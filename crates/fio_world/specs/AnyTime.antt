@@ -1,0 +1,61 @@
+-- How late a transition can be in the record at any time, not only at the end of a clean round.
+use Rattle.std.specs.Prelude.{◌≡◌, ℕ, ◌+◌, ◌≤◌, Bool, List, [], ◌++◌, length, drop}
+use Rattle.std.specs.List.{AllByRecursion}
+use Rattle.fio_input.specs.Delivery.{OpenHaveFiltersOf, NoneIsApplied}
+use Rattle.fio_module.specs.Settings.{Settings, standard_settings}
+use Rattle.fio_module.specs.Life.{Life, life_of, scans_of, filter_events}
+use Rattle.fio_module.specs.Log.{log_of}
+use Rattle.fio_module.specs.Blocks.{waiting_of}
+use Rattle.fio_module.specs.KeepingUp.{IsYoung}
+use Rattle.fio_world.specs.declared.event.Event.{Event}
+use Rattle.fio_world.specs.Link.{Machine, IsRun}
+use Rattle.fio_world.specs.Claims.{blocks_in}
+use Rattle.fio_world.specs.Headline.{HaveNoRestart, end_taken}
+use Rattle.fio_world.specs.InTime.{LeadsInTime, RoundsInTime, IsPolledInTime, behind_after}
+
+-- the log has nothing that the record has not, but what the latest scans reported: at most
+-- b + f - 2 scans came after its own
+abbrev pub LacksOnlyYoung : ℕ → ℕ → Settings → Machine → Type 0
+LacksOnlyYoung behind filter settings machine =
+    AllByRecursion (IsYoung behind filter (life_of machine.history))
+    (drop (end_taken settings machine) (log_of (life_of machine.history)))
+
+-- Where a link is polled in time it is never late, for n scans between two clean rounds: until the next
+-- one has ended the record lacks nothing older than n + f - 2 scans, and nothing older than 2 n + f - 2
+-- where a clean round may begin before the CPU has taken all.
+abbrev pub IsNeverLate : Settings → ℕ → Machine → Type 0
+IsNeverLate settings first machine =
+    (filter : ℕ) (untaken : Bool) (scans : ℕ) (begins : List Machine) (last now : Machine)
+    (later : Life) →
+    IsPolledInTime settings first filter untaken scans machine begins last later →
+    LeadsInTime settings first scans last now →
+    LacksOnlyYoung (scans + behind_after untaken scans) filter settings now
+
+-- A standard link: under the standard limits, after any run without restarts that ended where the CPU
+-- had taken all blocks and nothing waited, with filters of at least 5 for the open inputs. Since then a
+-- clean round has begun at least every so many scans, and the module has applied no configuration.
+pub record IsStandardLink (id first : ℕ) (events : List Event) (untaken : Bool) (scans : ℕ)
+    (machine : Machine) (begins : List Machine) (last : Machine) (later : Life) (now : Machine)
+    : Type 0 where
+  pub id_fits : id ≤ 255
+  pub no_restart : HaveNoRestart events
+  pub is_run : IsRun (standard_settings id) first events machine
+  pub all_taken : machine.round ≡ length (blocks_in (standard_settings id) machine)
+  pub nothing_waits : waiting_of (standard_settings id) (life_of machine.history) ≡ []
+  pub filters : OpenHaveFiltersOf (filter_events (life_of machine.history)) 5
+  pub rounds : RoundsInTime (standard_settings id) first untaken scans machine begins last
+  pub since : life_of last.history ≡ later ++ life_of machine.history
+  pub not_applied : NoneIsApplied (filter_events later)
+  -- nor are there more scans since the last of these rounds ended
+  pub until : LeadsInTime (standard_settings id) first scans last now
+
+-- The standard link, polled at least every so many scans, is never later than so many: at any time
+-- what the record lacks is at most so many scans old.
+abbrev pub StandardLinkIsNeverLater : ℕ → Bool → ℕ → Type 0
+StandardLinkIsNeverLater scans untaken late =
+    (id first : ℕ) (events : List Event) (begins : List Machine) (machine last now : Machine)
+    (later : Life) →
+    IsStandardLink id first events untaken scans machine begins last later now →
+    AllByRecursion
+    (λ transition. scans_of (life_of now.history) ≤ transition.scans + late)
+    (drop (end_taken (standard_settings id) now) (log_of (life_of now.history)))

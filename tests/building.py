@@ -1,0 +1,214 @@
+#!/usr/bin/env python3
+"""What `./fio2070` says while it builds the program, and where it cannot: a line a crate, one line that moves on a
+terminal, one clear line and status 125 for each thing that is missing. A short script stands in the place of `rt`, in a
+repository of three crates. Last line: `N passed, M failed`."""
+
+import os
+import pty
+import re
+import shutil
+import signal
+import subprocess
+import sys
+import tempfile
+import time
+
+sys.dont_write_bytecode = True
+
+from support.check import Check
+from support.tables import TOP
+
+CRATES = 'low:\nhigh: low hex\nfio2070: high\nother: low\n'
+
+# Proves nothing. Writes what rt writes, fails in the crate that FAILS names, takes long in the one that LINGERS names,
+# and writes nothing of a library that was proved before.
+RT = r"""#!/bin/sh
+crate=$(basename "$PWD")
+if [ -e out/rlib ] && [ -z "$(find src -newer out/rlib)" ]; then exit 0; fi
+echo "so far: 3 of 10 functions checked"
+mktemp >/dev/null
+if [ "$crate" = "$LINGERS" ]; then sleep 2; fi
+if [ "$crate" = "$FAILS" ]; then echo 'logic=not-proved'; exit 1; fi
+echo 'logic=proved functions=10'
+mkdir -p out
+if [ "$crate" != fio2070 ]; then
+    touch out/rlib
+else
+    printf '#!/bin/sh\necho "run $*"\n' >out/fio2070
+    chmod 755 out/fio2070
+fi
+"""
+
+
+class Clone:
+    """A repository whose program is not built, with a folder of its own for temporary files."""
+
+    def __init__(self, room, name):
+        self.top = os.path.join(room, name)
+        self.bin = os.path.join(self.top, 'bin')
+        self.temporary = os.path.join(self.top, 'temporary')
+        self.out = os.path.join(self.top, 'crates', 'fio2070', 'out')
+        for crate in ('low', 'high', 'other', 'fio2070'):
+            os.makedirs(os.path.join(self.top, 'crates', crate, 'src'))
+        os.mkdir(self.bin)
+        os.mkdir(self.temporary)
+        for file in ('fio2070', 'build'):
+            shutil.copy(os.path.join(TOP, file), self.top)
+        with open(os.path.join(self.top, 'crates.txt'), 'w', encoding='ascii') as listed:
+            listed.write(CRATES)
+        rt = os.path.join(self.bin, 'rt')
+        with open(rt, 'w', encoding='ascii') as script:
+            script.write(RT)
+        os.chmod(rt, 0o755)
+
+    def environment(self, **settings):
+        path = self.bin + os.pathsep + os.environ.get('PATH', os.defpath)
+        return dict(os.environ, PATH=path, TMPDIR=self.temporary, **settings)
+
+    def run(self, *words, before=(), **settings):
+        """What `./fio2070` writes and how it ends."""
+        done = subprocess.run([*before, os.path.join(self.top, 'fio2070'), *words],
+                              env=dict(self.environment(), **settings), stdin=subprocess.DEVNULL,
+                              stdout=subprocess.PIPE, stderr=subprocess.PIPE, timeout=60)
+        return done.stdout.decode(), done.stderr.decode(), done.returncode
+
+    def run_on_terminal(self, **settings):
+        """What `./fio2070` writes on a terminal."""
+        leader, follower = pty.openpty()
+        with subprocess.Popen([os.path.join(self.top, 'fio2070'), 'show'], env=self.environment(**settings),
+                              stdin=subprocess.DEVNULL, stdout=subprocess.DEVNULL, stderr=follower) as done:
+            os.close(follower)
+            written = b''
+            while True:
+                try:
+                    part = os.read(leader, 4096)
+                except OSError:
+                    break
+                if not part:
+                    break
+                written += part
+            done.wait(timeout=60)
+        os.close(leader)
+        return written.decode()
+
+    def is_tidy(self):
+        """Whether no temporary file is left."""
+        return os.listdir(self.temporary) == []
+
+
+def one_line(text, *words):
+    """Whether a text is one line with these words."""
+    return re.fullmatch('fio2070: [^\n]*\n', text) is not None and all(word in text for word in words)
+
+
+def try_build(check, room):
+    """A first build, a further run, and a build after an edit, without a terminal."""
+    clone = Clone(room, 'plain')
+    text, said, status = clone.run('show', 'x')
+    lines = said.splitlines()
+    check.holds('the program runs', (text, status) == ('run show x\n', 0), said)
+    check.holds('a line a crate, lowest first', len(lines) == 3 and all(
+        'crate %d of 3, %s' % (number, crate) in line
+        for number, (crate, line) in enumerate(zip(('low', 'high', 'fio2070'), lines), 1)), said)
+    with open(os.path.join(clone.out, 'build.log'), encoding='utf-8') as log:
+        check.holds('the log has what rt wrote', log.read().count('logic=proved') == 3)
+    check.holds('no temporary file', clone.is_tidy())
+    check.holds('nothing is said of a built program', clone.run('show') == ('run show\n', '', 0))
+    time.sleep(0.1)
+    with open(os.path.join(clone.top, 'crates', 'low', 'src', 'lib.rt'), 'w', encoding='ascii') as source:
+        source.write('\n')
+    said = clone.run('show')[1]
+    check.holds('after an edit what changed is built again, and the time that is left is said', len(said.splitlines()) == 2
+          and 'crate 1 of 3' in said and 'crate 3 of 3' in said and 'left' in said, said)
+
+
+def try_terminal(check, room):
+    """A build on a terminal: one line that moves, and goes."""
+    clone = Clone(room, 'terminal')
+    written = clone.run_on_terminal(LINGERS='high')
+    check.holds('one line that moves', '\n' not in written and 'crate 2 of 3, high: 3 of 10 functions' in written, written)
+    check.holds('the line goes', re.search('\r *\r$', written) is not None, repr(written[-100:]))
+
+
+def try_faults(check, room):
+    """What is missing or fails is said in one line, with status 125 and nothing on standard output."""
+    clone = Clone(room, 'faults')
+    text, said, status = clone.run('show', FAILS='high')
+    check.holds('a crate that is not proved', (text, status) == ('', 125)
+          and one_line(said.splitlines(True)[-1], 'high', os.path.join('out', 'build.log')), said)
+    check.holds('no program', not os.path.exists(os.path.join(clone.out, 'fio2070')))
+    check.holds('no temporary file after a failure', clone.is_tidy())
+    text, said, status = clone.run('show', TMPDIR=os.path.join(room, 'nowhere'))
+    check.holds('a bad TMPDIR', (text, status) == ('', 125) and one_line(said, 'TMPDIR', 'nowhere'), said)
+    tools = os.path.join(clone.top, 'tools')
+    os.mkdir(tools)
+    for name in ('sh', 'env', 'readlink', 'dirname', 'find', 'head'):
+        os.symlink(os.path.realpath(shutil.which(name)), os.path.join(tools, name))
+    text, said, status = clone.run('show', PATH=tools)
+    check.holds('no python3', (text, status) == ('', 125) and one_line(said, 'no command python3'), said)
+    os.symlink(os.path.realpath(sys.executable), os.path.join(tools, 'python3'))
+    text, said, status = clone.run('show', PATH=tools)
+    check.holds('no rt', (text, status) == ('', 125) and one_line(said, 'no command rt', 'README.md'), said)
+
+
+def as_nobody(room):
+    """The words before a command that run it as nobody, since root can write everywhere; `None` where that user can
+    reach no Python or not the folder."""
+    words = ['setpriv', '--reuid=65534', '--regid=65534', '--clear-groups']
+    if shutil.which(words[0]) is None:
+        return None
+    os.chmod(room, 0o755)
+    tried = subprocess.run([*words, 'python3', '-c', 'import os, sys; os.listdir(sys.argv[1])', room],
+                           stdin=subprocess.DEVNULL, stdout=subprocess.DEVNULL, stderr=subprocess.DEVNULL)
+    return words if tried.returncode == 0 else None
+
+
+def try_reading_only(check, room):
+    """A clone that cannot be written to."""
+    before = as_nobody(room) if os.geteuid() == 0 else []
+    if before is None:
+        check.skip('a clone that can only be read', 'nothing can be run as nobody here')
+        return
+    clone = Clone(room, 'reading')
+    for folder, _, _ in os.walk(clone.top):
+        os.chmod(folder, 0o555 if folder != clone.temporary else 0o777)
+    text, said, status = clone.run('show', before=before)
+    for folder, _, _ in os.walk(clone.top):
+        os.chmod(folder, 0o755)
+    check.holds('a clone that can only be read', (text, status) == ('', 125)
+          and one_line(said, 'cannot be written to'), said)
+
+
+def try_interrupt(check, room):
+    """Ctrl-C and a signal to end: both end the build with no temporary file and nothing that still runs."""
+    for number in (signal.SIGINT, signal.SIGTERM):
+        clone = Clone(room, 'interrupt%d' % number)
+        with subprocess.Popen([os.path.join(clone.top, 'fio2070'), 'show'], env=clone.environment(LINGERS='low'),
+                              stdin=subprocess.DEVNULL, stdout=subprocess.PIPE, stderr=subprocess.PIPE,
+                              start_new_session=True) as done:
+            log = os.path.join(clone.out, 'build.log')
+            end = time.monotonic() + 20
+            while time.monotonic() < end and not (os.path.exists(log) and os.path.getsize(log) > 40):
+                time.sleep(0.05)
+            os.killpg(done.pid, number)
+            text, said = done.communicate(timeout=20)
+        check.holds('an interrupt', done.returncode != 0 and text == b'' and 'Traceback' not in said.decode(), said.decode())
+        time.sleep(0.2)
+        check.holds('no temporary file after an interrupt', clone.is_tidy(), str(os.listdir(clone.temporary)))
+        check.holds('no program after an interrupt', not os.path.exists(os.path.join(clone.out, 'fio2070')))
+
+
+def main():
+    check = Check()
+    # A shell that runs this in the background has it ignore Ctrl-C, and the builds would too.
+    signal.signal(signal.SIGINT, signal.default_int_handler)
+    with tempfile.TemporaryDirectory() as room:
+        try_build(check, room)
+        try_terminal(check, room)
+        try_faults(check, room)
+        try_reading_only(check, room)
+        try_interrupt(check, room)
+    check.end()
+
+
+main()

@@ -1,0 +1,143 @@
+#!/bin/sh
+# Builds the library for C, and by each compiler that is installed the worked examples, the programs of examples/c and
+# a run over random octets, and compares what they write. The last line is `N passed, M failed`.
+
+. "$(dirname -- "$(readlink -f -- "$0")")/support/check.sh"
+archive=$room/libfio2070.a
+strict='-Wall -Wextra -pedantic -Werror'
+
+# builds FOLDER COMPILER OPTION..: builds the programs into the folder.
+builds() {
+    folder=$1
+    compiler=$2
+    shift 2
+    case $compiler in
+        *++) language="-x c++ $*" ;;
+        *) language="-x c -D_DEFAULT_SOURCE $*" ;;
+    esac
+    mkdir -p "$folder"
+    for source in support/c/rows support/c/whole support/c/started support/c/fuzz ../examples/c/decode ../examples/c/poller; do
+        # shellcheck disable=SC2086
+        "$compiler" $language $strict -I "$top/include" "$top/tests/$source.c" -x none "$archive" \
+            -o "$folder/$(basename "$source")" || return 1
+    done
+}
+
+# decodes FOLDER: its decoder writes of the examples, and of each frame cut after each octet, what `fio2070 show` does.
+decodes() {
+    for frames in "$top"/examples/*.frames; do
+        "$1/decode" <"$frames" | cmp - "${frames%.frames}.shown" || return 1
+    done
+    "$1/decode" <cut.frames >decoded && return 1
+    cmp decoded cut.shown
+}
+
+# polls FOLDER: its poller takes each transition of the wave of examples/c/poller.c once, in order.
+polls() {
+    "$1/poller" >report && tail -n +5 report | cmp - wave &&
+        [ "$(sed -n 3,4p report | tr '\n' ' ')" = 'waiting 0 record 600 ' ]
+}
+
+# reads DOCUMENT: its blocks of C, C++ and Python compile; those with a `main` of their own, and Python, run.
+reads() {
+    rm -f block.*
+    awk '/^```(c|cpp|python)$/ { file = "block." ++n "." substr($0, 4); next }
+        /^```$/ { file = ""; next } file { print >file }' "$1"
+    for block in block.*; do
+        include="-I $top/include -I $top/tools/conformance"
+        # shellcheck disable=SC2086
+        case $block in
+            *.c)
+                ! grep -q 'conformance\|send_frame' "$block" || run=-c
+                gcc -std=c99 -Wall -Wextra $include ${run:-} "$block" ${run:-"$archive"} -o block.out || return 1
+                [ -n "${run:-}" ] || ./block.out || return 1
+                unset run ;;
+            *.cpp) g++ -std=c++17 -Wall -Wextra $include -c "$block" -o block.out || return 1 ;;
+            *.python) env PYTHONDONTWRITEBYTECODE=1 PYTHONPATH="$top/bindings/python" \
+                FIO2070_LIBRARY="$room/libfio2070.so" python3 "$block" || return 1 ;;
+        esac
+        rm -f block.out
+    done
+}
+
+# alone ARCHIVE: it needs nothing but these three functions.
+alone() {
+    nm -g "$1" >names && ! awk '$1 == "U" { print $2 }' names | sort -u | grep -Ev '^mem(cpy|move|set)$'
+}
+
+# prefixed LIBRARY: the shared library exports no name of another kind.
+prefixed() {
+    nm -D --defined-only "$1" >names && ! awk '{ print $3 }' names | grep -Ev '^(fio2070|conformance|CONFORMANCE)_'
+}
+
+# exports ARCHIVE: it has exactly the functions that the header declares.
+exports() {
+    nm -g "$1" | awk '$2 == "T" { print $3 }' | sort >exported
+    grep -o 'fio2070_[a-z0-9_]*(' "$top/include/fio2070.h" | tr -d '(' | sort -u | diff exported -
+}
+
+first 'make library' run_make library OUT="$room"
+holds 'the library needs no other' alone "$archive"
+holds 'the header declares what there is' exports "$archive"
+holds 'the names of the shared library' prefixed "$room/libfio2070.so"
+
+# Each frame cut after each of its octets, and with an octet too many.
+grep -v '^#' "$top/examples/every-type.frames" | awk '{
+    for (place = 2; place <= length($1); place += 2) print substr($1, 1, place)
+    print $1 "00" }' >cut.frames
+"$top/fio2070" show <cut.frames >cut.shown
+# Input n % 64 changes at millisecond n; the first change is seen by the first scan after the configuration, at 2.
+awk 'BEGIN { for (n = 1; n <= 600; n++) {
+    time = n == 1 ? 2 : n
+    print "input", n % 64, "state", int((n - 1) / 64) % 2, "stamp", time, "wide", time } }' >wave
+
+for build in 'gcc -std=c99' 'g++ -std=c++11' 'clang -std=c99 -g -O1 -fsanitize=address,undefined -fno-sanitize-recover=all'; do
+    # shellcheck disable=SC2086
+    set -- $build
+    if [ -z "$(command -v "$1")" ]; then
+        skip "build by $1" 'it is not installed'
+        continue
+    fi
+    first "build by $1" builds "$room/$1" "$@"
+    counts "rows by $1" "$room/$1/rows"
+    counts "whole structs by $1" "$room/$1/whole"
+    counts "started structs by $1" "$room/$1/started"
+    holds "decode by $1" decodes "$room/$1"
+    holds "poller by $1" polls "$room/$1"
+    last=$room/$1
+done
+for compiler in g++ clang++; do
+    [ -n "$(command -v "$compiler")" ] || continue
+    [ "$compiler" = g++ ] || set -- -fsanitize=address,undefined -fno-sanitize-recover=all
+    [ "$compiler" != g++ ] || set --
+    # shellcheck disable=SC2086
+    first "wrapper by $compiler" "$compiler" -std=c++17 $strict "$@" -I "$top/include" \
+        "$top/tests/support/c/wrapper.cpp" "$archive" -o "$room/wrapper"
+    counts "rows of the wrapper by $compiler" "$room/wrapper"
+done
+holds 'a million random buffers' "$last/fuzz" 1000000 20260701
+if [ -n "$(command -v python3)" ]; then
+    holds 'Python' env -C "$top/bindings/python" PYTHONDONTWRITEBYTECODE=1 FIO2070_LIBRARY="$room/libfio2070.so" \
+        python3 test.py
+    if python3 -m venv "$room/python" >"$room/log" 2>&1; then
+        holds 'pip install' "$room/python/bin/pip" install --quiet --no-index "$top/bindings/python"
+        holds 'the installed package' env -C "$room" FIO2070_LIBRARY="$room/libfio2070.so" "$room/python/bin/python" -c \
+            'import fio2070; assert fio2070.encode.poll(5) == b"\x36\5" and "site-packages" in fio2070.__file__'
+    else
+        skip 'pip install' 'python3 has no module venv here (Debian package python3-venv)'
+    fi
+else
+    skip 'Python' 'python3 is not installed'
+fi
+if [ -n "$(command -v gcc)" ] && [ -n "$(command -v g++)" ] && [ -n "$(command -v python3)" ]; then
+    for document in README.md docs/C-LIBRARY.md tools/conformance/README.md; do
+        holds "the blocks of $document" reads "$top/$document"
+    done
+fi
+if [ -n "$(command -v cargo)" ]; then
+    holds 'Rust' env -C "$top/bindings/rust/fio2070" FIO2070_LIB_DIR="$room" CARGO_TARGET_DIR="$room/target" \
+        cargo test --offline --quiet
+else
+    skip 'Rust' 'cargo is not installed'
+fi
+end

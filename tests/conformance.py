@@ -1,0 +1,308 @@
+#!/usr/bin/env python3
+"""The tester of tools/conformance: it finds no difference in the proved ends and in right ones that are written from
+docs/PROTOCOL.md, exercises each rule, and finds each planted fault, of a module and of a CPU's end, within the number of
+events that stands beside it in tests/support/c/planted; its reports, scripts, words and tables. Last line: `N passed, M
+failed`."""
+
+import os
+import pty
+import re
+import shutil
+import socket
+import subprocess
+import sys
+import tempfile
+import threading
+import tty
+import xml.etree.ElementTree as xml
+
+sys.dont_write_bytecode = True
+
+from support.check import Check
+from support.tables import TOP
+
+# Planted faults, a script of which simulate runs too.
+REPLAYED = [
+    ('module', 'E is not set'), ('module', 'F is not set'), ('module', '1 comes after 255'),
+    ('module', 'a repeat has a new stamp'), ('module', 'ignored inputs are reported'),
+    ('module', 'filters are exchanged'), ('module', 'filter of 0 acts as 2'), ('module', 'load happens at once'),
+    ('module', 'blocks have 254 entries'), ('module', 'an absent input is passed over'),
+    ('module', 'the newest entry is pushed out'), ('module', 'counter outlasts a restart'),
+    ('module', 'an octet too many is accepted'),
+    ('cpu', 'a block without entries leaves the number'), ('cpu', 'the second poll for a block raises the number'),
+    ('cpu', 'there are no gap marks'), ('cpu', 'states are turned'), ('cpu', 'entries are in the other order'),
+    ('cpu', 'blocks with G are refused')]
+
+# What a planted fault breaks: rules that the report names for it.
+NAMED = {
+    'E is not set': 'sent-again', 'F is not set': 'lost', '1 comes after 255': 'zero-after-255',
+    'a repeat has a new stamp': 'repeat', 'ignored inputs are reported': 'ignored-input',
+    'filters are exchanged': 'leading-filter', 'filter of 0 acts as 2': 'filter-of-zero',
+    'load happens at once': 'load-at-sync', 'blocks have 254 entries': 'block-size',
+    'an absent input is passed over': 'absent-input', 'the newest entry is pushed out': 'pushed-out',
+    'counter outlasts a restart': 'restart', 'an octet too many is accepted': 'wrong-length',
+    'a block without entries leaves the number': 'empty-block',
+    'the second poll for a block raises the number': 'same-until-taken', 'there are no gap marks': 'gap-mark',
+    'states are turned': 'items-in-order'}
+
+# The most events of a script that was shrunk, but for faults that need long runs.
+SHORT = 40
+
+# What a script for `--replay` alone begins with.
+FOR_REPLAY = '# For --replay alone'
+
+
+def run(words, text=''):
+    """The status of a command, and what it writes."""
+    done = subprocess.run(words, input=text.encode(), stdout=subprocess.PIPE, stderr=subprocess.STDOUT, timeout=1500)
+    return done.returncode, done.stdout.decode('utf-8', 'replace')
+
+
+def sources(folder):
+    """The files of C in a folder of the repository."""
+    place = os.path.join(TOP, folder)
+    return sorted(os.path.join(place, name) for name in os.listdir(place) if name.endswith('.c'))
+
+
+def built(check, room, name, compiler, *options):
+    """The program of planted faults, by a compiler; None where it does not build."""
+    program = os.path.join(room, name)
+    folder = os.path.join(room, name + '.objects')
+    os.mkdir(folder)
+    words = [compiler, *options, '-Wall', '-Wextra', '-pedantic', '-Werror', '-I', os.path.join(TOP, 'include'), '-I',
+             os.path.join(TOP, 'tools/conformance')]
+    for source in sources('tools/conformance') + sources('tests/support/c/planted'):
+        if os.path.basename(source) == 'fio2070_test.c':
+            continue
+        status, said = run([*words, '-c', source, '-o', os.path.join(folder, os.path.basename(source) + '.o')])
+        if status != 0:
+            check.equal('build by ' + name, '', said)
+            return None
+    objects = [os.path.join(folder, one) for one in sorted(os.listdir(folder))]
+    linker = [option for option in options if option.startswith('-fsanitize')]
+    status, said = run([compiler, *linker, *objects, os.path.join(room, 'libfio2070.a'), '-o', program])
+    check.equal('build by ' + name, '', said)
+    return program if status == 0 else None
+
+
+def script_of(report):
+    """The script of a report: its lines of events, and what stands before them."""
+    lines = report.splitlines(keepends=True)
+    end = next(number for number, line in enumerate(lines) if line.startswith('# expected: '))
+    return ''.join(line for line in lines[:end] if not line.startswith('# Something '))
+
+
+def is_long(row):
+    """Whether a fault comes only after many events."""
+    return re.search(r'\d\d\dth|00 |filter|after|ends at|\d\d\dst|57 entries', row)
+
+
+def planted_faults(check, program):
+    """Each planted fault is found, more than 100 of each end, most by short scripts."""
+    if not check.wants('planted'):
+        return
+    rows = re.findall(r'^(module|cpu) +(\d+) +(\d+)  (\S+) +(.*)$', run([program])[1], re.M)
+    for end in ('module', 'cpu'):
+        check.holds('planted faults: more than 100 of a ' + end, sum(row[0] == end for row in rows) > 100)
+    for end, _, length, rule, name in rows:
+        short = int(length) <= SHORT or is_long(name)
+        check.holds('planted: %s: %s' % (end, name), rule != 'none' and short, '%s by %s events' % (rule, length))
+
+
+def right_ends(check, program):
+    """Ends without a fault show no difference, and each rule is exercised."""
+    for end in ('module', 'cpu'):
+        status, said = run([program, end, 'none', '--coverage', '1000000'])
+        check.equal('right %s' % end, (0, 'no difference in 1000000 events'), (status, said.splitlines()[-1]))
+        check.equal('rules that a run leaves out, %s' % end, [], re.findall('not exercised.*', said))
+    status, said = run([program, 'module', 'none', '--coverage', '2000'])
+    check.holds('a short run says what it leaves out', status == 1 and '\nnot exercised: ' in said, said)
+
+
+def simulated(report):
+    """What is wrong with what `fio2070 simulate` says of a report's script; None where it does what was expected."""
+    text = run([os.path.join(TOP, 'fio2070'), 'simulate'], script_of(report))[1]
+    if report.startswith(FOR_REPLAY):
+        return None if text == 'line 1: bad header\n' else text
+    number = re.search('^# expected: (number \\d+) items', report, re.M)
+    octets = re.search('^# expected: ([0-9a-f]+)$', report, re.M)
+    wanted = '\n%s\n' % number[1] if number else ' %s\n' % octets[1] if octets else '\ncounter '
+    return None if wanted in text else 'no %r in %s' % (wanted, text)
+
+
+def reports(check, program):
+    """Reports are replayed, name the rule, and simulate runs their scripts."""
+    for end, name in REPLAYED:
+        if not check.wants(name):
+            continue
+        report = run([program, end, name, '--first'])[1].rsplit('\nnot exercised', 1)[0]
+        report = re.sub('(?s)\n(not exercised: |rules that differ: ).*', '\n', report)
+        script = script_of(report)
+        replayed = run([program, end, name, '--replay'], script)[1]
+        check.equal('replay of: ' + name, report.partition('# Something')[2].partition('\n')[2] or report, replayed)
+        check.equal('the right end on: ' + name, (0, 'no difference\n'), run([program, end, 'none', '--replay'], script))
+        if name in NAMED:
+            check.equal('rule of: ' + name, NAMED[name], re.search('^# rule: ([^,]*),', report, re.M)[1])
+        check.fault('simulate on: ' + name, simulated, report)
+
+
+def goes_on(check, program):
+    """A run finds all rules that differ, leaves out rules of the own profile, and says what outlasts a reset."""
+    several = 'E is not set; filter of 0 acts as 2; F is not set; identification is another octet'
+    found = set(re.findall('^# rule: ([^,]*),', run([program, 'module', several])[1], re.M))
+    wanted = {'sent-again', 'filter-of-zero', 'lost', 'identification'}
+    check.holds('a run goes on after a difference', wanted <= found, found)
+    several = 'wide times are the stamp; there are two gap marks; states are turned'
+    found = set(re.findall('^# rule: ([^,]*),', run([program, 'cpu', several])[1], re.M))
+    check.equal("a run of a CPU's end goes on", {'wide-time', 'gap-mark', 'items-in-order'}, found)
+    for end, fault, rule in [('module', 'filter of 0 acts as 2', 'filter-of-zero'), ('module', 'identification has two '
+                             'octets', 'identification'), ('module', 'counter is 1 at the start', 'counter-at-start'),
+                             ('module', 'an absent input is passed over', 'absent-input'),
+                             ('module', 'the newest entry is pushed out', 'pushed-out'),
+                             ('cpu', 'the second poll for a block raises the number', 'same-until-taken')]:
+        check.equal('except ' + rule, (0, 'no difference in 300000 events'),
+                    (lambda done: (done[0], done[1].splitlines()[-1]))(
+                        run([program, end, fault, '--except', rule, '300000'])))
+    for fault in ('watchdog outlasts a restart', 'flags outlast a restart', 'outputs outlast a restart'):
+        report = run([program, 'module', fault, '--first'])[1]
+        check.holds('a dirty start: ' + fault, report.startswith('# Something outlasts a reset')
+                    and '\nrestart\n' in report and '\n# rule: restart, ' in report, report)
+
+
+def words(check, program):
+    """What the words of a tester do, and what it says of words and scripts that are faulty."""
+    for given, wanted in [(['--except', 'none-such'], 'no rule has the name none-such'),
+                          (['--except', 'sent-again'], "the rule sent-again is not this project's own"),
+                          (['--except', 'stale'], 'no rule has the name stale'), (['x'], 'usage: '),
+                          (['1', '2', '3'], 'usage: ')]:
+        status, said = run([program, 'module', 'none', *given])
+        check.holds('words %s' % ' '.join(given), status == 2 and said.startswith(wanted), said)
+    for line in ('fio2070 script 1 2', 'to-module 1', 'to-cpu 1', 'scan 00', 'send 3', 'polls',
+                 '# frame to the module: x'):
+        text = 'fio2070 script 1 2 0\nsync\n%s\n' % line
+        check.equal('faulty line ' + line, (2, 'line 3: bad line\n'), run([program, 'module', 'none', '--replay'], text))
+    for header in ('fio2070 script 1 9 0', 'fio2070 script 3 2 0 200 1024'):
+        status, said = run([program, 'module', 'none', '--replay'], header + '\npoll\nto-module 1\n')
+        check.holds('header ' + header, status == 2 and said.startswith('the script is for a module with '), said)
+    kept = (FOR_REPLAY + ': `fio2070 simulate` has no line for the frames that stand as remarks.\n'
+            'fio2070 script 1 2 5\npoll\nto-module 1\n# frame to the module: 3605\npoll\nto-module 2\n'
+            '# frame to the module: 3606\npoll\nto-module 3\n# frame to the module: 33006f\n')
+    replayed = run([program, 'module', 'an octet too many is accepted', '--replay'], kept)[1]
+    check.equal('a script is replayed as it was read', kept, replayed[:len(kept)])
+
+
+def transcripts(check, program):
+    """The transcripts of CPU's ends that raise their number at the wrong time break the rule `advance`."""
+    for name in ('the second poll for a block raises the number', 'a block without entries leaves the number'):
+        report = run([program, 'cpu', name, '--first'])[1]
+        text = ''.join(line + '\n' for line in re.findall('^# ([<>] .*)$', report, re.M))
+        check.holds('transcript of: ' + name, 'breaks advance\n' in run([os.path.join(TOP, 'fio2070'), 'check'], text)[1])
+
+
+def tables(check, program, room):
+    """Each rule stands in docs/PROTOCOL.md under its section; the XML has a case for each, with what became of it."""
+    with open(os.path.join(TOP, 'docs/PROTOCOL.md'), encoding='utf-8') as document:
+        sections = re.split('(?m)^#+ ', document.read())
+    pages = {section.partition('\n')[0]: re.sub(r'\s+', ' ', section.replace('*', '')) for section in sections}
+    names = set()
+    for end in ('module', 'cpu'):
+        for name, source, section, sentence in re.findall(
+                r'^(\S+) +(TEES 2009|own profile) +([^:]*): (.*)$', run([program, end, 'none', '--rules'])[1], re.M):
+            names.add(name)
+            check.holds('rule ' + name, sentence in pages.get(section, ''), '%s: %s' % (section, sentence))
+    check.holds('names of rules', len(names) > 60)
+    result = os.path.join(room, 'result.xml')
+    run([program, 'module', 'E is not set', '--junit', result, '--except', 'lost'])
+    suite = xml.parse(result).getroot()
+    cases = {case.get('name'): [child.tag for child in case] for case in suite}
+    check.equal('JUnit: what became of rules', (['failure'], ['skipped'], []),
+                (cases['sent-again'], cases['lost'], cases['load-at-sync']))
+    check.equal('JUnit: counts', (len(cases), 1), (int(suite.get('tests')), int(suite.get('failures'))))
+
+
+def page(check, program):
+    """The reports of the page are those that the tester writes of these scripts."""
+    with open(os.path.join(TOP, 'tools/conformance/README.md'), encoding='utf-8') as document:
+        blocks = re.findall('(?s)```text\n(fio2070 script.*?)```', document.read())
+    faults = [('module', 'E is not set'), ('cpu', 'a block without entries leaves the number')]
+    check.equal('reports of the page', blocks, [run([program, *fault, '--replay'], script_of(block))[1]
+                                                for fault, block in zip(faults, blocks)])
+
+
+def over(check, name, command, wanted):
+    """A row: a tester that asks over a wire ends with this status, and its last line has these words."""
+    if check.wants(name):
+        status, said = run(command)
+        check.holds(name, status == wanted[0] and wanted[1] in said.splitlines()[-1], said)
+
+
+def served(adapter):
+    """A port at which the adapter serves one connection."""
+    listener = socket.create_server(('127.0.0.1', 0))
+
+    def serve():
+        with listener, listener.accept()[0] as stream:
+            subprocess.run([adapter], stdin=stream, stdout=stream)
+    threading.Thread(target=serve, daemon=True).start()
+    return listener.getsockname()[1]
+
+
+def wires(check, room):
+    """The command over a pipe, a socket and a pseudo-terminal, with the adapters in C and in Python, right and wrong."""
+    done = run(['make', '-s', '-C', TOP, room + '/fio2070-test', room + '/libfio2070.so', 'OUT=' + room])
+    check.equal('build of fio2070-test', (0, ''), done)
+    tester, adapter = os.path.join(room, 'fio2070-test'), os.path.join(room, 'adapter')
+    folder = os.path.join(TOP, 'tools/conformance/adapters')
+    check.equal('build of the adapter', (0, ''), run(
+        ['cc', '-Wall', '-Wextra', '-Werror', '-I', os.path.join(TOP, 'include'), os.path.join(folder, 'adapter.c'),
+         os.path.join(room, 'libfio2070.a'), '-o', adapter]))
+    python = 'FIO2070_LIBRARY=%s PYTHONPATH=%s PYTHONDONTWRITEBYTECODE=1 %s/adapter.py' % (
+        os.path.join(room, 'libfio2070.so'), os.path.join(TOP, 'bindings/python'), folder)
+    same, differs = (0, 'no difference in '), (1, 'rules that differ: ')
+    over(check, 'wire: adapter in C', [tester, '--command', adapter, '20000'], same)
+    over(check, 'wire: adapter in Python', [tester, '--command', python, '5000'], same)
+    over(check, 'wire: a wrong module', [tester, '--command', adapter + " | sed -u 's/^answer bc02/answer bc03/'", '5000',
+                                         '--first'], differs)
+    over(check, 'wire: another identification', [tester, '--id', '3', '--command', adapter, '5000', '--first'], differs)
+    for name, command, fault in [('ends', 'false', 'it ended'), ('is late', 'sleep 9', 'it wrote no line in time'),
+                                 ('says something else', "sed -u 's/.*/what/'", 'not `done`: what')]:
+        over(check, 'wire: a module that ' + name, [tester, '--deadline', '300', '--command', command, '1000'], (3, fault))
+    over(check, 'wire: a socket', [tester, '--socket', '127.0.0.1:%d' % served(adapter), '5000'], same)
+    ours, theirs = pty.openpty()
+    tty.setraw(theirs)
+    with subprocess.Popen([adapter], stdin=ours, stdout=ours) as process:
+        over(check, 'wire: a pseudo-terminal', [tester, '--serial', os.ttyname(theirs), '5000'], same)
+        process.kill()
+    over(check, 'wire: no device', [tester, '--serial', '/none', '5000'], (2, "can't open /none"))
+
+
+def sanitized(check, room):
+    """Built with sanitizers, the tester runs as well."""
+    if not shutil.which('clang'):
+        check.skip('build by clang', 'it is not installed')
+        return
+    program = built(check, room, 'clang', 'clang', '-std=c99', '-g', '-O1', '-fsanitize=address,undefined',
+                    '-fno-sanitize-recover=all')
+    for end, name in program and [('module', 'none'), ('cpu', 'none'), REPLAYED[1], REPLAYED[15]] or []:
+        status, said = run([program, end, name, '100000'])
+        check.equal('with sanitizers, %s: %s' % (end, name), 0 if name == 'none' else 1, status if status < 2 else said)
+
+
+def main():
+    check = Check()
+    with tempfile.TemporaryDirectory() as room:
+        run(['make', '-s', '-C', TOP, room + '/libfio2070.a', 'OUT=' + room])
+        program = built(check, room, 'gcc', 'gcc', '-std=c99', '-O2')
+        built(check, room, 'g++', 'g++', '-x', 'c++', '-std=c++11') if shutil.which('g++') else check.skip(
+            'build by g++', 'it is not installed')
+        if program:
+            for part in (right_ends, planted_faults, reports, goes_on, words, transcripts):
+                part(check, program)
+            tables(check, program, room)
+            page(check, program)
+        wires(check, room)
+        sanitized(check, room)
+    check.end()
+
+
+main()

@@ -1,0 +1,278 @@
+#!/usr/bin/env python3
+"""The commands of `fiolog`, run as a user runs them: the words of `show`, the rows of docs/PLANNING.md, texts that the
+program reads again, answers while the input goes on, and lines that talk: a process, a pseudo-terminal, datagrams and a
+pipe, with the proved module and poller on the other side. Last line: `N passed, M failed`."""
+
+import csv
+import glob
+import io
+import json
+import os
+import pty
+import re
+import socket
+import struct
+import subprocess
+import sys
+import tempfile
+import time
+
+sys.dont_write_bytecode = True
+
+from support.check import Check
+from support.fiolog import ENVIRONMENT, fiolog, has_library, use_library
+from support.loggers import LOGGERS
+from support.sessions import SESSION, timed
+from support.tables import TOP
+
+EXAMPLES = os.path.join(TOP, 'examples')
+TALK = os.path.join(TOP, 'tests', 'support', 'talking.py')
+LINE = re.compile(r'^\d+: +(?:\S+ \S+ |\d+\.\d+ )?[<>] ')
+LOG = LOGGERS['ISO times'](timed(SESSION))
+
+
+def check_decode(check):
+    """`decode` says what `show` says of the examples, and its other forms say the same."""
+    for name in sorted(glob.glob(os.path.join(EXAMPLES, '*.frames'))):
+        with open(name[:-len('frames')] + 'shown', encoding='ascii') as file:
+            expected = [line for line in file.read().splitlines() if not line.startswith('line ')]
+        found = [LINE.sub('', line) for line in fiolog('decode', name).out.splitlines()]
+        faults = [line for line in found if re.match(r'(?:unknown|wrong length|too long)', line)]
+        check.equal('decode of ' + os.path.basename(name), expected, [line for line in found if line not in faults])
+    rows = [json.loads(line) for line in fiolog('decode', '--json', text=LOG).out.splitlines()]
+    check.equal('the octets of decode --json', [octets.hex() for octets in SESSION], [row['octets'] for row in rows])
+    check.equal('an object', {'line': 7, 'direction': '<', 'type': 182, 'says': 'block 0 entries 1 status 00 stamp 1000',
+                              'block': 0, 'status': 0, 'stamp': 1000,
+                              'entries': [{'input': 12, 'state': 1, 'stamp': 999, 'wide': 999}]},
+                {name: rows[6].get(name) for name in ('line', 'direction', 'type', 'says', 'block', 'status', 'stamp',
+                                                      'entries')})
+    table = list(csv.DictReader(io.StringIO(fiolog('decode', '--csv', text=LOG).out)))
+    entries = sum(octets[2] for octets in SESSION if octets[0] == 182)
+    check.equal('the entries of decode --csv', entries,
+                sum(bool(row['input']) and row['type'] == '182' for row in table))
+    for words, lines in [(['--input', '13'], [9]), (['--type', 'poll'], [3, 4, 6, 8, 10, 22]),
+                         (['--type', '182', '--block', '1'], [9]), (['--lines', '1-2'], [1, 2]),
+                         (['--status', 'E'], [5]), (['--direction', 'sent', '--lines', '5-8'], [6, 8])]:
+        rows = [json.loads(line) for line in fiolog('decode', '--json', *words, text=LOG).out.splitlines()]
+        check.equal('decode ' + ' '.join(words), lines, [row['line'] for row in rows])
+    check.holds('colours where they are asked for', '\x1b[' in fiolog('decode', '--color', 'always', text=LOG).out)
+    check.holds('no colours in a pipe', '\x1b[' not in fiolog('decode', text=LOG).out)
+
+
+def check_words(check):
+    """What is said on standard error, and the statuses."""
+    done = fiolog('decode', text=LOG)
+    check.equal('the form', ('fiolog: form: year first, direction, hex\n', 0), (done.err, done.status))
+    done = fiolog('decode', '-v', text=LOG + 'link down\n')
+    check.holds('a line that is passed over', 'line %d: no octets: link down' % (len(SESSION) + 1) in done.err, done.err)
+    check.holds('how many are passed over', '1 of %d lines passed over: 1 no octets' % (len(SESSION) + 1) in done.err)
+    for command in (['decode'], ['stats'], ['check'], ['record'], ['convert', '--to', 'frames']):
+        done = fiolog(*command, text='nothing here\n')
+        if 'no checker' not in done.err:
+            check.equal('%s of nothing' % command[0], (1, True), (done.status, 'no frame in 1 lines' in done.err))
+    check.equal('a file that is not there', 3, fiolog('decode', 'no-such-file').status)
+    check.equal('no subcommand', 2, fiolog().status)
+    check.equal('a pattern without octets', 2, fiolog('decode', '--pattern', '(', text='').status)
+    pattern = r'^(?P<time>[\d.]+)!(?P<dir>\w+)!(?P<octets>\w+)$'
+    check.equal('a pattern', '1:     1.500000 > poll block 5\n',
+                fiolog('decode', '--pattern', pattern, text='1.5!tx!3605\n').out)
+
+
+def check_numbers(check):
+    """`stats` counts, and `plan` gives the rows of docs/PLANNING.md."""
+    found = json.loads(fiolog('stats', '--json', text=LOG).out)
+    check.equal('stats', (len(SESSION), 6, 1, 1, 36, 3, {'12': 34, '13': 1, '14': 1}),
+                (found['frames'], found['polls'], found['repeats'], found['answers_lost'], found['entries'],
+                 len(found['response_ms']) - 1, found['entries_by_input']))
+    with open(os.path.join(TOP, 'docs', 'PLANNING.md'), encoding='utf-8') as page:
+        rows = [[int(cell.replace(',', '')) for cell in re.findall(r'[\d,]+', line)]
+                for line in page if re.match(r'\| \d', line)]
+    for row in rows[::5]:
+        names = ['poll every', 'entries that wait, at most', 'late, at most', 'entries that wait, at most, answers lost',
+                 'late, at most, answers lost', 'outage without loss, at most']
+        plan = {one['what']: int(str(one['number']).split()[0]) for one in
+                json.loads(fiolog('plan', '--json', '--inputs', str(row[0]), '--filter', str(row[1])).out)}
+        check.equal('plan for %d inputs with filters of %d' % tuple(row[:2]), row[2:8], [plan[name] for name in names])
+    rounds = fiolog('plan', '--inputs', '64', '--filter', '5', '--outage', '80').out
+    check.holds('6 rounds after the longest outage', re.search(r'nothing between the rounds +6 rounds', rounds), rounds)
+
+
+def frames_of(capture):
+    """The octets and directions of a pcapng file, by the blocks of its format."""
+    place, found = 0, []
+    while place < len(capture):
+        kind, length = struct.unpack_from('<II', capture, place)
+        if kind == 6:
+            size = struct.unpack_from('<I', capture, place + 20)[0]
+            data = capture[place + 28:place + 28 + size]
+            flags = struct.unpack_from('<I', capture, place + 28 + size + -size % 4 + 4)[0]
+            found.append(('>' if flags & 3 == 2 else '<', data[16:]))
+        place += length
+    return found
+
+
+def check_convert(check):
+    """The texts that it writes are read again, and the capture has the frames."""
+    transcript = fiolog('convert', '--to', 'transcript', text=LOG).out
+    expected = ''.join('%s %s\n' % (direction, octets.hex()) for _, direction, octets in timed(SESSION))
+    check.equal('a transcript', expected, transcript)
+    check.equal('frames', ''.join(octets.hex() + '\n' for octets in SESSION), fiolog('convert', '--to', 'frames', text=LOG).out)
+    capture = fiolog('convert', '--to', 'pcapng', text=LOG, is_text=False).out
+    check.equal('pcapng', [(direction, octets) for _, direction, octets in timed(SESSION)], frames_of(capture))
+    shown = fiolog('convert', '--to', 'vcd', text=LOG).out
+    check.holds('VCD', shown.startswith('$version') and shown.count('$var wire 1 i') == 3, shown)
+    record = fiolog('record', text=LOG).out.splitlines()
+    check.equal('the record', 36, len(record))
+    check.equal('the first line of the record', '7:     2026-11-22 07:15:02.065 input 12 state 1 stamp 999 wide 999',
+                re.sub(r'02\.\d+', '02.065', record[0]))
+
+
+def check_check(check):
+    """`check` finds first what the program finds, and goes on: past noise, past damage, in logs of the other end."""
+    if 'no checker' in fiolog('check', text=LOG).err:
+        check.skip('fiolog check', 'this libfio2070 has no checker')
+        return
+    for name in sorted(glob.glob(os.path.join(EXAMPLES, '*.transcript'))):
+        with open(name[:-len('transcript')] + 'verdict', encoding='ascii') as file:
+            verdict = re.match(r'line (\d+) breaks (\w+)', file.read())
+        done = fiolog('check', '-q', name)
+        found = re.match(r'line (\d+): (\w+): ', done.out)
+        check.equal('check of ' + os.path.basename(name), (verdict and verdict.groups(), 1 if verdict else 0),
+                    (found and found.groups(), done.status))
+    broken = '> 36ff\nnoise\n> 3600\n< b600018000020000000002\n> 3601\n> 3604\n< b6040000000000ff\n'
+    found = re.findall(r'line (\d+): (\w+): (.*)', fiolog('check', text=broken).out)
+    check.equal('every breach', [('3', 'advance', 'block 255 was due, 0 came'), ('6', 'advance', 'block 1 was due, 4 came')],
+                found)
+    with open(os.path.join(EXAMPLES, 'lost-answer.frames'), encoding='ascii') as file:
+        done = fiolog('check', text=file.read())
+    check.equal('a log of the bus does not accuse a right CPU', ('', 0, True),
+                (''.join(re.findall(r'line .*', done.out)), done.status, 'not judged' in done.err))
+    middle = '< b6050000000003e8\n> 3606\n< b6060000000003e9\n'
+    check.equal('--start-at-poll', 0, fiolog('check', '--start-at-poll', text=middle).status)
+    check.equal('no frame', 1, fiolog('check', text='').status)
+
+
+def fault_of_following():
+    """`decode` answers each line at once, as with `tail -f`."""
+    command = subprocess.Popen([sys.executable, '-m', 'fiolog', 'decode', '-q'], stdin=subprocess.PIPE,
+                               stdout=subprocess.PIPE, env=ENVIRONMENT)
+    try:
+        for line, expected in [(b'TX 36 05\n', b'poll block 5'), (b'RX B6 05 00 00 00 00 00 01\n', b'block 5 entries 0')]:
+            command.stdin.write(line)
+            command.stdin.flush()
+            found = command.stdout.readline()
+            if expected not in found:
+                return found
+    finally:
+        command.stdin.close()
+        command.wait()
+        command.stdout.close()
+    return None
+
+
+def fault_of_memory():
+    """Ten times as many lines take no more memory, noise among them."""
+    most = []
+    for count in (20_000, 200_000):
+        lines = "import sys\nfor n in range(%d): sys.stdout.write('TX 36 %%02X\\nRX B6 %%02X 00 00 00 00 00 01\\nnoise %%d\\n' %% (n %% 256, n %% 256, n))" % (count // 3)
+        code = ('import subprocess, resource, sys; subprocess.run([sys.executable, "-m", "fiolog", "stats", "-q"], '
+                'stdin=sys.stdin, stdout=subprocess.DEVNULL); '
+                'print(resource.getrusage(resource.RUSAGE_CHILDREN).ru_maxrss)')
+        writer = subprocess.Popen([sys.executable, '-c', lines], stdout=subprocess.PIPE)
+        done = subprocess.run([sys.executable, '-c', code], stdin=writer.stdout, stdout=subprocess.PIPE, env=ENVIRONMENT)
+        writer.stdout.close()
+        writer.wait()
+        most.append(int(done.stdout))
+    return None if most[1] < most[0] + 4096 else 'KiB: %r' % most
+
+
+def numbers_of(text):
+    """The numbers of a summary line."""
+    return {name: int(number) for name, number in re.findall(r'([a-z ]+) (\d+)(?:, |$)', text.strip().splitlines()[-1])}
+
+
+def fault_of_process():
+    """A process with the proved ends: 40 rounds, of which every fifth answer is lost."""
+    done = fiolog('live', '--exec', '%s %s' % (sys.executable, TALK), '--quiet')
+    found = numbers_of(done.out)
+    return None if (found['polls'], found['answers lost'], found['marks']) == (40, 8, 0) else found
+
+
+def fault_of_terminal():
+    """A pseudo-terminal as serial port: frames with checks, then a damaged one, then a device that babbles."""
+    from support.talking import rounds, stuffed
+    ours, theirs = pty.openpty()
+    command = subprocess.Popen([sys.executable, '-m', 'fiolog', 'live', '--serial', os.ttyname(theirs), '--quiet',
+                                '--seconds', '6'], stdout=subprocess.PIPE, stderr=subprocess.PIPE, env=ENVIRONMENT)
+    time.sleep(2)
+    frames = [octets for _, octets in rounds(20)]
+    for octets in frames:
+        os.write(ours, stuffed(octets))
+    os.write(ours, stuffed(b'\x36\x05')[:-3] + b'\x00\x00\x7e')
+    for _ in range(8):
+        os.write(ours, b'\x55' * 500)
+    os.write(ours, b'\x7e' + stuffed(b'\x36\x05'))
+    out = command.communicate(timeout=30)[0].decode()
+    os.close(ours)
+    os.close(theirs)
+    found = numbers_of(out)
+    return None if (found['frames'], found['wrong frame checks']) == (len(frames) + 1, 2) else out
+
+
+def fault_of_datagrams():
+    """Datagrams, one of them no message."""
+    from support.talking import rounds
+    probe = socket.socket(socket.AF_INET, socket.SOCK_DGRAM)
+    probe.bind(('127.0.0.1', 0))
+    port = probe.getsockname()[1]
+    probe.close()
+    command = subprocess.Popen([sys.executable, '-m', 'fiolog', 'live', '--udp', str(port), '--seconds', '5'],
+                               stdout=subprocess.PIPE, stderr=subprocess.PIPE, env=ENVIRONMENT)
+    time.sleep(2)
+    frames = [octets for _, octets in rounds(10)] + [b'\x30']
+    with socket.socket(socket.AF_INET, socket.SOCK_DGRAM) as sender:
+        for octets in frames:
+            sender.sendto(octets, ('127.0.0.1', port))
+    out = command.communicate(timeout=30)[0].decode()
+    found = numbers_of(out)
+    return None if found['frames'] == len(frames) and 'unknown type 48' in out else out
+
+
+def fault_of_pipe(folder):
+    """A named pipe, with a transcript and a capture beside, whose writer stops in the middle of a line."""
+    pipe, transcript, capture = [os.path.join(folder, name) for name in ('pipe', 'transcript', 'capture')]
+    os.mkfifo(pipe)
+    command = subprocess.Popen([sys.executable, '-m', 'fiolog', 'live', '--fifo', pipe, '--quiet', '--transcript',
+                                transcript, '--pcapng', capture], stdout=subprocess.PIPE, env=ENVIRONMENT)
+    with open(pipe, 'w') as file:
+        file.write(LOG + '2026-11-22T07:15:09.000Z tx 36')
+    out = command.communicate(timeout=30)[0].decode()
+    with open(transcript, encoding='ascii') as file:
+        lines = file.read().splitlines()
+    with open(capture, 'rb') as file:
+        frames = frames_of(file.read())
+    expected = [(direction, octets) for _, direction, octets in timed(SESSION)]
+    written = [(line[0], bytes.fromhex(line[2:])) for line in lines]
+    fits = written[:len(expected)] == frames[:len(expected)] == expected
+    return None if fits and numbers_of(out)['polls'] == 6 else out
+
+
+def main():
+    check = Check()
+    if not has_library():
+        check.skip('all commands of fiolog', 'no libfio2070.so here (make library)')
+        check.end()
+    use_library()
+    for part in (check_decode, check_words, check_numbers, check_convert, check_check):
+        part(check)
+    check.fault('answers while the input goes on', fault_of_following)
+    check.fault('bounded memory', fault_of_memory)
+    check.fault('a process', fault_of_process)
+    check.fault('a pseudo-terminal', fault_of_terminal)
+    check.fault('datagrams', fault_of_datagrams)
+    with tempfile.TemporaryDirectory() as folder:
+        check.fault('a pipe', fault_of_pipe, folder)
+    check.end()
+
+
+main()

@@ -1,0 +1,134 @@
+#!/usr/bin/env python3
+"""What `fiolog` reads of logs of other tools: each form of tests/support/loggers.py, with frames of the protocol's
+tables and with random ones; damage and noise; the forms of lines, one by one. Last line: `N passed, M failed`."""
+
+import random
+import sys
+
+sys.dont_write_bytecode = True
+
+from support.check import Check
+from support.fiolog import has_library, use_library
+from support.loggers import LOGGERS
+from support.sessions import SESSION, random_session, timed
+
+# A line, and the frame that it is; no frame where it may be read in several ways or in none.
+LINES = [
+    ('3605', '3605'), ('36 05', '3605'), ('  B6 00 00 00 00 00 00 01', 'b600000000000001'), ('0x36, 0x05,', '3605'),
+    (r'\x36\x05', '3605'), ('{0x36, 0x05}', '3605'), ('[54, 5]', '3605'), ('36h 05h', '3605'), ('$36 $05', '3605'),
+    ('%36%05', '3605'), ('36 5', None), ('3605 baud', None), ('poll 3605', None), ('36 05 06', None), ('30 05', None),
+    ('12: 36 05', '3605'), ('0012  TX  36 05', '3605'), ('[12] RX b3 00', 'b300'), ('#7 36 05', None),
+    ('TX (2): 36 05', '3605'), ('RX[2] b3 00', 'b300'), ('TX len=2 data=36 05', '3605'), ('TX 2 bytes: 36 05', '3605'),
+    ('RX 2 b3 00', 'b300'), ('TX 36 05 (2 bytes)', '3605'), ('TX 36 05 [2]', '3605'),
+    ('CPU -> FIO: 36 05', '3605'), ('FIO -> CPU: b3 00', 'b300'), ('CPU <- FIO b3 00', 'b300'),
+    ('host > module 36 05', '3605'), ('\u2192 36 05', '3605'), ('\u2190 b3 00', 'b300'), ('W: 36 05', '3605'),
+    ('22.11.2026 07:15:02,100 TX 36 05', '3605'), ('11/22/26 7:15 TX 36 05', None),
+    ('11/22/2026 7:15:02.100 PM: Sent 36 05', '3605'), ('Sun Nov 22 07:15:02 2026 TX 36 05', '3605'),
+    ('[Sun Nov 22 07:15:02 2026] TX 36 05', '3605'), ('1795331702.100 TX 36 05', '3605'),
+    ('1795331702100 TX 36 05', '3605'), ('+0.250 ms TX 36 05', '3605'), ('time=0.25 TX 36 05', '3605'),
+    ('<13>1 2026-11-22T07:15:02Z host fiod 12 - - TX 36 05', '3605'), ('Nov 22 07:15:02 host fiod[1]: 36 05', '3605'),
+    ('07:15:02.100 [INFO] COM3 TX 36 05', '3605'), ('COM3: TX 36 05', '3605'), ('port=3 dir=tx 36 05', '3605'),
+    ('36 05   6.', '3605'), ('36 05 |6.|', '3605'), ('36 41   6A', '3641'), ('38 41   8A', None),
+    ('TX 36 05 ; a poll', '3605'), ('TX 36 05 // 36 06', '3605'), ('TX 36 05 a poll', None), ('TX 3600 baud', None),
+    ('port.write(b"6\\x05")', '3605'), ("received b'\\xb3\\x00'", 'b300'), ('bytes.fromhex("3605")', '3605'),
+    ('uint8_t poll[] = { 0x36, 0x05 };', '3605'), ('write(3, "6\\5", 2) = 2', '3605'),
+    ('0000  36 05   6.', '3605'), ('0x0000:  3605', '3605'), ('00000000: 3605  6.', '3605'),
+    ('vcan0  2A1   [2]  36 05', '3605'), ('(1795331702.100000) can0 2A1#3605', '3605'),
+    ('{"data": "3605"}', '3605'), ('{"t": 1.5, "tx": [54, 5]}', '3605'), ('{"count": 3605}', None),
+    ('7E 14 83 36 05 C4 1B 7E', '3605'), ('14 83 36 05 C4 1B', '3605'), ('14 83 36 05 1B C4', None),
+    ('connected at 9600 baud', None), ('', None), ('be ad', None), ('b6', None), ('TX', None), ('> poll', None),
+]
+
+
+class Read:
+    """What the reader makes of a text."""
+
+    def __init__(self, text, **settings):
+        from fiolog.reader import Reader
+        reader = Reader(**settings)
+        self.events = [event for number, line in enumerate(text.splitlines(), 1) for event in reader.feed(number, line)]
+        self.events += reader.end()
+        self.reader, self.lines = reader, len(text.splitlines())
+        self.frames = [event for event in self.events if event.kind == 'frame']
+        self.octets = [event.octets for event in self.frames]
+
+    def numbers(self):
+        """The lines that have an event, once each."""
+        return sorted({event.number for event in self.events})
+
+
+def check_forms(check):
+    """Each form gives the frames, in order, with their times and directions where it writes them."""
+    for name, logger in LOGGERS.items():
+        for kind, frames in (('the session', timed(SESSION)), ('random frames', timed(random_session(len(name), 300)))):
+            if not check.wants('%s: %s' % (name, kind)):
+                continue
+            read = Read(logger(frames).removeprefix('\ufeff'))
+            check.equal('%s: %s' % (name, kind), [octets.hex() for _, _, octets in frames],
+                        [octets.hex() for octets in read.octets])
+            check.equal('%s: %s, each line has an event' % (name, kind), list(range(1, read.lines + 1)), read.numbers())
+            found = [event.time for event in read.frames]
+            if None not in found:
+                steps = [round(time - found[0], 3) for time in found]
+                expected = [time for time, _, _ in frames]
+                whole = name in ('syslog', 'PuTTY')
+                check.holds('%s: %s, the times' % (name, kind),
+                            all(abs(one - other) <= (1 if whole else 0.0011) for one, other in zip(steps, expected)))
+            wrong = [event for event, (_, direction, _) in zip(read.frames, frames)
+                     if event.direction not in ('', direction)]
+            check.equal('%s: %s, the directions' % (name, kind), [], wrong)
+
+
+def check_lines(check):
+    """Each line of the table by itself."""
+    for line, expected in LINES:
+        read = Read(line + '\n')
+        check.equal('the line %r' % line, [expected] if expected else [], [octets.hex() for octets in read.octets])
+
+
+def fault_of_damage(name, seed):
+    """In a log of polls and blocks of which characters were changed, cut or doubled, no frame is read that was not
+    written, but where what is left of a cut line spells one; each line has an event."""
+    draw = random.Random(seed)
+    frames = timed([octets for octets in random_session(seed, 400) if octets[0] in (54, 182)])
+    lines = LOGGERS[name](frames).removeprefix('\ufeff').split('\n')
+    for _ in range(60):
+        place = draw.randrange(len(lines))
+        line = lines[place]
+        cut = draw.randrange(len(line) + 1)
+        lines[place] = draw.choice([line[:cut], line[cut:], line[:cut] + '?' + line[cut + 1:], line + line, ''])
+    read = Read('\n'.join(lines))
+    if read.numbers() != list(range(1, read.lines + 1)):
+        return 'lines without an event'
+    known = {octets for _, _, octets in frames}
+    strange = [event for event in read.frames if event.octets not in known]
+    return 'of %d frames %r' % (len(strange), strange[0]) if len(strange) > 1 else None
+
+
+def fault_of_noise(seed):
+    """Random text has no frame that is longer than chance has it, and each line has an event."""
+    draw = random.Random(seed)
+    words = ['link', 'up', '9600', 'baud', 'error', '17', 'TX', 'queue', '0x', 'ok', 'rate:', '--', 'COM3', 'at', '12:30:01']
+    lines = [' '.join(draw.choice(words) for _ in range(draw.randrange(9))) for _ in range(2000)]
+    read = Read('\n'.join(lines))
+    if read.numbers() != list(range(1, read.lines + 1)):
+        return 'lines without an event'
+    return '%d frames, such as %r' % (len(read.frames), read.frames[0]) if read.frames else None
+
+
+def main():
+    check = Check()
+    if not has_library():
+        check.skip('all of fiolog', 'no libfio2070.so here (make library)')
+        check.end()
+    use_library()
+    check_forms(check)
+    check_lines(check)
+    for place, name in enumerate(LOGGERS):
+        check.fault('damage in %s' % name, fault_of_damage, name, place)
+    for seed in range(3):
+        check.fault('noise, seed %d' % seed, fault_of_noise, seed)
+    check.end()
+
+
+main()

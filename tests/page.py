@@ -1,0 +1,393 @@
+#!/usr/bin/env python3
+"""Drives the page that `make page` writes, in headless Chromium and Firefox, as a person would: the examples give what
+`show`, `check` and `simulate` give, letter for letter; 100,000 messages open within two seconds and scroll; hostile files
+change nothing but the table; the views follow pointer and keys; the planning table is that of docs/PLANNING.md. With
+`--pictures` the pictures of tools/page/ are taken anew. Last line: `N passed, M failed`."""
+
+import glob
+import os
+import random
+import re
+import shutil
+import subprocess
+import sys
+import tempfile
+import time
+
+sys.dont_write_bytecode = True
+
+from support.browsers import KEYS, Chromium, Firefox, is_here, running
+from support.check import Check
+from support.loggers import LOGGERS
+from support.sessions import SESSION, timed
+from support.tables import TOP, output_of
+
+PAGE = os.path.join(TOP, 'fio2070.html')
+PICTURES = os.path.join(TOP, 'tools', 'page')
+MOST_OCTETS = 400_000
+MANY = 100_000
+MOST_SECONDS = 2
+# What browsers call long. Half of the frames have to take less: the machine has other work too.
+LONG_FRAME_MS = 50
+CONTRAST = 4.5
+ARROWS = {'>': '→ module', '<': '← CPU'}
+# How many octets a row shows.
+SHOWN_OCTETS = 40
+
+TROUBLE = 'return document.getElementById("trouble").textContent'
+OPENED = 'return document.documentElement.dataset.opened === arguments[0]'
+# The text that the button saves, caught on its way to a file.
+SAVE = '''const made = URL.createObjectURL; window.saved = null;
+URL.createObjectURL = (blob) => { blob.text().then((text) => { window.saved = text; }); return made.call(URL, blob); };
+HTMLAnchorElement.prototype.click = () => {};
+document.getElementById("save").click(); URL.createObjectURL = made;'''
+CELLS = '''return [...document.querySelectorAll(".line:not([hidden])")].sort((a, b) => a.ariaRowIndex - b.ariaRowIndex)
+.map((row) => [...row.children].map((cell) => cell.textContent))'''
+NAMES = '''return [...document.querySelectorAll("button, input, select, textarea, [role], [tabindex='0']")].filter((it) =>
+!(it.getAttribute("aria-label") || it.getAttribute("aria-labelledby") || it.textContent.trim()
+|| ["presentation", "status", "alert"].includes(it.getAttribute("role")))).map((it) => it.outerHTML)'''
+
+
+def address(query=''):
+    return 'file://' + PAGE + query
+
+
+def text_of(name):
+    with open(os.path.join(TOP, 'examples', name), encoding='latin-1') as file:
+        return file.read()
+
+
+def example(browser, name):
+    """Opens an example by its button."""
+    browser.click('#tab-open')
+    browser.click('[data-example="%s"]' % name)
+    browser.wait(OPENED, name)
+
+
+def saved(browser):
+    browser.run(SAVE)
+    browser.wait('return window.saved !== null')
+    return browser.run('return window.saved')
+
+
+def opened(browser, path):
+    """Opens a file as one that was chosen."""
+    browser.click('#tab-open')
+    browser.type('#file', path)
+    browser.wait(OPENED, os.path.basename(path))
+
+
+def frames_of(text):
+    """The lines of a transcript as those of frames."""
+    return re.sub(r'^[<>] ', '', text, flags=re.M)
+
+
+def check_file(check):
+    """The page is one file of its size, which asks for nothing."""
+    with open(PAGE, encoding='utf-8') as file:
+        page = file.read()
+    check.holds('the page has less than %d octets' % MOST_OCTETS, len(page.encode()) < MOST_OCTETS, len(page.encode()))
+    asked = re.findall(r'<(?:link|img|script|iframe)[^>]*(?:src|href)="(?!data:)', page)
+    check.equal('the page names no other file', [], asked)
+    check.holds('the page may not ask for one', "default-src 'none'" in page)
+    check_contrast(check, page)
+
+
+def luminance(colour):
+    parts = [int(colour[place:place + 2], 16) / 255 for place in (1, 3, 5)]
+    parts = [part / 12.92 if part <= 0.03928 else ((part + 0.055) / 1.055) ** 2.4 for part in parts]
+    return 0.2126 * parts[0] + 0.7152 * parts[1] + 0.0722 * parts[2]
+
+
+def contrast(one, other):
+    dark, light = sorted((luminance(one), luminance(other)))
+    return (light + 0.05) / (dark + 0.05)
+
+
+def check_contrast(check, page):
+    """Each pair of colours in which words are written, in both themes (WCAG 2: 4.5 to 1)."""
+    pairs = [(ink, back) for ink in ('ink', 'soft', 'accent', 'bad', 'warn', 'good') for back in ('back', 'panel', 'lane')]
+    pairs += [('bad', 'bad-back'), ('ink', 'warn-back'), ('ink', 'bad-back'), ('soft', 'bad-back'), ('ink', 'accent-back'),
+              ('soft', 'accent-back'), ('accent', 'accent-back'), ('mark-ink', 'mark'), ('panel', 'accent')]
+    for theme, block in zip(('light', 'dark'), re.findall(r':root[^{]*\{([^}]*--ink[^}]*)\}', page)):
+        colours = dict(re.findall(r'--([\w-]+): (#[0-9a-f]{6})', block))
+        low = [pair for pair in pairs if contrast(colours[pair[0]], colours[pair[1]]) < CONTRAST]
+        check.equal('the contrast of the %s theme' % theme, [], low)
+
+
+def check_examples(check, browser, name):
+    """Each frames file, transcript and capture says what `show` and `check` say; each script reports as `simulate`."""
+    has_rules = browser.run('return document.documentElement.dataset.rules === "true"')
+    if not has_rules:
+        check.skip('verdicts in %s' % name, 'the library of the page has no checker')
+    for path in sorted(glob.glob(os.path.join(TOP, 'examples', '*.frames')) + glob.glob(os.path.join(TOP, 'examples', '*.transcript'))):
+        base = os.path.basename(path)
+        example(browser, base)
+        shown = os.path.splitext(base)[0] + '.shown'
+        has_shown = base.endswith('.frames') and os.path.exists(os.path.join(TOP, 'examples', shown))
+        expected = text_of(shown) if has_shown else output_of('show', frames_of(text_of(base)))[0]
+        check.equal('%s in %s' % (base, name), expected, saved(browser))
+        if has_rules and base.endswith('.transcript'):
+            verdict = text_of(os.path.splitext(base)[0] + '.verdict')
+            check.equal('the verdict on %s in %s' % (base, name), verdict,
+                        browser.run('return document.getElementById("verdict").textContent') + '\n')
+    browser.click('#tab-play')
+    for path in sorted(glob.glob(os.path.join(TOP, 'examples', '*.script'))):
+        base = os.path.basename(path)
+        browser.run('const it = document.getElementById("play-example"); it.value = arguments[0]; it.dispatchEvent(new Event("change"))', base)
+        check.equal('%s in %s' % (base, name), text_of(os.path.splitext(base)[0] + '.report'),
+                    browser.run('return document.getElementById("report").textContent'))
+
+
+# What is captured, and the messages that it has, by docs/CAPTURES.md.
+CAPTURES = {
+    'octets.txt': ['poll block 5', 'block 5 entries 1 status 00 stamp 1000', 'poll block 6', 'block 6 entries 0 status 00 stamp 1001',
+                   'poll block 7', 'bad line', 'poll block 8'],
+    'serial-log.txt': ['poll block 255', 'poll block 255', 'block 255 entries 1 status 02 stamp 1', 'poll block 0',
+                       'block 0 entries 1 status 00 stamp 2', 'poll block 0', 'block 0 entries 1 status 02 stamp 2'],
+    'module-log.txt': ['poll block 5', 'block 5 entries 0 status 00 stamp 1000', 'poll block 6', 'block 6 entries 1 status 00 stamp 1020'],
+    'powershell.txt': ['poll block 5', 'block 5 entries 0 status 00 stamp 1000'],
+}
+
+
+def check_captures(check, browser, name):
+    """Logs of other tools give their messages, with directions and times."""
+    for capture, words in CAPTURES.items():
+        example(browser, capture)
+        rows = browser.run(CELLS)
+        check.equal('%s in %s' % (capture, name), words, [row[3] for row in rows])
+        if capture != 'octets.txt':
+            arrows = [ARROWS['>' if word.startswith('poll') else '<'] for word in words]
+            check.equal('the directions of %s in %s' % (capture, name), arrows, [row[2] for row in rows])
+    check.equal('a time of powershell.txt in %s' % name, '07:15:02.108', rows[1][1])
+
+
+def check_loggers(check, browser, name, folder):
+    """Each form of tests/support/loggers.py: the page has the frames, in order, and their directions."""
+    frames = timed(SESSION)
+    expected = [[ARROWS[way], octets[:SHOWN_OCTETS].hex() + '…' * (len(octets) > SHOWN_OCTETS)] for _, way, octets in frames]
+    for logger, written in LOGGERS.items():
+        path = os.path.join(folder, logger.replace('/', ' '))
+        with open(path, 'w', encoding='utf-8', newline='') as file:
+            file.write(written(frames))
+        opened(browser, path)
+        check.equal('the log %s in %s' % (logger, name), expected, [[row[2], row[5]] for row in browser.run(CELLS)])
+
+
+def check_fields(check, browser, name):
+    """What the pointer and the keys mark."""
+    example(browser, 'lost-answer.transcript')
+    browser.click('#row-2')
+    marked = 'return [".grid", "ol"].map((it) => [...document.querySelectorAll(`.detail ${it} .is-marked`)].map((one) => one.textContent))'
+    for octet, expected in {2: [['ff'], ['255']], 4: [['00'], ['0', '0']], 5: [['00', '01'], ['1']], 8: [['00', '00', '00', '01'], ['1']]}.items():
+        browser.point('.detail .grid span:nth-child(%d)' % octet)
+        check.equal('octet %d under the pointer in %s' % (octet, name), expected, browser.run(marked))
+    browser.click('.rows')
+    browser.type('.rows', KEYS['home'] + KEYS['down'])
+    check.equal('the keys select a row in %s' % name, 'Line 3', browser.run('return document.querySelector(".detail h2").textContent'))
+    browser.type('#search', 'block 0')
+    browser.wait('return document.querySelectorAll(".line:not([hidden])").length === 2')
+    check.equal('the search in %s' % name, ['5', '6'], [row[0] for row in browser.run(CELLS)])
+    browser.type('#tab-messages', KEYS['right'])
+    check.equal('a key goes to the next view in %s' % name, 'tab-inputs', browser.run('return document.activeElement.id'))
+
+
+def many_messages(path):
+    """A log of many messages: rounds of a poll and a block of up to 20 entries, as a right link has them."""
+    chosen, state, stamp = random.Random(2070), [1] * 64, 0
+    with open(path, 'w', encoding='ascii') as file:
+        for number in range(MANY // 2):
+            stamp += 10
+            entries = b''
+            for _ in range(chosen.choice((0, 1, 2, 20))):
+                place = chosen.randrange(64)
+                state[place] ^= 1
+                entries += bytes([place | state[place] << 7]) + ((stamp - 5) & 0xffff).to_bytes(2, 'big')
+            block = bytes([182, number & 255, len(entries) // 3]) + entries + b'\0' + stamp.to_bytes(4, 'big')
+            file.write('> 36%02x\n< %s\n' % (number & 255, block.hex()))
+
+
+def scrolled(browser):
+    """How many milliseconds of script and layout each of 60 frames takes, in which the table moves by two pages."""
+    browser.run('''window.works = []; const rows = document.querySelector(".rows"), frame = window.requestAnimationFrame;
+        window.requestAnimationFrame = (draw) => frame((now) => { const begun = performance.now(); draw(now); rows.offsetHeight;
+            window.works.push(performance.now() - begun); });
+        let step = 0; const next = () => { rows.scrollTop += 1731; if (++step < 80) frame(next); }; frame(next);''')
+    browser.wait('return window.works.length >= 60')
+    return browser.run('return window.works.slice(0, 60)')
+
+
+def check_many(check, browser, name, folder):
+    """Many messages open soon, and scroll without a long frame."""
+    path = os.path.join(folder, 'many.transcript')
+    many_messages(path)
+    browser.click('#tab-open')
+    browser.run('''document.getElementById("file").addEventListener("change", () => { window.begun = performance.now(); }, true);
+        new MutationObserver(() => requestAnimationFrame(() => setTimeout(() => { window.painted = performance.now(); })))
+            .observe(document.documentElement, { attributeFilter: ["data-opened"] });''')
+    browser.type('#file', path)
+    browser.wait('return window.painted > 0')
+    seconds = browser.run('return (window.painted - window.begun) / 1000')
+    print('%s: %d messages open in %.2f s' % (name, MANY, seconds))
+    check.holds('%d messages open within %d s in %s' % (MANY, MOST_SECONDS, name), seconds < MOST_SECONDS, seconds)
+    check.equal('their number in %s' % name, '100,000 messages', browser.run('return document.querySelector("[data-fact=messages]").textContent'))
+    works = sorted(scrolled(browser))
+    print('%s: a frame of scrolling takes %.1f ms of work, nineteen in twenty %.1f' % (name, works[30], works[57]))
+    check.holds('scrolling has no long frame in %s' % name, works[30] < LONG_FRAME_MS, works)
+    browser.type('.rows', KEYS['end'])
+    check.equal('the last row in %s' % name, '100000', browser.run(CELLS)[-1][0])
+    browser.click('#tab-inputs')
+    browser.turn_wheel('#waves', -800)
+    browser.click('#waves')
+    reading = browser.run('return document.getElementById("reading").textContent')
+    check.holds('a click reads a transition in %s' % name, re.fullmatch(r'input \d+ state [01] at \d+ ms Line \d+', reading), reading)
+    browser.click('#to-message')
+    line = browser.run('return document.querySelector(".detail h2").textContent')
+    check.equal('and goes to its message in %s' % name, reading.rpartition('ms ')[2], line)
+    wide = re.sub(r'input (\d+) state (\d) at (\d+) .*', r'  input \1 state \2 stamp ', reading)
+    check.holds('which has the transition in %s' % name, wide.strip() in browser.run('return document.querySelector(".detail ol").textContent'), wide)
+
+
+def hostile_files():
+    """Files that no logger writes, by their names."""
+    chosen = random.Random(37)
+    return {
+        'random': chosen.randbytes(200_000),
+        'markup': b'> 36<script>window.broken = 1</script>\n<img src=x onerror="window.broken = 1">\n' * 50,
+        'long line': b'> ' + b'b6' * 1_000_000 + b'\n',
+        'no line': b'', 'empty lines': b'\n' * 300_000, 'zeros': bytes(300_000), 'half an octet': b'> 360\n< b\n',
+        'wrong lengths': b''.join(b'> %s\n' % chosen.randbytes(chosen.randrange(1, 40)).hex().encode() for _ in range(3000)),
+        'blanks': b'> ' + b' ' * 100_000 + b'x\n', 'digits': b'1:' * 50_000 + b'\n', 'separators': b'TX 36 ' + b'- ' * 50_000 + b'z\n',
+        'UTF-16': '> 3605\n'.encode('utf-16'), 'a mark alone': b'\xff\xfe', 'name.<b>': b'> 3605\n',
+    }
+
+
+def check_hostile(check, browser, name, folder):
+    """Each opens, or says why not, and runs nothing."""
+    for title, octets in hostile_files().items():
+        path = os.path.join(folder, title)
+        with open(path, 'wb') as file:
+            file.write(octets)
+        opened(browser, path)
+        state = browser.run('return [window.broken === undefined, document.querySelectorAll("main script, main img, main b:not(button b)").length]')
+        check.equal('%s in %s' % (title, name), ([True, 0], ''), (state, browser.run(TROUBLE)))
+    example(browser, 'good.transcript')
+    check.equal('after these an example opens in %s' % name, 5, len(browser.run(CELLS)))
+
+
+def check_plan(check, browser, name):
+    """The rows of docs/PLANNING.md."""
+    browser.click('#tab-plan')
+    with open(os.path.join(TOP, 'docs', 'PLANNING.md'), encoding='utf-8') as page:
+        rows = [[cell.strip() for cell in line.strip('|\n ').split('|')] for line in page if re.match(r'\| \d', line)]
+    move = '''arguments[0].forEach((value, place) => { const it = document.getElementById(["plan-inputs", "plan-filter"][place]);
+        it.value = value; it.dispatchEvent(new Event("input")); });
+        return [...document.querySelectorAll("#plan-row td")].map((it) => it.textContent)'''
+    for row in rows:
+        check.equal('the row of %s inputs with filters of %s in %s' % (row[0], row[1], name), row, browser.run(move, row[:2]))
+    check.equal('the number of rows', 24, len(rows))
+
+
+# What the clicks of `check_play` do, and what the profile says of it: input 5 goes to 0 at the second of two samples; the
+# first poll is lost; the second is answered, and its answer is heard twice.
+PLAYED = ['quiet', 'quiet', 'sent 2 3600', 'sent 3 3600', 'sent 2 b600010500020000000002', 'block entries 1 status 00', 'stale 0']
+PLAYED_END = ['counter 2', 'number 1', 'waiting 0', 'record 1', 'input 5 state 0 stamp 2 wide 2']
+
+
+def check_play(check, browser, name):
+    """Both ends by clicks, and the link to the run."""
+    browser.open(address())
+    browser.click('#tab-play')
+    for selector in ('[data-input="5"]', '#scan', '#scan', '#poll', '#to-module li:first-child button:last-child', '#poll',
+                     '#to-module li:first-child button', '#to-cpu li:first-child button', '#to-cpu li:first-child button'):
+        browser.click(selector)
+    lines = browser.run('return document.getElementById("report").textContent').splitlines()
+    expected = ['%d %s' % (number, line) for number, line in enumerate(PLAYED, 4)] + PLAYED_END
+    check.equal('what clicks do in %s' % name, expected, lines[3:])
+    script = browser.run('return document.getElementById("script").value')
+    browser.click('#link')
+    link = browser.run('return location.href')
+    browser.open('about:blank')
+    browser.open(link)
+    check.equal('the link holds the run in %s' % name, script, browser.run('return document.getElementById("script").value'))
+    faulty = {'fio2070 script 9 2 0\n': 'line 1: bad header', 'fio2070 script 1 2 0\nrestart\n': 'line 2: bad line',
+              'fio2070 script 1 2 0\nsend 33\n': 'line 2: bad frame wrong length needed 2 got 1',
+              'fio2070 script 1 2 0\n' + 'poll\n' * 10_001: 'line 10002: too many events'}
+    for text, fault in faulty.items():
+        browser.run('document.getElementById("script").value = arguments[0]; document.getElementById("run-script").click()', text)
+        check.equal('%s in %s' % (fault, name), fault, browser.run('return document.getElementById("script-trouble").textContent'))
+
+
+def check_access(check, browser, name):
+    """Names of what can be used, and room on a phone."""
+    check.equal('each control has a name in %s' % name, [], browser.run(NAMES))
+    browser.size(500, 850)
+    for view in ('open', 'messages', 'inputs', 'plan', 'play'):
+        browser.click('#tab-' + view)
+        wide = browser.run('const it = document.documentElement; return it.scrollWidth - it.clientWidth')
+        check.holds('the view %s fits a narrow screen in %s' % (view, name), wide <= 0, wide)
+    browser.size(1280, 900)
+
+
+def check_browser(check, kind, folder):
+    """All of it in one browser."""
+    begun = time.monotonic()
+    with running(kind) as browser:
+        for bits in (32, 64) if shutil.which('wasm-opt') else (64,):
+            browser.open(address('?bits=%d' % bits))
+            started = browser.run('return document.documentElement.dataset.bits')
+            check.equal('%d-bit addresses in %s' % (bits, kind.name), (str(bits), ''), (started, browser.run(TROUBLE)))
+            check_captures(check, browser, '%s with %d bits' % (kind.name, bits))
+        check_examples(check, browser, kind.name)
+        check_loggers(check, browser, kind.name, folder)
+        check_fields(check, browser, kind.name)
+        check_many(check, browser, kind.name, folder)
+        check_hostile(check, browser, kind.name, folder)
+        check_plan(check, browser, kind.name)
+        check_play(check, browser, kind.name)
+        check_access(check, browser, kind.name)
+    print('%s: %.0f s' % (kind.name, time.monotonic() - begun))
+
+
+def take_pictures(folder):
+    """The pictures of tools/page/, by Chromium."""
+    with running(Chromium) as browser:
+        browser.size(1280, 800)
+        browser.open(address())
+        example(browser, 'serial-log.txt')
+        browser.click('#row-2')
+        browser.point('.detail .grid span:nth-child(4)')
+        browser.picture(os.path.join(PICTURES, 'messages.png'))
+        many = os.path.join(folder, 'many.transcript')
+        many_messages(many)
+        opened(browser, many)
+        browser.click('#tab-inputs')
+        browser.turn_wheel('#waves', -4000)
+        browser.click('#waves')
+        browser.picture(os.path.join(PICTURES, 'inputs.png'))
+        browser.click('#tab-play')
+        browser.picture(os.path.join(PICTURES, 'play.png'))
+
+
+def main():
+    check = Check(pictures=False)
+    made = subprocess.run(['make', '-s', '-C', TOP, 'page'], stdout=subprocess.PIPE, stderr=subprocess.STDOUT)
+    check.equal('make page', 0, made.returncode)
+    if made.returncode:
+        print(made.stdout.decode())
+        check.end()
+    check_file(check)
+    if not shutil.which('wasm-opt'):
+        check.skip('32-bit addresses', 'no wasm-opt here (Debian package binaryen)')
+    with tempfile.TemporaryDirectory() as folder:
+        for kind in (Chromium, Firefox):
+            if is_here(kind):
+                check_browser(check, kind, folder)
+            else:
+                check.skip(kind.name, 'no %s here' % ' or no '.join(kind.programs))
+        if check.given.pictures:
+            take_pictures(folder)
+    check.end()
+
+
+main()

@@ -1,0 +1,229 @@
+#!/usr/bin/env python3
+"""Computes the table of docs/PLANNING.md again from its formulas. Computes for the densest traffic of each row, by
+counts alone, which bounds it reaches, and that one scan more loses a transition. Runs the densest traffic by
+`simulate`: what arrives at the end of each clean round, how late it is, outages of the length in the table and of one
+scan more, and rounds as far apart as the table says and one scan further. Last line: `N passed, M failed`."""
+
+import os
+import re
+import sys
+
+sys.dont_write_bytecode = True
+
+from support.check import Check
+from support.tables import TOP, output_of
+
+FILTERS = (1, 2, 5, 10, 20, 50)
+INPUTS = (8, 16, 32, 64)
+PER_BLOCK = 255
+WAITING = (1024, 8192)
+ALL_ONES = 2 ** 64 - 1
+
+
+def planned(inputs, filter_length):
+    """The row of the table for so many open inputs with filters of so many samples."""
+    every = PER_BLOCK * filter_length // inputs
+    kept = [inputs * (every + filter_length - 1) // filter_length, every + filter_length - 2]
+    lost = [inputs * (2 * every + filter_length - 1) // filter_length, 2 * every + filter_length - 2]
+    outages = [waiting // inputs * filter_length for waiting in WAITING]
+    return [inputs, filter_length, every] + kept + lost + outages
+
+
+def check_table(check):
+    """The rows of the table in the document are the computed ones."""
+    with open(os.path.join(TOP, 'docs', 'PLANNING.md'), encoding='utf-8') as page:
+        rows = [[int(cell.replace(',', '')) for cell in re.findall(r'[\d,]+', line)]
+                for line in page if re.match(r'\| \d', line)]
+    expected = [planned(inputs, filter_length) for inputs in INPUTS for filter_length in FILTERS]
+    check.equal('the number of rows of docs/PLANNING.md', len(expected), len(rows))
+    for found, row in zip(rows, expected):
+        check.equal('the row of docs/PLANNING.md for %d inputs with filters of %d' % tuple(row[:2]), row, found)
+
+
+def logged_in(inputs, filter_length, scans):
+    """How many transitions the densest traffic has in so many scans: all inputs change at the first, and then at each
+    scan that ends a filter."""
+    return inputs * -(-scans // filter_length)
+
+
+def most_reached(inputs, filter_length, lost_answer):
+    """The most that wait and the most scans that one is late, in the densest traffic with clean rounds as far apart as
+    the table says. Where an answer was lost when it began, the first of them repeats its block."""
+    every = planned(inputs, filter_length)[2]
+    taken = waiting = late = 0
+    for round_number in range(2 if lost_answer else 1, 3 * filter_length + 9):
+        scans = every * round_number
+        left = logged_in(inputs, filter_length, scans) - taken
+        waiting = max(waiting, left)
+        late = max(late, scans - 1 - taken // inputs * filter_length)
+        taken += min(PER_BLOCK, left)
+    return waiting, late
+
+
+def overflows(inputs, filter_length, every, waiting, rounds):
+    """Whether the densest traffic overflows the buffer, with so many clean rounds so far apart."""
+    taken = scans = 0
+    for _ in range(rounds):
+        scans += every
+        left = logged_in(inputs, filter_length, scans) - taken
+        if left > waiting:
+            return True
+        taken += min(PER_BLOCK, left)
+    return False
+
+
+def check_bounds(check):
+    """Which bounds the densest traffic reaches, as docs/PLANNING.md says, and that one scan more loses a transition."""
+    below = [[], [], [], []]
+    for inputs in INPUTS:
+        for filter_length in FILTERS:
+            row = planned(inputs, filter_length)
+            found = most_reached(inputs, filter_length, False) + most_reached(inputs, filter_length, True)
+            for differences, bound, most in zip(below, row[3:7], found):
+                differences.append(bound - most)
+            name = '%d inputs with filters of %d' % (inputs, filter_length)
+            for waiting, outage in zip(WAITING, row[7:]):
+                check.holds('an outage of %d is the longest, %s' % (outage, name),
+                            logged_in(inputs, filter_length, outage) <= waiting
+                            < logged_in(inputs, filter_length, outage + 1))
+                check.holds('a scan more loses some of %d that wait, %s' % (waiting, name),
+                            overflows(inputs, filter_length, row[2] + 1, waiting, 400_000))
+            check.holds('the pace loses none, ' + name, not overflows(inputs, filter_length, row[2], WAITING[0], 4_000))
+    waiting, late, waiting_lost, late_lost = [differences.count(0) for differences in below]
+    check.holds('no bound is passed', late == late_lost and min(map(min, below)) == 0, below)
+    words = ('reaches *Late* in %d rows, 22 and 41 ms among them, and *Waiting* in %d, with lost answers in %d; in the '
+             'others it stays up to %d scans and %d entries below'
+             % (late, waiting, waiting_lost, max(below[1] + below[3]), max(below[0] + below[2])))
+    with open(os.path.join(TOP, 'docs', 'PLANNING.md'), encoding='utf-8') as page:
+        check.holds('docs/PLANNING.md says: ' + words, words in page.read())
+
+
+class Densest:
+    """A script in which the open inputs change as often as their filters let them, and what it logs."""
+
+    def __init__(self, inputs, filter_length, waiting):
+        self.inputs = inputs
+        self.filter = filter_length
+        self.scans = 0
+        self.logged = []
+        self.to_module = self.to_cpu = 0
+        items = b''.join(bytes([number if number < inputs else number | 0x80, filter_length, filter_length])
+                         for number in range(64))
+        self.lines = ['fio2070 script 3 2 0 %d %d' % (PER_BLOCK, waiting),
+                      'send ' + (bytes([51, 64]) + items).hex()]
+        self.deliver_to_module()
+        self.to_cpu += 1
+        self.scan(filter_length - 1)
+
+    def scan(self, count):
+        """So many scans: all levels change at each one that ends a filter."""
+        for _ in range(count):
+            level = self.scans // self.filter % 2
+            self.lines.append('scan %016x' % (ALL_ONES if level else 0))
+            self.scans += 1
+            if self.scans % self.filter == 0:
+                self.logged += [self.scans] * self.inputs
+
+    def deliver_to_module(self):
+        self.to_module += 1
+        self.lines.append('to-module %d' % self.to_module)
+
+    def lost_round(self):
+        """A poll whose answer is lost."""
+        self.lines.append('poll')
+        self.deliver_to_module()
+        self.to_cpu += 1
+
+    def clean_round(self):
+        self.lost_round()
+        self.lines.append('to-cpu %d' % self.to_cpu)
+
+    def run(self):
+        """How many entries each answer has, and the record: the time of each item, or none for a gap mark."""
+        text, _ = output_of('simulate', '\n'.join(self.lines) + '\n')
+        entries = [int(count) for count in re.findall(r'^\d+ block entries (\d+) ', text, re.M)]
+        record = text[text.index('\nrecord '):].split('\n')[2:-1]
+        return entries, [None if item == 'gap' else int(item.split()[-1]) for item in record]
+
+
+def check_rounds(check, inputs, filter_length, lost_answer):
+    """Clean rounds as far apart as the table says: nothing is lost, and how late the latest is."""
+    row = planned(inputs, filter_length)
+    every, latest = row[2], row[6 if lost_answer else 4]
+    name = 'clean rounds of %d inputs with filters of %d%s' % (inputs, filter_length, ', one lost' * lost_answer)
+    script = Densest(inputs, filter_length, WAITING[0])
+    if lost_answer:
+        script.lost_round()
+    logged, made = [], []
+    for _ in range(6):
+        script.scan(every)
+        logged.append(len(script.logged))
+        made.append(script.scans)
+        script.clean_round()
+    entries, record = script.run()
+    check.equal(name + ': the record is the front of the log', script.logged[:len(record)], record)
+    ends = [sum(entries[:count + 1]) for count in range(len(entries))]
+    rounds = 2 if lost_answer else 1
+    check.holds(name + ': each transition comes within %d rounds' % rounds,
+                all(ends[place] >= logged[place - rounds] for place in range(rounds, 6)))
+    late = [made[place] - script.logged[end - count] for place, (end, count) in enumerate(zip(ends, entries)) if count]
+    check.holds(name + ': no transition is more than %d scans late' % latest, max(late) <= latest, max(late))
+    if (inputs, filter_length) == (64, 5):
+        check.equal(name + ': the latest', latest, max(late))
+
+
+def check_outage(check, inputs, filter_length, waiting):
+    """An outage as long as the table says is ridden out and caught up with; one of a scan more is not."""
+    length = planned(inputs, filter_length)[7 + WAITING.index(waiting)]
+    name = 'outage of %d inputs with filters of %d, %d waiting' % (inputs, filter_length, waiting)
+    script = Densest(inputs, filter_length, waiting)
+    script.scan(length)
+    for _ in range(1 + -(-waiting // PER_BLOCK)):
+        script.clean_round()
+    check.equal(name + ': %d scans are ridden out' % length, script.logged, script.run()[1])
+    script = Densest(inputs, filter_length, waiting)
+    script.scan(length + 1)
+    script.clean_round()
+    check.holds(name + ': %d scans lose something' % (length + 1), None in script.run()[1])
+
+
+def check_polling(check):
+    """64 inputs with filters of 1, and a clean round as often as the table says: nothing is ever lost. With a scan more
+    between the rounds each leaves one transition more waiting, until there is no room for it."""
+    every = planned(64, 1)[2]
+    for scans in (every, every + 1):
+        script = Densest(64, 1, WAITING[0])
+        for _ in range(800):
+            script.scan(scans)
+            script.clean_round()
+        check.equal('something is lost by clean rounds %d scans apart' % scans, scans > every, None in script.run()[1])
+
+
+def check_room(check):
+    """As many transitions as may wait, and no more or one more: only then is one lost."""
+    for levels, is_lost in (('ff' * 8, False), ('fe' + 'ff' * 7, True)):
+        script = Densest(64, 1, WAITING[0])
+        script.scan(WAITING[0] // 64)
+        script.lines.append('scan ' + levels)
+        script.clean_round()
+        check.equal('something is lost of %d transitions, and then %s' % (WAITING[0], levels), is_lost,
+                    None in script.run()[1])
+
+
+def main():
+    check = Check()
+    check_table(check)
+    check_bounds(check)
+    check_polling(check)
+    check_room(check)
+    for inputs in INPUTS:
+        for filter_length in FILTERS:
+            check_rounds(check, inputs, filter_length, False)
+            check_rounds(check, inputs, filter_length, True)
+            check_outage(check, inputs, filter_length, WAITING[0])
+    for inputs, filter_length in ((64, 1), (64, 5), (32, 10), (8, 5)):
+        check_outage(check, inputs, filter_length, WAITING[1])
+    check.end()
+
+
+main()

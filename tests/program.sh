@@ -1,0 +1,73 @@
+#!/bin/sh
+# Runs the built program as a user does: its exit statuses, what it writes where its words, its input or
+# its output are at fault, and where it is called from. The last line is `N passed, M failed`.
+
+. "$(dirname -- "$(readlink -f -- "$0")")/support/check.sh"
+cd / || exit 1
+input=$room/input
+
+# ends NAME STATUS TEXT EXPECTED_STATUS EXPECTED_TEXT: a row: how the program ended. The expected text may be a pattern.
+ends() {
+    case $3 in
+    $5) differs=0 ;;
+    *) differs=1 ;;
+    esac
+    [ "$2" -eq "$4" ] || differs=1
+    judge "$1" "$differs" "status $4, $5" "status $2, $3"
+}
+
+# given NAME INPUT EXPECTED_STATUS EXPECTED_TEXT WORD..: runs the program with these words on this input.
+given() {
+    wants "$1" || return 0
+    name=$1 expected_status=$3 expected_text=$4
+    printf "$2" >"$input"
+    shift 4
+    text=$("$top/fio2070" "$@" <"$input")
+    ends "$name" "$?" "$text" "$expected_status" "$expected_text"
+}
+
+given 'a good line' '3605\n' 0 'poll block 5' show
+given 'no line feed at the end' '3605' 0 'poll block 5' show
+given 'a bad line' 'zz\n' 1 'line 1: bad line' show
+given 'no input' '' 0 '' show
+given 'no subcommand' '3605' 2 'fio2070: no subcommand'
+given 'another word' '3605' 2 "error: unrecognized subcommand 'other'*" other
+given 'a word with a capital' '3605' 2 "error: unrecognized subcommand 'Show'*" Show
+given 'another option' '3605' 2 "error: unexpected argument '-x'*" -x
+given 'one word too many' '3605' 2 "error: unexpected argument 'x'*Usage: fio2070 show < FILE*" show x
+given 'help as a word' '3605' 2 "error: unrecognized subcommand 'help'*" help
+given 'a word that is no text' '3605' 2 '' "$(printf '\377')"
+given 'help' '3605' 0 'Reads the messages*Usage: fio2070 COMMAND < FILE*Commands:
+  show      Reports what the frames on standard input say*
+  simulate  Runs a script of events on both ends*
+  check     Reports whether a transcript on standard input keeps*Options:*Exit status:*' --help
+given 'help on show' '3605' 0 'Reports what the frames on standard input say*Usage: fio2070 show < FILE*
+Reads:   frames, one a line*In a block:*| fio2070 show
+  poll block 5' show --help
+given 'help on simulate' '3605' 0 'Runs a script of events on both ends*Usage: fio2070 simulate < FILE*
+Reads:   a script. *LINESYNC goes from 0 to 1*| fio2070 simulate
+*  record 0' simulate --help
+given 'help on check' '3605' 0 'Reports whether a transcript on standard input keeps*Usage: fio2070 check < FILE*
+Reads:   a transcript*readable, pair, number*| fio2070 check
+  line 3 breaks advance' check --help
+for tool in show simulate check; do
+    equal "-h of $tool" "$("$top/fio2070" "$tool" --help)" "$("$top/fio2070" "$tool" -h)"
+done
+given 'a file as an argument' '3605' 2 "error: unexpected argument*Usage: fio2070 check < FILE*" check examples/good.transcript
+given 'the version' '3605' 0 'fio2070 [0-9]*' --version
+
+# A folder can be opened and not read.
+for tool in show simulate check; do
+    text=$("$top/fio2070" "$tool" </)
+    ends "a failing read of $tool" "$?" "$text" 3 'fio2070: read fault'
+done
+
+if [ -c /dev/full ]; then
+    printf '3605\n' >"$input"
+    "$top/fio2070" show <"$input" >/dev/full
+    ends 'a failing write' "$?" '' 3 ''
+else
+    skip 'a failing write' 'no /dev/full here'
+fi
+
+end

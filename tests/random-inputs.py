@@ -1,0 +1,273 @@
+#!/usr/bin/env python3
+"""Runs the built program on random octets, random lines and mutated texts, 6,000 inputs for each tool, from a fixed
+seed: each run ends within ten seconds with status 0 or 1, writes lines of the known forms alone, and its status
+says whether they tell of a fault. `tests/random-inputs.py SEED COUNT` takes another seed and another number of inputs a
+tool. Last line: `N passed, M failed`."""
+
+import concurrent.futures
+import os
+import random
+import re
+import subprocess
+import sys
+
+sys.dont_write_bytecode = True
+
+from support.check import Check
+from support.tables import TOP, output_of
+
+PROGRAM = os.path.join(TOP, 'crates', 'fio2070', 'out', 'fio2070')
+TOOLS = ('show', 'simulate', 'check')
+SECONDS = 10
+
+FAULT = r'(?:empty|too long got \d+|unknown type \d+|wrong length needed \d+ got \d+)'
+FAULTY_LINE = re.compile(r'line (\d+): (?:bad line|%s)' % FAULT)
+SHOWN = re.compile('|'.join([
+    r'status clear HH', r'load counter N', r'configure inputs N', r'raw inputs', r'filtered inputs',
+    r'poll block N', r'set outputs data H16 control H16', r'watchdog ms N', r'identify',
+    r'status flags HH receive N transmit N stamp N', r'counter load status HH', r'configure status HH',
+    r'(?:raw|filtered) inputs H16 stamp N', r'block N entries N status HH stamp N', r'watchdog status HH',
+    r'other N body (?:(?:HH)+|-)',
+]).replace('H16', '[0-9a-f]{16}').replace('HH', '[0-9a-f]{2}').replace('N', r'\d+'))
+COUNTED = re.compile(r'(?:configure inputs|block \d+ entries) (\d+)')
+SHOWN_PART = re.compile(r'  input \d+ (?:ignore [01] leading \d+ trailing \d+|state [01] stamp \d+ wide \d+)')
+SCRIPT_FAULT = re.compile(r'line 1: bad header|line \d+: (?:too many events|bad line|bad frame %s)' % FAULT)
+OUTCOME = re.compile(r'(\d+) (?:quiet|sent \d+ (?:[0-9a-f]{2})+|block entries \d+ status [0-9a-f]{2}|stale \d+'
+                     r'|other \d+|unreadable %s)' % FAULT)
+REFUSED_EVENT = re.compile(r'(\d+) refused (?:not sent \d+|out of order \d+ after \d+|poll is ours)')
+ITEM = re.compile(r'gap|input \d+ state [01] stamp \d+ wide \d+')
+ENDS = [re.compile(word + r' \d+') for word in ('counter', 'number', 'waiting', 'record')]
+VERDICT = re.compile(r'good \d+ frames')
+BROKEN = re.compile(r'line \d+ breaks (?:readable|pair|number|advance|same|sequence|limits|rest|refusal)'
+                    r'|line \d+: bad line')
+
+
+def lines_that_say(text):
+    """The numbers of the lines that are neither empty nor a remark."""
+    lines = text.split(b'\n')
+    return [place for place, line in enumerate(lines, 1) if line and not line.startswith(b'#')]
+
+
+def is_show(text, lines, status):
+    """There is one line for each line that says something, a faulty one with its number, and one for each part."""
+    places = iter(lines_that_say(text))
+    faults = parts = 0
+    for line in lines:
+        if parts and SHOWN_PART.fullmatch(line):
+            parts -= 1
+            continue
+        place = next(places, None)
+        faulty = FAULTY_LINE.fullmatch(line)
+        if parts or place is None or not (SHOWN.fullmatch(line) or faulty and int(faulty.group(1)) == place):
+            return False
+        faults += faulty is not None
+        counted = COUNTED.match(line)
+        parts = int(counted.group(1)) if counted else 0
+    return parts == 0 and next(places, None) is None and status == (1 if faults else 0)
+
+
+def is_simulate(_, lines, status):
+    """Events are reported in order, and then the ends, or a refused event, or the one faulty line."""
+    if len(lines) == 1 and SCRIPT_FAULT.fullmatch(lines[0]):
+        return status == 1
+    done = 0
+    while done < len(lines) and OUTCOME.fullmatch(lines[done]):
+        if int(lines[done].split()[0]) != done + 1:
+            return False
+        done += 1
+    rest = lines[done:]
+    if len(rest) == 1:
+        refused = REFUSED_EVENT.fullmatch(rest[0])
+        return refused is not None and int(refused.group(1)) == done + 1 and status == 1
+    items = rest[4:]
+    return (len(rest) >= 4 and all(form.fullmatch(line) for form, line in zip(ENDS, rest))
+            and all(ITEM.fullmatch(line) for line in items)
+            and int(rest[3].split()[1]) == len(items) and status == 0)
+
+
+def is_check(text, lines, status):
+    """One line, and where it is good it counts the lines that say something."""
+    if len(lines) != 1:
+        return False
+    if VERDICT.fullmatch(lines[0]):
+        return status == 0 and int(lines[0].split()[1]) == len(lines_that_say(text))
+    return BROKEN.fullmatch(lines[0]) is not None and status == 1
+
+
+FORMS = {'show': is_show, 'simulate': is_simulate, 'check': is_check}
+
+
+def is_known(tool, text, told_octets, status):
+    """Whether the program wrote lines of the known forms, and ended with their status."""
+    if status not in (0, 1):
+        return False
+    written = told_octets.decode('latin-1')
+    if written and not written.endswith('\n'):
+        return False
+    return FORMS[tool](text, written.split('\n')[:-1], status)
+
+
+# Octets that a message of each type may have behind the first: how many, or None where a count says it.
+LENGTHS = {49: 1, 50: 4, 52: 0, 53: 0, 54: 1, 55: 16, 58: 1, 60: 0, 177: 7, 178: 1, 179: 1, 180: 12, 181: 12, 186: 1}
+
+
+class Inputs:
+    """Random inputs for the tools."""
+
+    def __init__(self, seed):
+        self.random = random.Random(seed)
+        self.examples = {'show': [], 'simulate': [], 'check': []}
+        kinds = {'.frames': 'show', '.script': 'simulate', '.transcript': 'check'}
+        folder = os.path.join(TOP, 'examples')
+        for name in sorted(os.listdir(folder)):
+            tool = kinds.get(os.path.splitext(name)[1])
+            if tool:
+                with open(os.path.join(folder, name), 'rb') as file:
+                    self.examples[tool].append(file.read())
+
+    def octets(self, count):
+        return bytes(self.random.randrange(256) for _ in range(count))
+
+    def frame(self):
+        """Octets of a message, right or nearly right: its length or its count may lie."""
+        code = self.random.choice(list(range(47, 62)) + list(range(175, 190)) + [51, 54, 182, 182])
+        if code in (51, 182):
+            count = self.random.choice([0, 1, 2, 3, self.random.randrange(256)])
+            parts = count if count < 4 or self.random.random() < 0.1 else self.random.randrange(4)
+            body = bytes([count]) + self.octets(3 * parts)
+            if code == 182:
+                body = self.octets(1) + body + bytes([self.random.choice([0, 1, 2, 4, 8, 12, 255])]) + self.octets(4)
+        else:
+            body = self.octets(LENGTHS.get(code, self.random.randrange(4)))
+        frame = bytes([code]) + body
+        change = self.random.random()
+        if change < 0.1:
+            return frame[:self.random.randrange(len(frame) + 1)]
+        return frame + self.octets(1) if change < 0.2 else frame
+
+    def digits(self):
+        """A frame in hexadecimal digits, of either case."""
+        digits = self.frame().hex().encode()
+        return digits.upper() if self.random.random() < 0.1 else digits
+
+    def event(self, sent):
+        """A line of a script, seldom a wrong one; `sent` counts roughly the frames of each direction."""
+        kind = self.random.random()
+        if kind < 0.01:
+            return self.random.choice([b'scan 00', b'to-cpu 0000000000', b'poll ', b'sync\r', b'to-module 0'])
+        if kind < 0.25:
+            levels = [bytes([254]) + bytes([255]) * 7, bytes([255]) * 8, bytes(8), self.octets(8)]
+            return b'scan ' + self.random.choice(levels).hex().encode()
+        if kind < 0.45:
+            sent[0] += 1
+            return b'poll'
+        if kind < 0.6:
+            sent[0] += 1
+            frames = [b'3302000101010101', b'34', b'3c', b'3200010000', b'3180', b'3ac8', b'38']
+            return b'send ' + (self.digits() if self.random.random() < 0.05 else self.random.choice(frames))
+        if kind < 0.78 and sent[0]:
+            sent[1] += 1
+            return b'to-module %d' % self.near(sent[0])
+        if kind < 0.92 and sent[1]:
+            return b'to-cpu %d' % self.near(sent[1])
+        return self.random.choice([b'sync', b'raise %02x' % self.random.randrange(256), b'restart', b'', b'# ..'])
+
+    def near(self, number):
+        """This number, or seldom another one near it."""
+        return number if self.random.random() < 0.95 else number + self.random.choice([-1, 1])
+
+    def script(self):
+        """The lines of a script."""
+        header = self.random.choice([b'fio2070 script 1 2 0', b'fio2070 script 2 2 255', b'fio2070 script 2 2 0',
+                                     b'fio2070 script 3 2 0 1 1024', b'fio2070 script 3 2 7 255 8192'])
+        if self.random.random() < 0.1:
+            header = b'fio2070 script 3 2 0 %d %d' % (self.random.randrange(300), self.random.randrange(9_000))
+        sent = [0, 0]
+        return [header] + [self.event(sent) for _ in range(self.random.randrange(40))]
+
+    def transcript(self):
+        """The lines of a transcript, of which many keep the rules."""
+        number, lines = self.random.randrange(256), []
+        for _ in range(self.random.randrange(12)):
+            lines.append(self.random.choice([b'> 36%02x' % number, b'> ' + self.digits()]))
+            if self.random.random() < 0.7:
+                body = self.random.choice([b'0000000003e8', b'018c03e700000003e8'])
+                block = b'b6%02x' % number + body
+                lines.append(b'< ' + self.random.choice([block, block, self.digits()]))
+                number = (number + 1) % 256
+        return lines
+
+    def lines(self, tool):
+        """Lines that are right or nearly right."""
+        if tool == 'simulate':
+            return self.script()
+        if tool == 'check':
+            return self.transcript()
+        return [self.digits() for _ in range(self.random.randrange(12))]
+
+    def mutated(self, text):
+        """The text with some octets or lines changed, taken out, doubled or put in."""
+        for _ in range(self.random.randrange(1, 6)):
+            place = self.random.randrange(len(text) + 1)
+            end = min(len(text), place + self.random.choice([1, 1, 2, 16]))
+            other = self.random.randrange(len(text) + 1)
+            mark = self.random.choice([b' ', b'\n', b'#', b'0', b'f', b'\r', b'\0', b'> ', b'< '])
+            text = self.random.choice([
+                text[:place] + self.octets(1) + text[end:],
+                text[:place] + mark + text[place:],
+                text[:place] + text[end:],
+                text[:place] + text[place:end] + text[place:],
+                text[:place],
+                text[:other] + text[place:end] + text[other:],
+            ])
+        return text
+
+    def input(self, tool):
+        """An input of one of four kinds."""
+        kind = self.random.randrange(8)
+        if kind == 0:
+            return self.octets(self.random.randrange(300))
+        if kind == 1:
+            letters = b'0123456789abcdefABCDEF><# \n\n\r-polsendcamturi'
+            return bytes(self.random.choice(letters) for _ in range(self.random.randrange(300)))
+        if kind in (2, 3):
+            return self.mutated(self.random.choice(self.examples[tool]))
+        text = b'\n'.join(self.lines(tool))
+        return self.mutated(text) if kind in (4, 5) else text
+
+
+def run(case):
+    """How the run of a case ends, and what is wrong with it, or None."""
+    _, tool, text = case
+    try:
+        done = subprocess.run([PROGRAM, tool], input=text, stdout=subprocess.PIPE, stderr=subprocess.PIPE,
+                              timeout=SECONDS)
+    except subprocess.TimeoutExpired:
+        return None, 'no end within %d seconds' % SECONDS
+    if done.stderr or not is_known(tool, text, done.stdout, done.returncode):
+        return done.returncode, 'status %d, and wrote %r' % (done.returncode, (done.stdout + done.stderr)[:1000])
+    return done.returncode, None
+
+
+def main():
+    check = Check(seed=2070, count=6000)
+    seed, count = check.given.seed, check.given.count
+    # Has the program built where it is not.
+    output_of('--version', '')
+    inputs = Inputs(seed)
+    drawn = [(tool, place, inputs.input(tool)) for place in range(count) for tool in TOOLS]
+    cases = [('%s input %d' % (tool, place), tool, text) for tool, place, text in drawn]
+    cases = [case for case in cases if check.wants(case[0])]
+    statuses = {tool: [0, 0] for tool in TOOLS}
+    with concurrent.futures.ThreadPoolExecutor(os.cpu_count()) as pool:
+        for (name, tool, text), (status, fault) in zip(cases, pool.map(run, cases)):
+            check.equal(name, None, fault and '%s of %r' % (fault, text))
+            if fault is None:
+                statuses[tool][status] += 1
+    for tool in TOOLS:
+        print('%-8s %d inputs with status 0, %d with status 1' % (tool, *statuses[tool]))
+    print('%d random inputs from seed %d' % (len(cases), seed))
+    check.end()
+
+
+main()

@@ -1,0 +1,284 @@
+#!/usr/bin/env python3
+"""Refuses each growth of memory in turn: to `fio_refusals`, which makes each call that can run out of memory once
+and reports its answer, and to the built program at some inputs. Growth 1 is refused to a first run, growth 2 to a
+second one, until a run meets no refusal. The number of growths of each call and of each input, and how many octets they
+ask for, are compared with the table `tests/support/growths`, so that room that a call asks for and never uses is found
+too; `tests/refused-memory.py --counts` writes the table anew. A C compiler (`$CC`, else `cc`) makes the library that refuses; `fio_refusals` is
+proved and built first, where it is not yet. Last line: `N passed, M failed`, where each run that met a refusal and
+each row of the table counts."""
+
+import glob
+import os
+import re
+import shlex
+import subprocess
+import sys
+import tempfile
+
+sys.dont_write_bytecode = True
+
+from support.check import Check
+from support.tables import TOP, output_of
+
+LIBRARY = os.path.join(TOP, 'tests', 'support', 'refuse.c')
+REFUSALS = os.path.join(TOP, 'crates', 'fio_refusals')
+PROGRAM = os.path.join(TOP, 'crates', 'fio2070', 'out', 'fio2070')
+TABLE = os.path.join(TOP, 'tests', 'support', 'growths')
+
+# Large texts with a fault at their ends. A line that is of no form once its digits are read, beside one that is of none
+# at sight: the program asks for no more memory at the first.
+TEXTS = {
+    '20,000 frames and zz': '34\n' * 20_000 + 'zz\n',
+    '10,000 polls': 'fio2070 script 1 2 0\n' + 'poll\n' * 10_000,
+    '9,999 polls and zz': 'fio2070 script 1 2 0\n' + 'poll\n' * 9_999 + 'zz\n',
+    '20,000 commands and zz': '> 34\n' * 20_000 + '> zz\n',
+    'send zz': 'fio2070 script 1 2 0\nsend zz\n',
+    'scan zz': 'fio2070 script 1 2 0\nscan zz\n',
+    '> zz': '> zz\n',
+    '? zz': '? zz\n',
+}
+ALIKE = [('simulate', 'send zz', 'scan zz'), ('check', '> zz', '? zz')]
+
+# The words of a command line, and the input: one of these texts, or a file of examples/.
+COMMANDS = [
+    ('show', 'capture.frames'),
+    ('simulate', 'lost-answer.script'),
+    ('simulate', 'restart.script'),
+    ('simulate', 'limits.script'),
+    ('simulate', 'overflow.script'),
+    ('simulate', 'capture.frames'),
+    ('check', 'good.transcript'),
+    ('check', 'breaks-advance.transcript'),
+    ('check', 'capture.frames'),
+    ('show', '20,000 frames and zz'),
+    ('simulate', '10,000 polls'),
+    ('simulate', '9,999 polls and zz'),
+    ('check', '20,000 commands and zz'),
+    ('simulate', 'send zz'),
+    ('simulate', 'scan zz'),
+    ('check', '> zz'),
+    ('check', '? zz'),
+    ('--help', None),
+    ('--version', None),
+    ('other', None),
+    ('chek', None),
+    ('', None),
+]
+
+# A run of events, the same events one by one, and what the run begins with, if anything: it stops at those events
+# at which the steps meet a refusal.
+RUNS = [
+    ('World::run', 'World::step', 'World::new'),
+    ('World::run of nine rounds', 'World::step of nine rounds', 'World::new'),
+    ('World::run_with_limits', 'World::step with limits', 'World::with_limits'),
+    ('World::step_all', 'World::step', None),
+    ('World::step_all of nine rounds', 'World::step of nine rounds', None),
+]
+
+# The rows of calls that take no memory: they meet no refusal, save before the call.
+WITHOUT_MEMORY = {
+    'other calls of Module',
+    'Poller::hear that adds nothing',
+    'World::step that adds nothing',
+    'read_script of faulty lines',
+    'read_trace of faulty lines',
+    'check_trace',
+}
+
+# What the program writes where it runs out of memory, and its status.
+OUT_OF_MEMORY = ('fio2070: out of memory\n', 3)
+
+# What the library writes to standard error where it refuses: how many octets were asked for.
+REFUSED = re.compile(r'refused (\d{20})\n')
+
+# What a growth comes to: its call reports that it was refused, or it was refused before the call and the call was
+# not made, or the call did without.
+KINDS = ('reported', 'before', 'passed over')
+HEADING = 'reported before passed over    octets  call, or command and input'
+
+# More growths than any run here asks for.
+MOST = 100_000
+
+
+class Failed(Exception):
+    """The library or a program could not be made."""
+
+
+def made(words, folder, what):
+    """Runs a command that makes something, and gives what it writes."""
+    try:
+        done = subprocess.run(words, cwd=folder, stdin=subprocess.DEVNULL, stdout=subprocess.PIPE,
+                              stderr=subprocess.PIPE)
+    except OSError as fault:
+        raise Failed('%s: %s' % (what, fault))
+    if done.returncode != 0:
+        raise Failed('%s: %s' % (what, (done.stdout + done.stderr).decode('latin-1')))
+    return done.stdout.decode('latin-1')
+
+
+def is_stale(program):
+    """Whether a program is not built, or some source is newer."""
+    sources = [path for form in ('src', 'specs', 'proofs')
+               for path in glob.glob(os.path.join(TOP, 'crates', '*', form, '**', '*.*'), recursive=True)]
+    return not os.path.exists(program) or any(os.path.getmtime(path) > os.path.getmtime(program) for path in sources)
+
+
+class Sweep:
+    """Runs of programs with one growth refused each."""
+
+    def __init__(self, check, library):
+        self.check = check
+        self.library = library
+        # How many growths each row asked for: reported, before the call, passed over.
+        self.growths = {}
+        # How many octets those that it reported asked for, in all.
+        self.octets = {}
+
+    def run(self, words, text, growth):
+        """What a program writes, on standard error too, and its status. Growth 0 is none. The input is a file: of a pipe
+        each read takes what is there, and the growths are others each time."""
+        environment = dict(os.environ, LD_PRELOAD=self.library, REFUSED_GROWTH=str(growth))
+        with tempfile.TemporaryFile() as file:
+            file.write(text)
+            file.seek(0)
+            done = subprocess.run(words, stdin=file, env=environment, stdout=subprocess.PIPE,
+                                  stderr=subprocess.STDOUT, timeout=60)
+        return done.stdout.decode('latin-1'), done.returncode
+
+    def refused(self, words, text):
+        """What is written for each growth that is refused, in turn: before the refusal and after it, with the octets
+        that it asked for."""
+        for growth in range(1, MOST):
+            written, status = self.run(words, text, growth)
+            parts = REFUSED.split(written, 1)
+            if len(parts) == 1:
+                return
+            before, octets, after = parts
+            yield growth, int(octets), before, after, status
+
+    def begin(self, name):
+        self.growths[name] = dict.fromkeys(KINDS, 0)
+        self.octets[name] = 0
+
+    def count(self, name, kind, octets):
+        if name in self.growths:
+            self.growths[name][kind] += 1
+            self.octets[name] += octets if kind == 'reported' else 0
+
+
+def kind_of(answer):
+    """What a row of `fio_refusals` says of a growth that was refused while it was made."""
+    if answer.startswith('refused at '):
+        return 'reported'
+    return {'not begun': 'before', 'right': 'passed over'}.get(answer)
+
+
+def sweep_calls(sweep):
+    """Refuses each growth of `fio_refusals`. The row that follows the refusal is that of the call which met it."""
+    program = os.path.join(REFUSALS, 'out', 'fio_refusals')
+    if is_stale(program):
+        made(['rt', 'run'], REFUSALS, 'fio_refusals')
+    with open(os.path.join(REFUSALS, 'stdout'), encoding='utf-8') as file:
+        ample = file.read().splitlines()
+    names = [row.partition(': ')[0] for row in ample]
+    places = {name: [] for name in names}
+    for name in names:
+        sweep.begin(name)
+    for growth, octets, before, after, status in sweep.refused([program], b''):
+        above, below = before.splitlines(), after.splitlines()
+        name, _, answer = (below or [''])[0].partition(': ')
+        kind = kind_of(answer)
+        others = above + ['%s: right' % name] + below[1:]
+        sweep.check.holds('fio_refusals, growth %d' % growth, status == 0 and kind is not None and others == ample,
+                          (above[-1:], below[:1], status))
+        if kind is not None:
+            sweep.count(name, kind, octets)
+        if kind == 'reported' and name in places:
+            places[name].append(int(answer.rpartition(' ')[2]))
+    for name in names:
+        met = {kind: count for kind, count in sweep.growths[name].items() if kind != 'before'}
+        is_right = not any(met.values()) if name in WITHOUT_MEMORY else met['reported'] > 0
+        sweep.check.holds('growths that %s asked for' % name, is_right, met)
+    for run, steps, start in RUNS:
+        sweep.check.equal('%s stops where the same events are refused one by one' % run,
+                          [0] * len(places.get(start, [])) + places[steps], places[run])
+
+
+def name_of(word, given):
+    """The row of a command and its input."""
+    return ' '.join(filter(None, ['fio2070', word, given]))
+
+
+def input_of(given):
+    """The octets of an input."""
+    if given is None:
+        return b''
+    if given in TEXTS:
+        return TEXTS[given].encode()
+    with open(os.path.join(TOP, 'examples', given), 'rb') as file:
+        return file.read()
+
+
+def sweep_program(sweep):
+    """Refuses each growth of the built program: it writes that it is out of memory and nothing else, or the text that
+    it writes in ample memory. The library's `collect` asks for room ahead, and does without where that is refused."""
+    output_of('--version', '')
+    for word, given in COMMANDS:
+        name = name_of(word, given)
+        text = input_of(given)
+        words = [PROGRAM] + ([word] if word else [])
+        sweep.begin(name)
+        ample = sweep.run(words, text, 0)
+        for growth, octets, before, after, status in sweep.refused(words, text):
+            answer = before + after, status
+            sweep.check.holds('%s, growth %d' % (name, growth), answer in (OUT_OF_MEMORY, ample), answer)
+            sweep.count(name, 'reported' if answer == OUT_OF_MEMORY else 'passed over', octets)
+    for word, one, other in ALIKE:
+        growths = sweep.growths[name_of(word, one)], sweep.growths[name_of(word, other)]
+        sweep.check.equal('growths of %s at %r and at %r' % (word, one, other), *growths)
+
+
+def table_of(sweep):
+    """The table of the growths and of their octets, as its file has it."""
+    rows = ['%8d %6d %11d %9d  %s' % (*(counts[kind] for kind in KINDS), sweep.octets[name], name)
+            for name, counts in sweep.growths.items()]
+    return '\n'.join([HEADING] + rows) + '\n'
+
+
+def compare(sweep):
+    """Each row of the table is that of this sweep."""
+    with open(TABLE, encoding='utf-8') as file:
+        pinned = file.read().splitlines()
+    found = table_of(sweep).splitlines()
+    rows = [{row[HEADING.index('call'):]: row for row in table} for table in (pinned, found)]
+    for name in sorted(rows[0].keys() | rows[1].keys()):
+        sweep.check.equal('growths of %s, as they are pinned' % name, *(table.get(name) for table in rows))
+
+
+def write_table(sweep):
+    """Pins what this sweep found."""
+    with open(TABLE, 'w', encoding='utf-8') as file:
+        file.write(table_of(sweep))
+
+
+def main():
+    check = Check(counts=False)
+    with tempfile.TemporaryDirectory() as folder:
+        library = os.path.join(folder, 'refuse.so')
+        compiler = shlex.split(os.environ.get('CC') or 'cc')
+        try:
+            made(compiler + ['-shared', '-fPIC', '-O1', '-o', library, LIBRARY], folder, 'a C compiler')
+            sweep = Sweep(check, library)
+            sweep_calls(sweep)
+            sweep_program(sweep)
+        except (Failed, subprocess.TimeoutExpired) as fault:
+            check.equal('the library and the programs are made', None, str(fault))
+            check.end()
+    if check.given.counts:
+        write_table(sweep)
+    else:
+        compare(sweep)
+    check.end()
+
+
+main()

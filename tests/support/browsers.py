@@ -1,0 +1,202 @@
+"""Headless browsers of Debian's packages, driven as a person would: Chromium by the WebDriver of `chromedriver`, Firefox
+by its own Marionette, which takes the same commands over a socket, since Debian has no `geckodriver`."""
+
+import base64
+import contextlib
+import json
+import os
+import shutil
+import socket
+import subprocess
+import tempfile
+import time
+import urllib.error
+import urllib.request
+
+ELEMENT = 'element-6066-11e4-a52e-4f735466cecf'
+STARTED_IN = 40
+KEYS = {'down': '\ue015', 'up': '\ue013', 'left': '\ue012', 'right': '\ue014', 'home': '\ue011', 'end': '\ue010',
+        'enter': '\ue007', 'tab': '\ue004'}
+
+
+class Browser:
+    """What a person does with a page. The ways to a browser have `ask`."""
+
+    def open(self, address):
+        self.ask('POST', 'url', 'WebDriver:Navigate', {'url': address})
+
+    def run(self, script, *given):
+        """The value of a script that returns one."""
+        return self.ask('POST', 'execute/sync', 'WebDriver:ExecuteScript', {'script': script, 'args': list(given)})
+
+    def wait(self, script, *given, seconds=20):
+        """The value of a script, once it is true."""
+        end = time.monotonic() + seconds
+        while time.monotonic() < end:
+            value = self.run(script, *given)
+            if value:
+                return value
+            time.sleep(0.02)
+        raise TimeoutError(script)
+
+    def find(self, selector):
+        found = self.ask('POST', 'element', 'WebDriver:FindElement', {'using': 'css selector', 'value': selector})
+        return found[ELEMENT]
+
+    def click(self, selector):
+        found = self.find(selector)
+        self.ask('POST', 'element/%s/click' % found, 'WebDriver:ElementClick', {'id': found})
+
+    def type(self, selector, text):
+        found = self.find(selector)
+        self.ask('POST', 'element/%s/value' % found, 'WebDriver:ElementSendKeys', {'id': found, 'text': text})
+
+    def point(self, selector):
+        """Moves the pointer to the middle of an element."""
+        move = {'type': 'pointerMove', 'duration': 0, 'x': 0, 'y': 0, 'origin': {ELEMENT: self.find(selector)}}
+        pointer = {'type': 'pointer', 'id': 'mouse', 'parameters': {'pointerType': 'mouse'}, 'actions': [move]}
+        self.ask('POST', 'actions', 'WebDriver:PerformActions', {'actions': [pointer]})
+
+    def turn_wheel(self, selector, by):
+        """Turns the wheel over an element by so many pixels."""
+        turn = {'type': 'scroll', 'duration': 0, 'x': 0, 'y': 0, 'deltaX': 0, 'deltaY': by,
+                'origin': {ELEMENT: self.find(selector)}}
+        self.ask('POST', 'actions', 'WebDriver:PerformActions', {'actions': [{'type': 'wheel', 'id': 'wheel', 'actions': [turn]}]})
+
+    def size(self, width, height):
+        self.ask('POST', 'window/rect', 'WebDriver:SetWindowRect', {'width': width, 'height': height})
+
+    def picture(self, path):
+        """Writes what is seen to a file, as PNG."""
+        with open(path, 'wb') as file:
+            file.write(base64.b64decode(self.ask('GET', 'screenshot', 'WebDriver:TakeScreenshot', None, full=False)))
+
+
+def free_port():
+    with contextlib.closing(socket.socket()) as free:
+        free.bind(('127.0.0.1', 0))
+        return free.getsockname()[1]
+
+
+class Chromium(Browser):
+    """Chromium, over HTTP."""
+
+    name = 'Chromium'
+    programs = ('chromium', 'chromedriver')
+
+    def __init__(self, room):
+        port = free_port()
+        self.driver = subprocess.Popen(['chromedriver', '--port=%d' % port], cwd=room, stdout=subprocess.DEVNULL,
+                                       stderr=subprocess.DEVNULL)
+        self.base = 'http://127.0.0.1:%d/session' % port
+        options = ['--headless=new', '--disable-gpu', '--disable-dev-shm-usage', '--window-size=1280,900',
+                   '--force-device-scale-factor=1', '--user-data-dir=' + os.path.join(room, 'profile')]
+        if os.geteuid() == 0:
+            options.append('--no-sandbox')
+        wanted = {'browserName': 'chrome', 'goog:chromeOptions': {'binary': shutil.which('chromium'), 'args': options}}
+        self.base += '/' + self.begun({'capabilities': {'alwaysMatch': wanted}})
+
+    def begun(self, wanted):
+        """The session, once the driver listens."""
+        end = time.monotonic() + STARTED_IN
+        while True:
+            try:
+                return self.sent('POST', self.base, wanted)['sessionId']
+            except urllib.error.URLError as fault:
+                if time.monotonic() > end or isinstance(fault, urllib.error.HTTPError):
+                    raise
+                time.sleep(0.1)
+
+    @staticmethod
+    def sent(method, address, given):
+        body = None if given is None else json.dumps(given).encode()
+        request = urllib.request.Request(address, body, {'Content-Type': 'application/json'}, method=method)
+        try:
+            with urllib.request.urlopen(request, timeout=120) as answer:
+                return json.load(answer)['value']
+        except urllib.error.HTTPError as fault:
+            raise RuntimeError(json.load(fault)['value']['message']) from None
+
+    def ask(self, method, path, _, given, **_ignored):
+        return self.sent(method, self.base + '/' + path, given)
+
+    def end(self):
+        with contextlib.suppress(OSError, RuntimeError):
+            self.sent('DELETE', self.base, None)
+        self.driver.terminate()
+        self.driver.wait()
+
+
+class Firefox(Browser):
+    """Firefox, over the socket of Marionette: `LENGTH:[type, number, name, values]`."""
+
+    name = 'Firefox'
+    programs = ('firefox-esr',)
+
+    def __init__(self, room):
+        port = free_port()
+        profile = os.path.join(room, 'profile')
+        os.mkdir(profile)
+        with open(os.path.join(profile, 'user.js'), 'w', encoding='ascii') as settings:
+            settings.write('user_pref("marionette.port", %d);\nuser_pref("app.update.enabled", false);\n'
+                           'user_pref("datareporting.policy.dataSubmissionEnabled", false);\n' % port)
+        self.number = 0
+        self.browser = subprocess.Popen(
+            ['firefox-esr', '--headless', '--marionette', '--no-remote', '--profile', profile, '--width', '1280',
+             '--height', '900'], env=dict(os.environ, HOME=room, MOZ_HEADLESS='1'), stdout=subprocess.DEVNULL,
+            stderr=subprocess.DEVNULL)
+        self.socket = self.connected(port)
+        self.stream = self.socket.makefile('rb')
+        self.message()
+        self.ask(None, None, 'WebDriver:NewSession', {})
+
+    @staticmethod
+    def connected(port):
+        end = time.monotonic() + STARTED_IN
+        while True:
+            try:
+                return socket.create_connection(('127.0.0.1', port), timeout=120)
+            except OSError:
+                if time.monotonic() > end:
+                    raise
+                time.sleep(0.1)
+
+    def message(self):
+        length = b''
+        while not length.endswith(b':'):
+            octet = self.stream.read(1)
+            if not octet:
+                raise RuntimeError('Firefox ended')
+            length += octet
+        return json.loads(self.stream.read(int(length[:-1])))
+
+    def ask(self, _method, _path, name, given, **more):
+        self.number += 1
+        text = json.dumps([0, self.number, name, dict(given or {}, **more)]).encode()
+        self.socket.sendall(b'%d:%s' % (len(text), text))
+        _, _, fault, value = self.message()
+        if fault:
+            raise RuntimeError(fault['message'])
+        return value['value'] if isinstance(value, dict) and set(value) == {'value'} else value
+
+    def end(self):
+        with contextlib.suppress(OSError, RuntimeError):
+            self.ask(None, None, 'Marionette:Quit', {})
+        self.socket.close()
+        self.browser.terminate()
+        self.browser.wait()
+
+
+@contextlib.contextmanager
+def running(kind):
+    """A browser that runs for a while."""
+    with tempfile.TemporaryDirectory(ignore_cleanup_errors=True) as room:
+        browser = kind(room)
+        try:
+            yield browser
+        finally:
+            browser.end()
+
+
+def is_here(kind):
+    return all(map(shutil.which, kind.programs))

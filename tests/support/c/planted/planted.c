@@ -1,0 +1,87 @@
+/* Looks for the planted faults of both ends, each alone, with the same seed.
+ *
+ *     planted                      each fault: its events, the events of its script, its rule and its name; status 1
+ *                                  where one was not found in time
+ *     planted module NAMES WORD..  the words of a tester, of the module with the faults of these names, with `; ` between
+ *                                  them; `none` is the right one
+ *     planted cpu NAMES WORD..     of the CPU's end
+ */
+#include "quirks.h"
+
+#include <stdlib.h>
+#include <string.h>
+
+enum { MOST_NAMES = 8 };
+
+static enum rule found_rule(const struct result *result) {
+    int rule;
+    for (rule = 0; rule < RULES && result->shortest[rule] == 0; rule++) continue;
+    return (enum rule)rule;
+}
+
+/* Looks for a fault. Returns whether it was found in time. */
+static int look(const char *kind, const struct ends *ends, const struct fault *fault) {
+    static struct result result;
+    struct options options;
+    enum rule rule;
+    memset(&options, 0, sizeof options);
+    options.events = fault->within;
+    options.stops = 1;
+    conformance_test(ends, &options, &result, NULL);
+    rule = found_rule(&result);
+    printf("%-6s %7lu %5lu  %-18s %s\n", kind, result.events, rule == RULES ? 0 : (unsigned long)result.shortest[rule],
+           rule == RULES ? "none" : CONFORMANCE_RULE_ROWS[rule].name, fault->name);
+    fflush(stdout);
+    return rule != RULES;
+}
+
+static int look_for_all(void) {
+    struct ends ends;
+    size_t place;
+    int missed = 0;
+    memset(&ends, 0, sizeof ends);
+    for (place = 0; place < MODULE_FAULT_COUNT; place++) {
+        const struct fault *fault = &MODULE_FAULTS[place];
+        ends.module = module_with(&fault, 1);
+        missed += !look("module", &ends, fault);
+    }
+    ends.module = NULL;
+    for (place = 0; place < CPU_FAULT_COUNT; place++) {
+        const struct fault *fault = &CPU_FAULTS[place];
+        ends.cpu = cpu_with(&fault, 1);
+        missed += !look("cpu", &ends, fault);
+    }
+    return missed > 0;
+}
+
+static const struct fault *fault_named(const char *name, const struct fault *faults, size_t count) {
+    size_t place;
+    for (place = 0; place < count; place++) {
+        if (strcmp(faults[place].name, name) == 0) return &faults[place];
+    }
+    fprintf(stderr, "no fault has the name %s\n", name);
+    exit(2);
+}
+
+/* The faults of these names. Returns how many there are. */
+static size_t faults_named(char *names, const struct fault *faults, size_t count, const struct fault **found) {
+    size_t named = 0;
+    while (names != NULL && strcmp(names, "none") != 0 && named < MOST_NAMES) {
+        char *end = strstr(names, "; ");
+        if (end != NULL) *end = '\0';
+        found[named++] = fault_named(names, faults, count);
+        names = end == NULL ? NULL : end + 2;
+    }
+    return named;
+}
+
+int main(int count, char **words) {
+    const struct fault *found[MOST_NAMES];
+    if (count < 3) return look_for_all();
+    if (strcmp(words[1], "module") == 0) {
+        size_t named = faults_named(words[2], MODULE_FAULTS, MODULE_FAULT_COUNT, found);
+        return conformance_main(module_with(found, named), count - 2, words + 2);
+    }
+    return conformance_cpu_main(cpu_with(found, faults_named(words[2], CPU_FAULTS, CPU_FAULT_COUNT, found)), count - 2,
+                                words + 2);
+}

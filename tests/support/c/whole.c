@@ -1,0 +1,247 @@
+/* Whole structs: every field of what the library says of a message of each type, the fields that the type lacks among
+ * them, which are 0. The octets are those of docs/PROTOCOL.md. The last line is `N passed, M failed`. */
+#include "fio2070.h"
+
+#include <stdio.h>
+#include <string.h>
+
+static int passed, failed;
+
+static void check(int holds, const char *what, unsigned place) {
+    if (holds) {
+        passed++;
+    } else {
+        failed++;
+        printf("%s, row %u\n", what, place);
+    }
+}
+
+#define ROWS(table) (sizeof(table) / sizeof(table)[0])
+
+static int same_fault(const struct fio2070_fault *is, const struct fio2070_fault *expected) {
+    return is->kind == expected->kind && is->code == expected->code && is->needed == expected->needed &&
+           is->got == expected->got;
+}
+
+static const struct fio2070_fault no_fault = {0, 0, 0, 0};
+
+/* ---- Commands ---- */
+
+struct command_row {
+    size_t length;
+    const char *octets;
+    uint8_t code, clear, block, timeout, count;
+    uint16_t body;
+    uint32_t load;
+    const char *levels, *controls;
+};
+
+#define ZEROS "\0\0\0\0\0\0\0"
+
+static const struct command_row commands[] = {
+    {2, "\x31\xa5", 49, 0xa5, 0, 0, 0, 0, 0, ZEROS, ZEROS},
+    {5, "\x32\1\2\3\4", 50, 0, 0, 0, 0, 0, 0x01020304, ZEROS, ZEROS},
+    {2, "\x33\0", 51, 0, 0, 0, 0, 0, 0, ZEROS, ZEROS},
+    {8, "\x33\2\x0c\5\3\x83\0\0", 51, 0, 0, 0, 2, 0, 0, ZEROS, ZEROS},
+    {1, "\x34", 52, 0, 0, 0, 0, 0, 0, ZEROS, ZEROS},
+    {1, "\x35", 53, 0, 0, 0, 0, 0, 0, ZEROS, ZEROS},
+    {2, "\x36\5", 54, 0, 5, 0, 0, 0, 0, ZEROS, ZEROS},
+    {17, "\x37\1\2\3\4\5\6\7\x08\x11\x12\x13\x14\x15\x16\x17\x18", 55, 0, 0, 0, 0, 0, 0, "\1\2\3\4\5\6\7\x08",
+     "\x11\x12\x13\x14\x15\x16\x17\x18"},
+    {1, "\x38", 56, 0, 0, 0, 0, 0, 0, ZEROS, ZEROS},
+    {4, "\x38\1\2\3", 56, 0, 0, 0, 0, 3, 0, ZEROS, ZEROS},
+    {2, "\x39\1", 57, 0, 0, 0, 0, 1, 0, ZEROS, ZEROS},
+    {2, "\x3a\xc8", 58, 0, 0, 0xc8, 0, 0, 0, ZEROS, ZEROS},
+    {3, "\x3b\1\2", 59, 0, 0, 0, 0, 2, 0, ZEROS, ZEROS},
+    {1, "\x3c", 60, 0, 0, 0, 0, 0, 0, ZEROS, ZEROS},
+};
+
+static void reads_commands(void) {
+    unsigned place;
+    for (place = 0; place < ROWS(commands); place++) {
+        const struct command_row *row = &commands[place];
+        struct fio2070_command is;
+        struct fio2070_fault fault;
+        memset(&is, 0xa5, sizeof is);
+        fault = fio2070_decode_command((const uint8_t *)row->octets, row->length, &is);
+        check(same_fault(&fault, &no_fault) && is.code == row->code && is.clear == row->clear &&
+                  is.block == row->block && is.timeout == row->timeout && is.count == row->count &&
+                  is.body == row->body && is.load == row->load && memcmp(is.levels, row->levels, 8) == 0 &&
+                  memcmp(is.controls, row->controls, 8) == 0,
+              "commands", place);
+    }
+}
+
+/* ---- Answers ---- */
+
+struct answer_row {
+    size_t length;
+    const char *octets;
+    uint8_t code, flags, receive_errors, transmit_errors, status, block, count;
+    uint16_t body;
+    uint32_t stamp;
+    uint64_t inputs;
+};
+
+#define INPUTS 0x0807060504030201u
+
+static const struct answer_row answers[] = {
+    {8, "\xb1\x80\2\3\1\2\3\4", 177, 0x80, 2, 3, 0, 0, 0, 0, 0x01020304, 0},
+    {2, "\xb2\xfe", 178, 0, 0, 0, 0xfe, 0, 0, 0, 0, 0},
+    {2, "\xb3\1", 179, 0, 0, 0, 1, 0, 0, 0, 0, 0},
+    {13, "\xb4\1\2\3\4\5\6\7\x08\1\2\3\4", 180, 0, 0, 0, 0, 0, 0, 0, 0x01020304, INPUTS},
+    {13, "\xb5\1\2\3\4\5\6\7\x08\1\2\3\4", 181, 0, 0, 0, 0, 0, 0, 0, 0x01020304, INPUTS},
+    {8, "\xb6\5\0\x0f\0\0\3\xe8", 182, 0, 0, 0, 0x0f, 5, 0, 0, 1000, 0},
+    {11, "\xb6\5\1\x8c\3\xe7\2\0\0\3\xe8", 182, 0, 0, 0, 2, 5, 1, 0, 1000, 0},
+    {1, "\xb7", 183, 0, 0, 0, 0, 0, 0, 0, 0, 0},
+    {6, "\xb7\0\0\0\0\5", 183, 0, 0, 0, 0, 0, 0, 5, 0, 0},
+    {3, "\xb8\1\2", 184, 0, 0, 0, 0, 0, 0, 2, 0, 0},
+    {2, "\xb9\1", 185, 0, 0, 0, 0, 0, 0, 1, 0, 0},
+    {2, "\xba\1", 186, 0, 0, 0, 1, 0, 0, 0, 0, 0},
+    {4, "\xbb\1\2\3", 187, 0, 0, 0, 0, 0, 0, 3, 0, 0},
+    {2, "\xbc\2", 188, 0, 0, 0, 0, 0, 0, 1, 0, 0},
+};
+
+static void reads_answers(void) {
+    unsigned place;
+    for (place = 0; place < ROWS(answers); place++) {
+        const struct answer_row *row = &answers[place];
+        struct fio2070_answer is;
+        struct fio2070_fault fault;
+        memset(&is, 0xa5, sizeof is);
+        fault = fio2070_decode_answer((const uint8_t *)row->octets, row->length, &is);
+        check(same_fault(&fault, &no_fault) && is.code == row->code && is.flags == row->flags &&
+                  is.receive_errors == row->receive_errors && is.transmit_errors == row->transmit_errors &&
+                  is.status == row->status && is.block == row->block && is.count == row->count &&
+                  is.body == row->body && is.stamp == row->stamp && is.inputs == row->inputs,
+              "answers", place);
+    }
+}
+
+/* Each answer that is a type and a body is written as it is read. */
+static void writes_bodies(void) {
+    uint8_t out[FIO2070_LONGEST_FRAME];
+    unsigned place;
+    for (place = 0; place < ROWS(answers); place++) {
+        const struct answer_row *row = &answers[place];
+        const uint8_t *octets = (const uint8_t *)row->octets;
+        int is_body = row->code >= 183 && row->code != 186;
+        size_t length = is_body ? row->length : 0;
+        check(fio2070_encode_other_answer(row->code, octets + 1, row->length - 1, out, sizeof out) == length &&
+                  memcmp(out, octets, length) == 0,
+              "answers with a body", place);
+    }
+}
+
+/* ---- What a poller hears ---- */
+
+struct heard_row {
+    size_t length;
+    const char *octets;
+    uint8_t kind, code, number, status, entries;
+    uint16_t items;
+    struct fio2070_fault fault;
+    uint8_t next;
+};
+
+/* The present number is 5, and there is room for two items. */
+static const struct heard_row heard[] = {
+    {8, "\xb6\5\0\x0b\0\0\3\xe8", FIO2070_TAKEN, 0, 0, 0x0b, 0, 0, {0, 0, 0, 0}, 6},
+    {11, "\xb6\5\1\x8c\3\xe7\x0c\0\0\3\xe8", FIO2070_TAKEN, 0, 0, 0x0c, 1, 2, {0, 0, 0, 0}, 6},
+    {14, "\xb6\5\2\x8c\3\xe7\x0d\3\xe8\4\0\0\3\xe8", FIO2070_NO_ROOM, 0, 0, 0, 0, 3, {0, 0, 0, 0}, 5},
+    {8, "\xb6\4\0\x0f\0\0\3\xe8", FIO2070_STALE, 0, 4, 0, 0, 0, {0, 0, 0, 0}, 5},
+    {11, "\xb6\7\1\x8c\3\xe7\x0f\0\0\3\xe8", FIO2070_STALE, 0, 7, 0, 0, 0, {0, 0, 0, 0}, 5},
+    {0, "", FIO2070_UNREADABLE, 0, 0, 0, 0, 0, {FIO2070_EMPTY, 0, 0, 0}, 5},
+    {2, "\x36\5", FIO2070_UNREADABLE, 0, 0, 0, 0, 0, {FIO2070_UNKNOWN_TYPE, 54, 0, 0}, 5},
+    {9, "\xb6\5\1\x8c\3\xe7\0\0\0", FIO2070_UNREADABLE, 0, 0, 0, 0, 0, {FIO2070_WRONG_LENGTH, 0, 11, 9}, 5},
+    {8, "\xb1\x80\2\3\1\2\3\4", FIO2070_OTHER, 177, 0, 0, 0, 0, {0, 0, 0, 0}, 5},
+    {2, "\xb2\xfe", FIO2070_OTHER, 178, 0, 0, 0, 0, {0, 0, 0, 0}, 5},
+    {2, "\xb3\1", FIO2070_OTHER, 179, 0, 0, 0, 0, {0, 0, 0, 0}, 5},
+    {13, "\xb4\1\2\3\4\5\6\7\x08\1\2\3\4", FIO2070_OTHER, 180, 0, 0, 0, 0, {0, 0, 0, 0}, 5},
+    {13, "\xb5\1\2\3\4\5\6\7\x08\1\2\3\4", FIO2070_OTHER, 181, 0, 0, 0, 0, {0, 0, 0, 0}, 5},
+    {6, "\xb7\0\0\0\0\5", FIO2070_OTHER, 183, 0, 0, 0, 0, {0, 0, 0, 0}, 5},
+    {3, "\xb8\1\2", FIO2070_OTHER, 184, 0, 0, 0, 0, {0, 0, 0, 0}, 5},
+    {2, "\xb9\1", FIO2070_OTHER, 185, 0, 0, 0, 0, {0, 0, 0, 0}, 5},
+    {2, "\xba\1", FIO2070_OTHER, 186, 0, 0, 0, 0, {0, 0, 0, 0}, 5},
+    {4, "\xbb\1\2\3", FIO2070_OTHER, 187, 0, 0, 0, 0, {0, 0, 0, 0}, 5},
+    {2, "\xbc\2", FIO2070_OTHER, 188, 0, 0, 0, 0, {0, 0, 0, 0}, 5},
+};
+
+static void hears(void) {
+    unsigned place;
+    for (place = 0; place < ROWS(heard); place++) {
+        const struct heard_row *row = &heard[place];
+        struct fio2070_poller poller = {5};
+        struct fio2070_record_item items[2] = {{9, 9, 9, 9, 9}, {9, 9, 9, 9, 9}};
+        struct fio2070_heard is =
+            fio2070_poller_hear(&poller, (const uint8_t *)row->octets, row->length, items, 2);
+        check(is.kind == row->kind && is.code == row->code && is.number == row->number && is.status == row->status &&
+                  is.entries == row->entries && is.items == row->items && same_fault(&is.fault, &row->fault) &&
+                  poller.number == row->next,
+              "heard", place);
+    }
+}
+
+/* A block with F set adds a gap mark, whose other fields are 0, and then its entry. */
+static void records(void) {
+    struct fio2070_poller poller = {5};
+    struct fio2070_record_item items[2] = {{9, 9, 9, 9, 9}, {9, 9, 9, 9, 9}};
+    const uint8_t octets[] = {0xb6, 5, 1, 0x8c, 3, 0xe9, 4, 0, 2, 3, 0xe8};
+    check(fio2070_poller_hear(&poller, octets, sizeof octets, items, 2).items == 2, "items", 0);
+    check(items[0].gap == 1 && items[0].input == 0 && items[0].state == 0 && items[0].stamp == 0 && items[0].wide == 0,
+          "items", 1);
+    check(items[1].gap == 0 && items[1].input == 12 && items[1].state == 1 && items[1].stamp == 0x3e9 &&
+              items[1].wide == 0x103e9,
+          "items", 2);
+}
+
+/* ---- Faults ---- */
+
+struct words_row {
+    struct fio2070_fault fault;
+    const char *words;
+};
+
+/* The numbers that a kind does not have say nothing. */
+static const struct words_row words[] = {
+    {{FIO2070_NO_FAULT, 0, 0, 0}, ""},
+    {{FIO2070_NO_FAULT, 48, 14, 11}, ""},
+    {{FIO2070_EMPTY, 0, 0, 0}, "empty"},
+    {{FIO2070_EMPTY, 48, 14, 11}, "empty"},
+    {{FIO2070_TOO_LONG, 0, 0, 774}, "too long got 774"},
+    {{FIO2070_TOO_LONG, 48, 14, 11}, "too long got 11"},
+    {{FIO2070_UNKNOWN_TYPE, 48, 0, 0}, "unknown type 48"},
+    {{FIO2070_UNKNOWN_TYPE, 48, 14, 11}, "unknown type 48"},
+    {{FIO2070_WRONG_LENGTH, 0, 14, 11}, "wrong length needed 14 got 11"},
+    {{FIO2070_WRONG_LENGTH, 48, 14, 11}, "wrong length needed 14 got 11"},
+    {{FIO2070_WRONG_LENGTH, 0, 65535, 4294967295u}, "wrong length needed 65535 got 4294967295"},
+    {{5, 0, 0, 0}, ""},
+    {{5, 48, 14, 11}, ""},
+    {{255, 48, 14, 11}, ""},
+};
+
+static void says_faults(void) {
+    unsigned place;
+    for (place = 0; place < ROWS(words); place++) {
+        const struct words_row *row = &words[place];
+        uint8_t out[FIO2070_LONGEST_FAULT_TEXT + 1];
+        size_t count, length = strlen(row->words);
+        memset(out, '?', sizeof out);
+        count = fio2070_fault_text(&row->fault, out, sizeof out);
+        check(count == length && memcmp(out, row->words, length) == 0 && out[length] == '?' &&
+                  (length == 0 || fio2070_fault_text(&row->fault, out, length - 1) == 0),
+              "words", place);
+    }
+}
+
+int main(void) {
+    check(fio2070_version() == FIO2070_VERSION, "version", 0);
+    reads_commands();
+    reads_answers();
+    writes_bodies();
+    hears();
+    records();
+    says_faults();
+    printf("%d passed, %d failed\n", passed, failed);
+    return failed != 0;
+}

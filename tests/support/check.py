@@ -1,0 +1,79 @@
+"""The counting of rows, for the checks in tests/. Each row has a name; one that fails prints it, with what was expected
+and what came instead. The last line of a check is `N passed, M failed`, and its status is 0 where no row failed. With
+`-k WORD` it has only those rows whose name has the word in it."""
+
+import argparse
+import sys
+
+# The most characters of a text that a failing row prints.
+SHOWN = 600
+
+
+def first_difference(one, other):
+    """The index of the first character at which two texts differ."""
+    return next((place for place, (a, b) in enumerate(zip(one, other)) if a != b), min(len(one), len(other)))
+
+
+def shown(value, place=0):
+    """A value as a failing row prints it: a long text is cut around an index."""
+    if not isinstance(value, str):
+        value = repr(value)
+    start = max(0, place - SHOWN // 2) if len(value) > SHOWN else 0
+    cut = value[start:start + SHOWN]
+    return ('.. ' if start else '') + cut.rstrip('\n') + (' ..' if start + SHOWN < len(value) else '')
+
+
+class Check:
+    """Counts the rows of a check that hold, and prints those that fail."""
+
+    def __init__(self, **settings):
+        """Reads the command line: `-k WORD`, and what the check takes beside it. A setting with a number is a word that
+        may be given, in order; one that is `False` is an option, as `--counts`."""
+        # The description is the check's own.
+        parser = argparse.ArgumentParser(description=sys.modules['__main__'].__doc__)
+        parser.add_argument('-k', metavar='WORD', default='', help='only the rows whose name has WORD in it')
+        for name, value in settings.items():
+            if value is False:
+                parser.add_argument('--' + name, action='store_true')
+            else:
+                parser.add_argument(name, nargs='?', type=type(value), default=value)
+        self.given = parser.parse_args()
+        self.passed = self.failed = self.skipped = 0
+
+    def wants(self, name):
+        """Whether a row of this name is asked for."""
+        return self.given.k in name
+
+    def equal(self, name, expected, got):
+        """A row: what came is what was expected."""
+        if not self.wants(name):
+            return
+        if got == expected:
+            self.passed += 1
+            return
+        self.failed += 1
+        both = isinstance(got, str) and isinstance(expected, str)
+        place = first_difference(expected, got) if both else 0
+        print('FAILED %s\n  expected: %s\n  got: %s' % (name, shown(expected, place), shown(got, place)))
+
+    def holds(self, name, condition, got=''):
+        """A row: the condition, which its name says, holds. What was seen is printed where it does not."""
+        self.equal(name, True, True if condition else got or False)
+
+    def fault(self, name, find, *given):
+        """A row: a function of what is given finds no fault. It is called only where the row is asked for."""
+        if self.wants(name):
+            self.equal(name, None, find(*given) or None)
+
+    def skip(self, name, why):
+        """Rows that cannot be run here. `./test` lists them at its end."""
+        if self.wants(name):
+            self.skipped += 1
+            print('skipped: %s: %s' % (name, why))
+
+    def end(self):
+        """Prints the last line, and ends."""
+        if not (self.passed or self.failed or self.skipped):
+            print('no row has %r in its name' % self.given.k if self.given.k else 'no row was run')
+        print('%d passed, %d failed' % (self.passed, self.failed))
+        sys.exit(0 if self.failed == 0 and (self.passed or self.skipped) else 1)

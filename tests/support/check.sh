@@ -1,0 +1,101 @@
+# The counting of rows, for the checks in tests/ that are shell scripts; check.py is the same for Python. A check reads
+# this file with its own words, begins in the folder $room, which is removed in the end, and closes with `end`. With
+# `-k WORD` it has only those rows whose name has the word in it.
+
+top=$(dirname -- "$(dirname -- "$(readlink -f -- "$0")")")
+room=$(mktemp -d) || exit 1
+trap 'rm -rf "$room"' EXIT
+cd "$room" || exit 1
+passed=0
+failed=0
+skipped=0
+word=
+if [ "$1" = -k ] && [ $# -eq 2 ]; then
+    word=$2
+elif [ $# -gt 0 ]; then
+    echo "Usage: $(basename -- "$0") [-k WORD]" >&2
+    exit 2
+fi
+
+# wants NAME: a row of this name is asked for.
+wants() {
+    case $1 in
+    *"$word"*) return 0 ;;
+    *) return 1 ;;
+    esac
+}
+
+# judge NAME STATUS EXPECTED GOT: a row that holds where the status is 0; else it prints what was expected and what came.
+judge() {
+    wants "$1" || return 0
+    if [ "$2" -eq 0 ]; then
+        passed=$((passed + 1))
+    else
+        failed=$((failed + 1))
+        printf 'FAILED %s\n  expected: %.600s\n  got: %.600s\n' "$1" "$3" "$4"
+    fi
+}
+
+# equal NAME EXPECTED GOT: a row: what came is what was expected.
+equal() {
+    if [ "$2" = "$3" ]; then judge "$1" 0; else judge "$1" 1 "$2" "$3"; fi
+}
+
+# first NAME COMMAND..: a row: the command succeeds. It is run whatever rows are asked for, since others need it.
+first() {
+    name=$1
+    shift
+    if "$@" >"$room/log" 2>&1; then
+        judge "$name" 0
+    else
+        judge "$name" 1 'status 0' "status $? of: $*
+$(tail -n 20 "$room/log")"
+    fi
+}
+
+# holds NAME COMMAND..: a row: the command succeeds.
+holds() {
+    if wants "$1"; then first "$@"; fi
+}
+
+# tally NAME FILE: the rows that a program counted itself, in a text whose last line is `N passed, M failed`.
+tally() {
+    wants "$1" || return 0
+    sum=$(tail -n 1 "$2" | sed -n 's/^\([0-9][0-9]*\) passed, \([0-9][0-9]*\) failed$/\1 \2/p')
+    if [ -z "$sum" ] || [ "${sum#* }" != 0 ]; then
+        printf 'FAILED %s\n%s\n' "$1" "$(head -n 20 "$2")"
+    fi
+    [ -n "$sum" ] || sum='0 1'
+    passed=$((passed + ${sum% *}))
+    failed=$((failed + ${sum#* }))
+}
+
+# counts NAME COMMAND..: the rows that a program counts itself, as for `tally`.
+counts() {
+    wants "$1" || return 0
+    name=$1
+    shift
+    "$@" >"$room/log" 2>&1
+    tally "$name" "$room/log"
+}
+
+# skip NAME WHY: rows that cannot be run here. `./test` lists them at its end.
+skip() {
+    wants "$1" || return 0
+    skipped=$((skipped + 1))
+    echo "skipped: $1: $2"
+}
+
+# has_command NAME: the command is there.
+has_command() { [ -n "$(command -v "$1")" ]; }
+
+# Runs make at the top with these targets and settings, without those of a make that runs the check.
+run_make() { env -u MAKEFLAGS -u MAKELEVEL -u PREFIX -u DESTDIR make -s -C "$top" "$@"; }
+
+# Prints the last line, and ends.
+end() {
+    if [ $((passed + failed + skipped)) -eq 0 ]; then echo "no row has '$word' in its name"; fi
+    echo "$passed passed, $failed failed"
+    [ "$failed" -eq 0 ] && [ $((passed + skipped)) -gt 0 ]
+    exit
+}

@@ -1,0 +1,37 @@
+"""Runs `fiolog` of the repository with the library at its top, or with the one that FIO2070_LIBRARY names."""
+
+import os
+import subprocess
+import sys
+from typing import NamedTuple, Union
+
+from support.tables import TOP
+
+PACKAGES = os.path.join(TOP, 'bindings', 'python')
+LIBRARY = os.environ.get('FIO2070_LIBRARY') or os.path.join(TOP, 'libfio2070.so')
+ENVIRONMENT = {**os.environ, 'FIO2070_LIBRARY': LIBRARY, 'PYTHONPATH': PACKAGES, 'PYTHONDONTWRITEBYTECODE': '1'}
+
+
+class Done(NamedTuple):
+    """What a run wrote, and its status."""
+    out: Union[str, bytes]
+    err: str
+    status: int
+
+
+def has_library():
+    """Whether the library is there."""
+    return os.path.exists(LIBRARY)
+
+
+def use_library():
+    """Lets this process import the packages."""
+    os.environ['FIO2070_LIBRARY'] = LIBRARY
+    sys.path.insert(0, PACKAGES)
+
+
+def fiolog(*words, text='', is_text=True):
+    """A run of the tool with this input."""
+    done = subprocess.run([sys.executable, '-m', 'fiolog', *words], input=text.encode('utf-8'), stdout=subprocess.PIPE,
+                          stderr=subprocess.PIPE, env=ENVIRONMENT, timeout=300)
+    return Done(done.stdout.decode() if is_text else done.stdout, done.stderr.decode(), done.returncode)

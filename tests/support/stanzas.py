@@ -1,0 +1,87 @@
+"""Wrong bodies and wrong statements, as they are written: in `wrong-bodies/CRATE.edits`, in stanzas with a blank line
+between them, and in `crates/CRATE/must-fail/*.edit`, one a file.
+
+    # plain name
+    file: src/poller.rt
+    old: a text that stands once in that file
+    new: the text that takes its place
+    refused-by: Poller::hear_block, taken
+
+Lines `old:` or `new:` that follow one another are one text of several lines. Lines `control:` have the new text of the
+right statement beside a wrong one."""
+
+import glob
+import os
+
+from support.functions import TOP
+
+
+class Stanza:
+    """A wrong body or a wrong statement: its crate, its name, what it changes, and what refuses it."""
+
+    def __init__(self, crate, path, name, lines):
+        self.crate, self.path, self.name, self.lines = crate, path, name, lines
+        self.changes, self.refused_by = [], None
+        file, word = None, None
+        for line in lines:
+            before, (word, _, rest) = word, line.partition(':')
+            rest = rest[1:]
+            if word == 'file':
+                file = rest
+            elif word == 'refused-by':
+                self.refused_by = rest
+            elif word in ('old', 'new', 'control'):
+                place = ('old', 'new', 'control').index(word)
+                if word == 'old' and before != 'old':
+                    self.changes.append([file, None, None, None])
+                texts = self.changes[-1]
+                texts[place + 1] = rest if texts[place + 1] is None else texts[place + 1] + '\n' + rest
+
+    def files(self):
+        """The files that it changes, below its crate."""
+        return sorted({file for file, _, _, _ in self.changes})
+
+    def has_control(self):
+        return any(control is not None for _, _, _, control in self.changes)
+
+    def apply(self, texts, is_control=False):
+        """The texts of files with each change made, by their paths below the crate, or None where one does not fit."""
+        texts = dict(texts)
+        for file, old, new, control in self.changes:
+            if new is None or file not in texts or texts[file].count(old) != 1:
+                return None
+            texts[file] = texts[file].replace(old, control if is_control and control is not None else new)
+        return texts if self.changes else None
+
+
+def texts_of(crate, files):
+    """What files of a crate hold, by their paths below it."""
+    texts = {}
+    for name in files:
+        path = os.path.join(TOP, 'crates', crate, name)
+        if os.path.exists(path):
+            with open(path, encoding='utf-8') as file:
+                texts[name] = file.read()
+    return texts
+
+
+def stanzas_of(crate):
+    """The stanzas of a crate, those of `must-fail/` first."""
+    for path in sorted(glob.glob(os.path.join(TOP, 'crates', crate, 'must-fail', '*.edit'))):
+        with open(path, encoding='utf-8') as file:
+            name = os.path.basename(path)[:-len('.edit')].replace('-', ' ')
+            yield Stanza(crate, path, name, file.read().splitlines())
+    path = os.path.join(TOP, 'wrong-bodies', crate + '.edits')
+    if os.path.exists(path):
+        with open(path, encoding='utf-8') as file:
+            for block in file.read().strip('\n').split('\n\n'):
+                head, *lines = block.split('\n')
+                yield Stanza(crate, path, head[len('# '):], lines)
+
+
+def crates_with_stanzas():
+    """The crates that have stanzas, as `crates.txt` orders them."""
+    with open(os.path.join(TOP, 'crates.txt'), encoding='utf-8') as file:
+        names = [line.split(':')[0].split()[0] for line in file if line.strip() and not line.startswith('#')]
+    return [name for name in names if os.path.exists(os.path.join(TOP, 'wrong-bodies', name + '.edits'))
+            or glob.glob(os.path.join(TOP, 'crates', name, 'must-fail', '*.edit'))]

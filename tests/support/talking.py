@@ -1,0 +1,45 @@
+"""The proved module and the proved poller, which talk: `talking.py` writes what the CPU's end sends and hears."""
+
+import os
+import sys
+
+sys.path.insert(0, os.path.dirname(os.path.dirname(os.path.realpath(__file__))))
+
+from support.frames import frame_check
+
+ALL_ONES = 2 ** 64 - 1
+LOSSES = 5      # every so many answers one is lost
+
+
+def rounds(count):
+    """What is sent and heard in so many rounds, after a configuration of input 0."""
+    import fio2070
+    from fio2070 import ConfigurationItem, encode
+    module, poller = fio2070.Module(), fio2070.Poller(255)
+    configuration = encode.configure_inputs([ConfigurationItem(0, False, 1, 1)])
+    yield '>', configuration
+    yield '<', module.receive(configuration)
+    for number in range(count):
+        module.scan(ALL_ONES - number % 2)
+        poll = poller.poll()
+        answer = module.receive(poll)
+        yield '>', poll
+        if number % LOSSES:
+            poller.hear(answer)
+            yield '<', answer
+
+
+def stuffed(octets):
+    """A frame with address, control and frame check, stuffed and between flags."""
+    frame = b'\x14\x83' + octets
+    frame += frame_check(frame)
+    return b'\x7e' + frame.replace(b'\x7d', b'\x7d\x5d').replace(b'\x7e', b'\x7d\x5e') + b'\x7e'
+
+
+def main():
+    for direction, octets in rounds(40):
+        print(direction, octets.hex(), flush=True)
+
+
+if __name__ == '__main__':
+    main()

@@ -1,0 +1,74 @@
+"""What the prover said of functions: which it refuses, and by which clauses."""
+
+import re
+
+NOTE = re.compile(r'note: \S+:\d+:\d+: (.*?) \(`(\S+)`\)')
+IN_PROOF = re.compile(r'(?:\./)?proofs/(\S+)/(?:Answers|Invariants|Proof)\.antt:\d+:\d+: error: (.*)')
+VERDICT = re.compile(r'fn (\S+): (.*)')
+LOST_NAME = re.compile(r'is not in scope|has no field|is no name|has no `|operand is missing|expected the end')
+
+
+# The goals that are no clause of the function itself, by how their names go, and what the lines say of them.
+OTHERS = [(re.compile(form), words) for form, words in (
+    (r'invariant_of-', 'invariant of the type'),
+    (r'overflow_', 'no overflow'),
+    (r'slice_bounds-|index_bounds-', 'within bounds'),
+    (r'(\w+)-requires', r'requires of \1'),
+    (r'.*-smaller', 'end of the loop'),
+    (r'.*-(?:init|preserved)', 'invariant of the loop'))]
+
+
+def clause_of(goal):
+    """A goal in the words of the lines `refused-by:`."""
+    if goal.startswith('returns'):
+        return goal.partition('clause-')[2] or 'its clause'
+    for form, words in OTHERS:
+        found = form.match(goal)
+        if found:
+            return found.expand(words)
+    return goal
+
+
+def short_name(name):
+    """The name of a function that the prover writes in whole: without modules, and with `law` where it is one."""
+    parts = name.split('::')
+    if 'laws' in parts[:-1]:
+        return 'law ' + parts[-1]
+    return '::'.join(parts[next((place for place, part in enumerate(parts) if part[:1].isupper()), -1):])
+
+
+def goals_in(said):
+    """The goals that an error in a proof names: the one that it is of, and those that depend on what it refuses. Where a
+    proof only names what a change took away, no goal was tried."""
+    if LOST_NAME.search(said):
+        return []
+    left = re.search(r'(?:was|were) not checked: (.*)', said)
+    if left:
+        return [one.split(' (via ')[0] for one in left[1].split(', ')]
+    return re.findall(r'^`([^`]+)`', said)
+
+
+def refusals(said):
+    """The clauses by which each function is refused, by its whole name: none where no clause was tried. A function that
+    is refused since it calls one that is not proved is left out."""
+    refused, noted, in_proofs = {}, [], {}
+    for line in said.splitlines():
+        note, proof, verdict = NOTE.match(line), IN_PROOF.match(line), VERDICT.match(line)
+        if note:
+            noted.append(note[2])
+        elif proof:
+            in_proofs.setdefault(proof[1].replace('/', '::'), []).extend(goals_in(proof[2]))
+        elif verdict:
+            goals = noted + in_proofs.get(verdict[1].partition('::')[2], [])
+            noted = []
+            if re.match(r'not proved|no proof(?!: it calls)', verdict[2]):
+                refused[verdict[1]] = sorted({clause_of(goal) for goal in goals})
+    return refused
+
+
+def unread(said):
+    """Why a check tried no contract: the line by which the prover does not read what was changed, or None."""
+    for line in said.splitlines():
+        if re.match(r'(?:\./)?(?:src|specs)/\S+:\d+:\d+: error', line) or line.startswith(('error', 'rattle: error')):
+            return 'it is not read: ' + line[:200]
+    return None if VERDICT.search(said) else 'no verdict'

@@ -1,0 +1,48 @@
+#!/usr/bin/env python3
+"""Each wrong body still fits the code: the text that it changes stands in its file exactly once; it has a name of its
+own, and says what refuses it, as the tables of docs/PROMISES.md do. That the prover does is tried by
+`wrong-bodies/try`. Last line: `N passed, M failed`."""
+
+import os
+import re
+import sys
+
+sys.dont_write_bytecode = True
+
+from support.check import Check
+from support.functions import TOP
+from support.stanzas import crates_with_stanzas, stanzas_of, texts_of
+
+
+def fault_of(stanza, names):
+    """What is wrong with a stanza, or None."""
+    if stanza.apply(texts_of(stanza.crate, stanza.files())) is None:
+        return 'what it changes does not stand once in its file'
+    if names.count(stanza.name) > 1:
+        return 'its name stands twice'
+    return None if stanza.refused_by else 'it has no line `refused-by:`'
+
+
+def rows_shown():
+    """The rows of the page's tables of wrong bodies: name, and what refuses it."""
+    with open(os.path.join(TOP, 'docs', 'PROMISES.md'), encoding='utf-8') as page:
+        for table in page.read().split('| Wrong body | Refused by |\n|---|---|\n')[1:]:
+            yield from re.findall(r'^\| (.*) \| `(.*)` \|$', table.split('\n\n')[0], re.M)
+
+
+def main():
+    check = Check()
+    lines = {}
+    for crate in crates_with_stanzas():
+        stanzas = list(stanzas_of(crate))
+        names = [stanza.name for stanza in stanzas]
+        for stanza in stanzas:
+            check.fault('%s: %s' % (crate, stanza.name), fault_of, stanza, names)
+            lines.setdefault(stanza.name, []).append(stanza.refused_by)
+    for name, refused_by in rows_shown():
+        check.holds('PROMISES: ' + name, refused_by in lines.get(name, []), 'refused by %s' % lines.get(name))
+    check.end()
+
+
+if __name__ == '__main__':
+    main()

@@ -1,0 +1,112 @@
+/* Runs scripts in new processes, in which the end under test has never run before. One process is forked at the begin,
+ * and waits; for each script it forks another. The script is passed in a file, whose place they share. */
+#define _POSIX_C_SOURCE 200809L
+#include "conformance_fresh.h"
+
+#include <string.h>
+#include <sys/wait.h>
+#include <unistd.h>
+
+/* What is asked for, beside the script. */
+struct request {
+    struct rule_set masked, left_out;
+};
+
+/* Whether all octets were written, or read. A pipe may take, or give, a part. */
+static int writes(int file, const void *octets, size_t length) {
+    const char *from = (const char *)octets;
+    while (length > 0) {
+        ssize_t count = write(file, from, length);
+        if (count <= 0) return 0;
+        from += count;
+        length -= (size_t)count;
+    }
+    return 1;
+}
+
+static int reads(int file, void *octets, size_t length) {
+    char *to = (char *)octets;
+    while (length > 0) {
+        ssize_t count = read(file, to, length);
+        if (count <= 0) return 0;
+        to += count;
+        length -= (size_t)count;
+    }
+    return 1;
+}
+
+/* In the last process: reads the script, and writes the event's number and the difference. */
+static void answer(const struct fresh *fresh, const struct ends *given, const struct request *request) {
+    static struct script script;
+    static struct difference difference;
+    struct ends ends = *given;
+    size_t event = 0;
+    ends.masked = request->masked;
+    ends.left_out = request->left_out;
+    rewind(fresh->text);
+    if (conformance_read(&script, fresh->text) == 0) event = conformance_compare(&ends, &script, &difference);
+    if (!writes(fresh->from, &event, sizeof event) || !writes(fresh->from, &difference, sizeof difference)) _exit(1);
+    _exit(0);
+}
+
+/* In the process that waits. */
+static void wait_for_scripts(const struct fresh *fresh, const struct ends *ends) {
+    struct request request;
+    while (reads(fresh->to, &request, sizeof request)) {
+        pid_t process = fork();
+        if (process == 0) answer(fresh, ends, &request);
+        if (process < 0) _exit(1);
+        waitpid(process, NULL, 0);
+    }
+    _exit(0);
+}
+
+void conformance_fresh_begin(struct fresh *fresh, const struct ends *ends) {
+    int to[2], from[2];
+    memset(fresh, 0, sizeof *fresh);
+    fresh->text = tmpfile();
+    if (fresh->text == NULL || pipe(to) != 0 || pipe(from) != 0) return;
+    fresh->process = fork();
+    if (fresh->process == 0) {
+        close(to[1]);
+        close(from[0]);
+        fresh->to = to[0];
+        fresh->from = from[1];
+        wait_for_scripts(fresh, ends);
+    }
+    close(to[0]);
+    close(from[1]);
+    fresh->to = to[1];
+    fresh->from = from[0];
+    fresh->is_there = fresh->process > 0;
+}
+
+void conformance_fresh_end(struct fresh *fresh) {
+    if (fresh->text != NULL) fclose(fresh->text);
+    if (!fresh->is_there) return;
+    close(fresh->to);
+    close(fresh->from);
+    waitpid((pid_t)fresh->process, NULL, 0);
+    fresh->is_there = 0;
+}
+
+size_t conformance_fresh_compare(struct fresh *fresh, const struct ends *ends, const struct script *script,
+                                 struct difference *difference) {
+    struct request request;
+    size_t event = 0;
+    memset(difference, 0, sizeof *difference);
+    if (!fresh->is_there) return 0;
+    rewind(fresh->text);
+    if (ftruncate(fileno(fresh->text), 0) != 0) return 0;
+    conformance_write(script, fresh->text);
+    fflush(fresh->text);
+    memset(&request, 0, sizeof request);
+    request.masked = ends->masked;
+    request.left_out = ends->left_out;
+    if (!writes(fresh->to, &request, sizeof request) || !reads(fresh->from, &event, sizeof event) ||
+        !reads(fresh->from, difference, sizeof *difference)) {
+        fresh->is_there = 0;
+        return 0;
+    }
+    return event;
+}

@@ -1,0 +1,175 @@
+/* The rule of docs/PROTOCOL.md that a difference is about. A script that was shrunk has nothing that its difference
+ * does not need, so the rules that it exercises say what that is. */
+#include "conformance_link.h"
+
+#include <string.h>
+
+/* What a script did before its difference, and the rule that explains one in these fields. Of several the first is
+ * named. */
+struct suspect {
+    enum rule done, rule;
+    uint32_t fields;
+};
+
+#define ANY UINT32_MAX
+#define STATES \
+    (FIELD_BIT(INPUTS) | FIELD_BIT(COUNT) | FIELD_BIT(ENTRY) | FIELD_BIT(MORE) | FIELD_BIT(LOST) | FIELD_BIT(REPEAT))
+#define TIMES (FIELD_BIT(STAMP) | FIELD_BIT(BLOCK_STAMP) | FIELD_BIT(ENTRY))
+#define ORDER (FIELD_BIT(SEQUENCE) | FIELD_BIT(AGAIN))
+#define HIDDEN (FIELD_BIT(OUTPUTS) | FIELD_BIT(TIMEOUT))
+#define SUSPECT(rule, fields) {RULE_##rule, RULE_##rule, fields}
+
+/* What must change nothing, or make all as it was. */
+static const struct suspect STRANGERS[] = {
+    SUSPECT(EMPTY_FRAME, ANY),
+    SUSPECT(FRAME_TOO_LONG, ANY),
+    SUSPECT(UNKNOWN_TYPE, ANY),
+    SUSPECT(WRONG_LENGTH, ANY),
+    SUSPECT(NO_ANSWER, ANY),
+    SUSPECT(RESTART_LOAD, TIMES),
+    SUSPECT(RESTART_LOSES, STATES),
+    SUSPECT(RESTART_POLL, ORDER | FIELD_BIT(COUNT) | FIELD_BIT(REPEAT)),
+    SUSPECT(RESTART, ANY),
+    SUSPECT(ABSENT_INPUT, STATES),
+    SUSPECT(FLAGS_CLEARED, STATES | TIMES | ORDER),
+    SUSPECT(INPUTS_ANSWER, STATES | TIMES | ORDER),
+    SUSPECT(OUTPUTS_ANSWER, STATES | TIMES | ORDER),
+    SUSPECT(WATCHDOG_TIMEOUT, STATES | TIMES | ORDER),
+    SUSPECT(IDENTIFICATION, STATES | TIMES | ORDER)};
+
+/* What changes something, the rarest first. */
+static const struct suspect STEPS[] = {
+    SUSPECT(COUNTER_AROUND, TIMES),
+    SUSPECT(LATER_LOAD, TIMES),
+    SUSPECT(LOAD_AT_SYNC, TIMES),
+    SUSPECT(SYNC_ALONE, TIMES),
+    {RULE_LOAD_ANSWER, RULE_LOAD_AT_SYNC, TIMES},
+    SUSPECT(SAMPLES_ANEW, STATES),
+    SUSPECT(LAST_ITEM_HOLDS, STATES),
+    SUSPECT(FILTER_OF_ZERO, STATES),
+    SUSPECT(PUSHED_OUT, STATES),
+    SUSPECT(MOST_WAITING, STATES),
+    SUSPECT(IGNORED_INPUT, STATES),
+    SUSPECT(FILTERS_AT_START, STATES),
+    SUSPECT(BLOCK_SIZE, FIELD_BIT(COUNT) | FIELD_BIT(MORE)),
+    SUSPECT(ENTRY_ORDER, FIELD_BIT(ENTRY)),
+    {RULE_SENT_AGAIN, RULE_REPEAT, STATES | ORDER},
+    SUSPECT(TRAILING_FILTER, FIELD_BIT(COUNT) | FIELD_BIT(INPUTS)),
+    SUSPECT(LEADING_FILTER, FIELD_BIT(COUNT) | FIELD_BIT(INPUTS)),
+    SUSPECT(ENTRY, FIELD_BIT(ENTRY)),
+    {RULE_COUNTER_STEP, RULE_LEADING_FILTER, FIELD_BIT(COUNT)},
+    SUSPECT(COUNTER_STEP, FIELD_BIT(STAMP)),
+    SUSPECT(COUNTER_AT_START, FIELD_BIT(STAMP))};
+
+static enum rule first_suspect(const struct suspect *suspects, size_t count, uint32_t fields,
+                               const struct rule_set *exercised) {
+    size_t row;
+    for (row = 0; row < count; row++) {
+        if (conformance_has(exercised, suspects[row].done) && (fields & suspects[row].fields)) return suspects[row].rule;
+    }
+    return RULES;
+}
+
+/* The rule of an answer to a command, where nothing before it is suspect. */
+static enum rule rule_of_command(uint8_t code, uint32_t fields, const struct rule_set *event) {
+    switch (code) {
+    case FIO2070_STATUS:
+        if (fields & FIELD_BIT(ERRORS)) return RULE_ERROR_COUNTS;
+        return conformance_has(event, RULE_FLAGS_AT_START) ? RULE_FLAGS_AT_START : RULE_FLAGS_CLEARED;
+    case FIO2070_LOAD_COUNTER: return RULE_LOAD_ANSWER;
+    case FIO2070_CONFIGURE_INPUTS:
+        return conformance_has(event, RULE_ABSENT_INPUT) ? RULE_ABSENT_INPUT : RULE_ITEMS_APPLY;
+    case FIO2070_RAW_INPUTS: return conformance_has(event, RULE_RAW_AT_START) ? RULE_RAW_AT_START : RULE_INPUTS_ANSWER;
+    case FIO2070_FILTERED_INPUTS: return RULE_INPUTS_ANSWER;
+    case FIO2070_SET_OUTPUTS: return fields & FIELD_BIT(OUTPUTS) ? RULE_OUTPUTS_KEPT : RULE_OUTPUTS_ANSWER;
+    case FIO2070_WATCHDOG: return fields & FIELD_BIT(TIMEOUT) ? RULE_WATCHDOG_TIMEOUT : RULE_WATCHDOG_BEFORE;
+    case FIO2070_IDENTIFY: return RULE_IDENTIFICATION;
+    case FIO2070_POLL: return RULE_NEW_BLOCK;
+    default: return RULE_NO_ANSWER;
+    }
+}
+
+/* The rule of a bit or a number that stands in a block answer alone; RULES for other fields. */
+static enum rule rule_of_block(uint32_t fields, const struct rule_set *event) {
+    if (fields & FIELD_BIT(AGAIN)) return conformance_has(event, RULE_FIRST_POLL) ? RULE_FIRST_POLL : RULE_SENT_AGAIN;
+    if (fields & FIELD_BIT(REPEAT)) return conformance_has(event, RULE_KEPT_APART) ? RULE_KEPT_APART : RULE_REPEAT;
+    if (fields & FIELD_BIT(NUMBER)) return RULE_BLOCK_NUMBER;
+    if (fields & FIELD_BIT(SEQUENCE)) {
+        if (conformance_has(event, RULE_FIRST_POLL)) return RULE_FIRST_POLL;
+        if (conformance_has(event, RULE_AFTER_255)) return RULE_AFTER_255;
+        return conformance_has(event, RULE_CURRENT_NUMBER) ? RULE_CURRENT_NUMBER : RULE_SEQUENCE;
+    }
+    if (fields & FIELD_BIT(UNNAMED)) return RULE_NEW_BLOCK;
+    if (fields & (FIELD_BIT(COUNT) | FIELD_BIT(ENTRY))) return RULES;
+    if (fields & FIELD_BIT(LOST)) return RULE_LOST;
+    if (fields & FIELD_BIT(MORE)) return RULE_MORE;
+    return RULES;
+}
+
+/* What the script did before its last event, which the difference needs. */
+static void exercised_before(const struct ends *ends, const struct script *script, struct rule_set *exercised) {
+    struct script before = *script;
+    before.length--;
+    conformance_exercised(ends, &before, exercised);
+}
+
+/* A difference at a module. */
+static enum rule judge_module(const struct ends *ends, const struct script *script, const struct difference *both) {
+    uint8_t code = both->command_length > 0 ? both->command[0] : 0;
+    struct rule_set exercised;
+    enum rule rule;
+    int refusal;
+    exercised_before(ends, script, &exercised);
+    if ((both->fields & ~HIDDEN) == 0 && conformance_has(&exercised, RULE_RESTART)) return RULE_RESTART;
+    for (refusal = RULE_EMPTY_FRAME; refusal <= RULE_WRONG_LENGTH; refusal++) {
+        if (conformance_has(&both->exercised, (enum rule)refusal)) return (enum rule)refusal;
+    }
+    if (both->fields & FIELD_BIT(TYPE)) return RULE_ANSWER_TYPE;
+    if (both->fields & (FIELD_BIT(PRESENCE) | FIELD_BIT(LENGTH))) {
+        return rule_of_command(code, both->fields, &both->exercised);
+    }
+    rule = first_suspect(STRANGERS, sizeof STRANGERS / sizeof STRANGERS[0], both->fields, &exercised);
+    if (rule == RULES && code == FIO2070_POLL) rule = rule_of_block(both->fields, &both->exercised);
+    conformance_join(&exercised, &both->exercised);
+    if (rule == RULES) rule = first_suspect(STEPS, sizeof STEPS / sizeof STEPS[0], both->fields, &exercised);
+    if (rule == RULES && both->fields == FIELD_BIT(BLOCK_STAMP)) rule = RULE_BLOCK_STAMP;
+    return rule != RULES ? rule : rule_of_command(code, both->fields, &both->exercised);
+}
+
+/* ---- At a CPU's end ---- */
+
+static enum rule rule_of_items(const struct difference *both) {
+    size_t place = conformance_first_item(both);
+    const struct fio2070_record_item *expected = &both->expected_record[place], *got = &both->got_record[place];
+    if (place < both->expected_items && expected->input > 63 &&
+        (place >= both->got_items || expected->input != got->input)) {
+        return RULE_HIGH_INPUT;
+    }
+    if (place >= both->expected_items || place >= both->got_items) return RULE_TAKEN_WHOLE;
+    if (expected->gap != got->gap) return RULE_GAP_MARK;
+    if (both->fields & FIELD_BIT(ITEM)) return RULE_ITEMS_IN_ORDER;
+    return conformance_has(&both->exercised, RULE_WIDE_AROUND) ? RULE_WIDE_AROUND : RULE_WIDE_TIME;
+}
+
+static enum rule judge_cpu(const struct difference *both) {
+    static const enum rule heard[] = {RULE_UNREADABLE, RULE_OTHER_ANSWER, RULE_TAKEN_ONCE, RULE_STALE};
+    size_t row;
+    if (both->fields & FIELD_BIT(POLL)) {
+        return conformance_has(&both->exercised, RULE_SAME_UNTIL_TAKEN) ? RULE_SAME_UNTIL_TAKEN : RULE_POLL_NUMBER;
+    }
+    for (row = 0; row < sizeof heard / sizeof heard[0]; row++) {
+        if (conformance_has(&both->exercised, heard[row])) return heard[row];
+    }
+    if (both->got_items == 0 && both->expected_items > 0 && conformance_has(&both->exercised, RULE_UNNAMED_BITS)) {
+        return RULE_UNNAMED_BITS;
+    }
+    if (both->fields & (FIELD_BIT(ITEMS) | FIELD_BIT(GAP) | FIELD_BIT(ITEM) | FIELD_BIT(WIDE))) {
+        return rule_of_items(both);
+    }
+    if (conformance_has(&both->exercised, RULE_NUMBER_AROUND)) return RULE_NUMBER_AROUND;
+    return conformance_has(&both->exercised, RULE_EMPTY_BLOCK) ? RULE_EMPTY_BLOCK : RULE_NUMBER_RISES;
+}
+
+enum rule conformance_judge(const struct ends *ends, const struct script *script, const struct difference *difference) {
+    return ends->module != NULL ? judge_module(ends, script, difference) : judge_cpu(difference);
+}

@@ -1,0 +1,308 @@
+/* The proved ends of the link, and beside one of them the end under test. */
+#include "conformance_link.h"
+
+#include <string.h>
+
+static void set_frame(struct frame *frame, const uint8_t *octets, size_t length) {
+    frame->length = length;
+    if (length > 0) memcpy(frame->octets, octets, length);
+}
+
+/* A line of the transcript. */
+static void log_frame(const struct link *link, char direction, const uint8_t *octets, size_t length) {
+    size_t place;
+    if (link->transcript == NULL) return;
+    fprintf(link->transcript, "%s%c ", link->head, direction);
+    for (place = 0; place < length; place++) fprintf(link->transcript, "%02x", octets[place]);
+    fputs("\n", link->transcript);
+}
+
+/* Keeps how many octets or items a call returned, at most so many. Returns 1 where it failed. */
+static int has_failed(struct difference *difference, size_t *count, size_t most, size_t returned) {
+    difference->has_failed = returned == CONFORMANCE_FAILED;
+    *count = difference->has_failed ? 0 : returned < most ? returned : most;
+    return difference->has_failed;
+}
+
+/* Keeps the fields in which the ends differ, without those that the rules of the event pass over. Returns whether one
+ * is left. */
+static int differs(const struct link *link, struct difference *difference, uint32_t fields) {
+    int rule;
+    difference->exercised = link->exercised;
+    difference->fields = fields;
+    if (fields == 0 || !conformance_meets(&link->exercised, &link->ends.masked)) return fields != 0;
+    for (rule = 0; rule < RULES; rule++) {
+        if (conformance_has(&link->exercised, (enum rule)rule) &&
+            conformance_has(&link->ends.masked, (enum rule)rule)) {
+            difference->fields &= ~CONFORMANCE_RULE_ROWS[rule].fields;
+        }
+    }
+    return difference->fields != 0;
+}
+
+/* ---- At the module ---- */
+
+/* What an event that is left out is undone to. */
+struct memory {
+    struct fio2070_module module;
+    struct history history;
+};
+
+static int leaves_out(const struct link *link) {
+    return (link->ends.left_out.words[0] | link->ends.left_out.words[1]) != 0;
+}
+
+static void remember(const struct link *link, struct memory *memory) {
+    if (!leaves_out(link)) return;
+    memory->module = link->module;
+    memory->history = link->history;
+}
+
+/* Undoes an event that exercised a rule that is left out. Returns 1 where it did. */
+static int is_undone(struct link *link, const struct memory *memory) {
+    if (!leaves_out(link) || !conformance_meets(&link->exercised, &link->ends.left_out)) return 0;
+    link->module = memory->module;
+    link->history = memory->history;
+    memset(&link->exercised, 0, sizeof link->exercised);
+    return 1;
+}
+
+static void ask_module(const struct maker *maker, struct difference *difference) {
+    if (maker->outputs != NULL) maker->outputs(maker->context, difference->got_outputs, difference->got_outputs + 8);
+    if (maker->watchdog_ms != NULL) difference->got_timeout = maker->watchdog_ms(maker->context);
+}
+
+/* What no answer shows, compared where the maker offers it. */
+static uint32_t hidden_fields(const struct link *link, struct difference *difference) {
+    const struct maker *maker = link->ends.module;
+    struct fio2070_outputs outputs = fio2070_module_outputs(&link->module);
+    uint32_t fields = 0;
+    memcpy(difference->expected_outputs, outputs.levels, 8);
+    memcpy(difference->expected_outputs + 8, outputs.controls, 8);
+    difference->expected_timeout = fio2070_module_watchdog_ms(&link->module);
+    ask_module(maker, difference);
+    if (maker->outputs != NULL && memcmp(difference->expected_outputs, difference->got_outputs, 16) != 0) {
+        fields |= FIELD_BIT(OUTPUTS);
+    }
+    if (maker->watchdog_ms != NULL && difference->expected_timeout != difference->got_timeout) {
+        fields |= FIELD_BIT(TIMEOUT);
+    }
+    return fields;
+}
+
+/* The module under test is given the frame that the proved one was given. */
+static int compare_answers(struct link *link, const uint8_t *octets, size_t length, struct difference *difference) {
+    const struct maker *maker = link->ends.module;
+    difference->command_length = length;
+    if (length > 0) memcpy(difference->command, octets, length);
+    if (has_failed(difference, &difference->got_length, FIO2070_LONGEST_FRAME,
+                   maker->exchange(maker->context, octets, length, difference->got))) {
+        return 1;
+    }
+    return differs(link, difference, conformance_answer_fields(difference) | hidden_fields(link, difference));
+}
+
+/* A frame comes to the module. */
+static int exchange(struct link *link, const uint8_t *octets, size_t length, struct difference *difference) {
+    struct memory memory;
+    struct view before;
+    conformance_look(&link->module, &before);
+    remember(link, &memory);
+    difference->expected_length = fio2070_module_receive(&link->module, octets, length, difference->expected);
+    conformance_saw_frame(&link->history, &before, octets, length, difference->expected, difference->expected_length,
+                          &link->exercised);
+    if (link->ends.cpu == NULL && is_undone(link, &memory)) return 0;
+    if (difference->expected_length > 0) {
+        link->answered++;
+        set_frame(&link->answers[link->answered % KEPT_ANSWERS], difference->expected, difference->expected_length);
+    }
+    return link->ends.module != NULL && compare_answers(link, octets, length, difference);
+}
+
+static void scan(struct link *link, uint64_t inputs) {
+    const struct maker *maker = link->ends.module;
+    struct memory memory;
+    struct view before;
+    conformance_look(&link->module, &before);
+    remember(link, &memory);
+    fio2070_module_scan(&link->module, inputs);
+    conformance_saw_scan(&link->history, &before, &link->module, inputs, &link->exercised);
+    if (maker != NULL && !is_undone(link, &memory)) maker->step(maker->context, inputs);
+}
+
+static void sync_line(struct link *link) {
+    const struct maker *maker = link->ends.module;
+    struct memory memory;
+    remember(link, &memory);
+    fio2070_module_line_sync(&link->module);
+    conformance_saw_sync(&link->history, &link->exercised);
+    if (maker != NULL && !is_undone(link, &memory)) maker->line_sync(maker->context);
+}
+
+static void restart(struct link *link) {
+    const struct maker *maker = link->ends.module;
+    struct memory memory;
+    struct view before;
+    conformance_look(&link->module, &before);
+    remember(link, &memory);
+    fio2070_module_restart(&link->module);
+    conformance_saw_restart(&link->history, &before, &link->exercised);
+    if (maker != NULL && !is_undone(link, &memory)) maker->reset(maker->context);
+}
+
+/* ---- At the CPU's end ---- */
+
+/* A frame comes to the CPU's end. */
+static int hear(struct link *link, const uint8_t *octets, size_t length, struct difference *difference) {
+    const struct cpu_maker *maker = link->ends.cpu;
+    struct fio2070_poller before = link->cpu;
+    struct cpu_history history = link->cpu_history;
+    struct fio2070_heard heard;
+    heard = fio2070_poller_hear(&link->cpu, octets, length, difference->expected_record, FIO2070_MOST_RECORD_ITEMS);
+    if (maker == NULL) return 0;
+    memset(&link->exercised, 0, sizeof link->exercised);
+    conformance_saw_heard(&link->cpu_history, octets, length, &heard, difference->expected_record, &link->exercised);
+    if (conformance_meets(&link->exercised, &link->ends.left_out)) {
+        link->cpu = before;
+        link->cpu_history = history;
+        return 0;
+    }
+    log_frame(link, '<', octets, length);
+    difference->expected_length = difference->got_length = 0;
+    difference->heard = heard.kind;
+    difference->expected_items = heard.items;
+    if (has_failed(difference, &difference->got_items, FIO2070_MOST_RECORD_ITEMS,
+                   maker->hear(maker->context, octets, length, difference->got_record))) {
+        return 1;
+    }
+    difference->expected_number = link->cpu.number;
+    difference->got_number = maker->number(maker->context);
+    return differs(link, difference, conformance_heard_fields(difference));
+}
+
+int conformance_link_poll(struct link *link, struct difference *difference) {
+    const struct cpu_maker *maker = link->ends.cpu;
+    struct cpu_history history = link->cpu_history;
+    size_t length = fio2070_poller_poll(&link->cpu, difference->expected, FIO2070_LONGEST_FRAME);
+    if (maker != NULL) {
+        conformance_saw_poll(&link->cpu_history, &link->exercised);
+        if (conformance_meets(&link->exercised, &link->ends.left_out)) {
+            link->cpu_history = history;
+            return 0;
+        }
+    }
+    set_frame(&link->command, difference->expected, length);
+    link->sent++;
+    if (maker == NULL) return 0;
+    difference->expected_length = length;
+    if (has_failed(difference, &difference->got_length, FIO2070_LONGEST_FRAME,
+                   maker->poll(maker->context, difference->got))) {
+        return 1;
+    }
+    log_frame(link, '>', difference->got, difference->got_length);
+    return differs(link, difference,
+                   length != difference->got_length || memcmp(difference->expected, difference->got, length) != 0
+                       ? FIELD_BIT(POLL)
+                       : 0);
+}
+
+unsigned long conformance_link_answer(const struct link *link, const struct event *event) {
+    unsigned long number;
+    if (event->back >= KEPT_ANSWERS || event->back >= link->answered) return 0;
+    number = link->answered - event->back;
+    return number < link->delivered ? 0 : number;
+}
+
+/* An answer comes to the CPU's end. */
+static int deliver_answer(struct link *link, const struct event *event, struct difference *difference) {
+    unsigned long number = conformance_link_answer(link, event);
+    const struct frame *answer = &link->answers[number % KEPT_ANSWERS];
+    if (number == 0) return 0;
+    link->delivered = number;
+    return hear(link, answer->octets, answer->length, difference);
+}
+
+/* ---- Events ---- */
+
+int conformance_link_step(struct link *link, const struct event *event, struct difference *difference) {
+    memset(&link->exercised, 0, sizeof link->exercised);
+    switch (event->kind) {
+    case EVENT_SCAN: scan(link, event->inputs); return 0;
+    case EVENT_SYNC: sync_line(link); return 0;
+    case EVENT_RESTART: restart(link); return 0;
+    case EVENT_FRAME: return exchange(link, event->octets, event->length, difference);
+    case EVENT_POLL: return conformance_link_poll(link, difference);
+    case EVENT_COMMAND:
+        set_frame(&link->command, event->octets, event->length);
+        link->sent++;
+        log_frame(link, '>', event->octets, event->length);
+        return 0;
+    case EVENT_DELIVER:
+        return link->sent == 0 ? 0 : exchange(link, link->command.octets, link->command.length, difference);
+    case EVENT_ANSWER: return deliver_answer(link, event, difference);
+    case EVENT_HEAR: return hear(link, event->octets, event->length, difference);
+    }
+    return 0;
+}
+
+void conformance_link_start(struct link *link, const struct ends *ends, const struct script *script) {
+    memset(link, 0, sizeof *link);
+    link->ends = *ends;
+    fio2070_module_start(&link->module, script->id, script->per_block);
+    conformance_begin(&link->history);
+    link->cpu.number = script->number;
+    if (ends->module != NULL) ends->module->reset(ends->module->context);
+    if (ends->cpu != NULL) ends->cpu->reset(ends->cpu->context, script->number);
+}
+
+static void count_rules(const struct rule_set *rules, unsigned long exercised[RULES]) {
+    int word, rule;
+    for (word = 0; word < 2; word++) {
+        uint64_t left = rules->words[word];
+        for (rule = 64 * word; left != 0; left >>= 1, rule++) exercised[rule] += left & 1;
+    }
+}
+
+size_t conformance_count(const struct ends *ends, const struct script *script, struct difference *difference,
+                         unsigned long exercised[RULES]) {
+    static struct link link;
+    size_t place;
+    memset(difference, 0, sizeof *difference);
+    conformance_link_start(&link, ends, script);
+    for (place = 0; place < script->length; place++) {
+        int is_other = conformance_link_step(&link, &script->events[place], difference);
+        if (exercised != NULL) count_rules(&link.exercised, exercised);
+        if (is_other) return place + 1;
+    }
+    return 0;
+}
+
+size_t conformance_compare(const struct ends *ends, const struct script *script, struct difference *difference) {
+    return conformance_count(ends, script, difference, NULL);
+}
+
+void conformance_exercised(const struct ends *ends, const struct script *script, struct rule_set *rules) {
+    static struct link link;
+    static struct difference ignored;
+    size_t place;
+    memset(rules, 0, sizeof *rules);
+    conformance_link_start(&link, ends, script);
+    for (place = 0; place < script->length; place++) {
+        conformance_link_step(&link, &script->events[place], &ignored);
+        conformance_join(rules, &link.exercised);
+    }
+}
+
+void conformance_transcript(const struct cpu_maker *maker, const struct script *script, const char *head, FILE *out) {
+    static struct link link;
+    static struct difference difference;
+    struct ends ends;
+    size_t place;
+    memset(&ends, 0, sizeof ends);
+    ends.cpu = maker;
+    conformance_link_start(&link, &ends, script);
+    link.head = head;
+    link.transcript = out;
+    for (place = 0; place < script->length; place++) conformance_link_step(&link, &script->events[place], &difference);
+    conformance_link_poll(&link, &difference);
+}

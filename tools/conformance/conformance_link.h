@@ -1,0 +1,58 @@
+/* The proved ends of the link, and beside one of them the end under test. */
+#ifndef CONFORMANCE_LINK_H
+#define CONFORMANCE_LINK_H
+
+#include "conformance_history.h"
+
+enum { KEPT_ANSWERS = 4 };
+
+struct frame {
+    size_t length;
+    uint8_t octets[CONFORMANCE_LONGEST_FRAME];
+};
+
+struct link {
+    struct ends ends;
+    struct fio2070_module module;
+    struct history history;
+    struct fio2070_poller cpu;
+    struct cpu_history cpu_history;
+    unsigned long sent, answered; /* how many frames in each direction */
+    unsigned long delivered;      /* the number of the last answer that came to the CPU's end, 0 for none */
+    struct frame command;         /* that was sent last */
+    struct frame answers[KEPT_ANSWERS];
+    struct rule_set exercised; /* by the last event */
+    const char *head;          /* of the lines of the transcript, NULL where there is none */
+    FILE *transcript;
+};
+
+/* Starts both ends as a script has them. Without ends under test the proved ones are alone. */
+void conformance_link_start(struct link *link, const struct ends *ends, const struct script *script);
+
+/* Does an event. Returns 1 where the end under test does otherwise than the proved one. */
+int conformance_link_step(struct link *link, const struct event *event, struct difference *difference);
+
+/* The number of the answer that an event delivers, 0 where there is none: it is no longer kept, or a
+ * later one was delivered. */
+unsigned long conformance_link_answer(const struct link *link, const struct event *event);
+
+/* The CPU's end polls, and the transcript has it. */
+int conformance_link_poll(struct link *link, struct difference *difference);
+
+/* Runs a script as conformance_compare does, and counts the events that exercise each rule. */
+size_t conformance_count(const struct ends *ends, const struct script *script, struct difference *difference,
+                         unsigned long exercised[RULES]);
+
+/* The rules that a script exercises. */
+void conformance_exercised(const struct ends *ends, const struct script *script, struct rule_set *rules);
+
+/* The fields in which both ends differ, a FIELD_BIT for each: of an answer, of what is heard, and the first item of
+ * the record that is not the same. */
+uint32_t conformance_answer_fields(const struct difference *difference);
+uint32_t conformance_heard_fields(const struct difference *difference);
+size_t conformance_first_item(const struct difference *difference);
+
+/* Writes a line for each field in which they differ, with what was expected and what came. */
+void conformance_write_fields(const struct difference *difference, FILE *out);
+
+#endif

@@ -1,0 +1,198 @@
+/* The words of a tester. */
+#include "conformance.h"
+
+#include <stdlib.h>
+#include <string.h>
+
+static const char HELP[] =
+    "Runs random scripts, writes each rule in which this end differs from the proved one, with a short script that\n"
+    "shows it, and goes on without what exercises that rule.\n"
+    "\n"
+    "  EVENTS         how many events, 1000000 if not given\n"
+    "  SEED           another number gives other scripts, 1 if not given\n"
+    "  --replay       runs the script on standard input instead\n"
+    "  --first        stops at the first difference\n"
+    "  --except RULE  does not ask this rule of the project's own profile; may be given again\n"
+    "  --coverage     writes how many events exercised each rule, and fails where one was not\n"
+    "  --junit FILE   writes a test case for each rule as JUnit XML\n"
+    "  --rules        writes the rules, with their sources\n"
+    "\n"
+    "The status is 0 where there is no difference, 1 where there is one, 2 where the words or the script are faulty,\n"
+    "3 where the end under test can't be asked any more.\n";
+
+/* The words as they were read. */
+struct words {
+    struct options options;
+    int is_replay, shows_coverage, shows_rules, shows_help;
+    const char *junit;
+};
+
+static enum rule_end end_of(const struct ends *ends) { return ends->module != NULL ? AT_MODULE : AT_CPU; }
+
+/* ---- Reading ---- */
+
+/* A number in decimal digits. Returns 0 where the word is none. */
+static int read_number(const char *word, unsigned long *number) {
+    char *end;
+    *number = strtoul(word, &end, 10);
+    return end != word && *end == '\0';
+}
+
+/* Adds a rule that need not be kept. Returns 0 where it is none, or none of this project's own. */
+static int except(struct words *words, const struct ends *ends, const char *name) {
+    enum rule rule = conformance_rule_named(name);
+    if (rule == RULES || CONFORMANCE_RULE_ROWS[rule].end != end_of(ends)) {
+        printf("no rule has the name %s: --rules writes them\n", name);
+        return 0;
+    }
+    if (!conformance_is_own(rule)) {
+        printf("the rule %s is not this project's own: it is asked of each end\n", name);
+        return 0;
+    }
+    conformance_put(&words->options.excepted, rule);
+    return 1;
+}
+
+/* Reads an option, and the word after it where it has one. Returns how many words it took, 0 where it is faulty. */
+static int read_option(struct words *words, const struct ends *ends, int left, char **word) {
+    const struct {
+        const char *name;
+        int *is_given;
+    } flags[] = {{"--replay", &words->is_replay},
+                 {"--first", &words->options.stops},
+                 {"--coverage", &words->shows_coverage},
+                 {"--rules", &words->shows_rules},
+                 {"--help", &words->shows_help}};
+    size_t row;
+    for (row = 0; row < sizeof flags / sizeof flags[0]; row++) {
+        if (strcmp(word[0], flags[row].name) == 0) return *flags[row].is_given = 1;
+    }
+    if (left > 1 && strcmp(word[0], "--except") == 0) return except(words, ends, word[1]) ? 2 : 0;
+    if (left > 1 && strcmp(word[0], "--junit") == 0) {
+        words->junit = word[1];
+        return 2;
+    }
+    return 0;
+}
+
+static int read_words(struct words *words, const struct ends *ends, int count, char **given) {
+    unsigned long numbers[2] = {0, 0};
+    int place = 1, taken, read = 0;
+    for (; place < count; place += taken) {
+        taken = read < 2 && read_number(given[place], &numbers[read]);
+        read += taken;
+        if (taken == 0) taken = read_option(words, ends, count - place, given + place);
+        if (taken == 0) return 0;
+    }
+    words->options.events = numbers[0];
+    words->options.seed = numbers[1];
+    return 1;
+}
+
+/* ---- Doing ---- */
+
+static int fail(void) {
+    puts("the end under test failed");
+    return 3;
+}
+
+/* Runs the script of standard input. */
+static int replay(const struct ends *ends) {
+    static struct script script;
+    static struct difference difference;
+    unsigned long fault = conformance_read(&script, stdin);
+    if (fault != 0) {
+        printf("line %lu: bad line\n", fault);
+        return 2;
+    }
+    if (ends->module != NULL && (script.id != ends->module->id || script.per_block != ends->module->per_block)) {
+        printf("the script is for a module with the id %u and at most %u entries a block, this one has %u and %u\n",
+               script.id, script.per_block, ends->module->id, ends->module->per_block);
+        return 2;
+    }
+    script.length = conformance_compare(ends, &script, &difference);
+    if (script.length == 0) {
+        puts("no difference");
+        return 0;
+    }
+    if (difference.has_failed) return fail();
+    conformance_report(ends, &script, &difference, stdout);
+    return 1;
+}
+
+static void write_rules(enum rule_end end) {
+    int rule;
+    for (rule = 0; rule < RULES; rule++) {
+        const struct rule_row *row = &CONFORMANCE_RULE_ROWS[rule];
+        if (row->end != end || row->source == CASE) continue;
+        printf("%-18s %-11s %s: %s\n", row->name, conformance_source((enum rule)rule), row->section, row->sentence);
+    }
+}
+
+/* Writes what was not exercised. Returns how many rules and cases that are. */
+static unsigned write_missing(const struct result *result, enum rule_end end, const struct rule_set *excepted) {
+    unsigned missing = 0;
+    int rule;
+    for (rule = 0; rule < RULES; rule++) {
+        if (CONFORMANCE_RULE_ROWS[rule].end != end || result->exercised[rule] > 0) continue;
+        if (conformance_has(excepted, (enum rule)rule) || result->shortest[rule] > 0) continue;
+        printf("not exercised: %s\n", CONFORMANCE_RULE_ROWS[rule].name);
+        missing++;
+    }
+    return missing;
+}
+
+/* Writes the file of --junit. Returns 0 where it can't. */
+static int write_junit(const char *name, const struct result *result, enum rule_end end,
+                       const struct rule_set *excepted) {
+    FILE *file = fopen(name, "w");
+    if (file == NULL) {
+        printf("can't write %s\n", name);
+        return 0;
+    }
+    conformance_junit(result, end, excepted, file);
+    return fclose(file) == 0;
+}
+
+static int run(const struct ends *ends, const struct words *words) {
+    static struct result result;
+    const struct rule_set *excepted = &words->options.excepted;
+    unsigned missing;
+    conformance_test(ends, &words->options, &result, stdout);
+    if (words->shows_coverage) conformance_coverage(&result, end_of(ends), excepted, stdout);
+    if (words->junit != NULL && !write_junit(words->junit, &result, end_of(ends), excepted)) return 2;
+    if (result.has_failed) return fail();
+    missing = words->options.stops && result.differences > 0 ? 0 : write_missing(&result, end_of(ends), excepted);
+    if (result.is_lost) puts("the run ended: the last difference could not be told from those above");
+    if (result.differences == 0) printf("no difference in %lu events\n", result.events);
+    if (result.differences > 0) printf("rules that differ: %u in %lu events\n", result.differences, result.events);
+    return result.differences > 0 || (words->shows_coverage && missing > 0);
+}
+
+int conformance_words(const struct ends *ends, int is_outside, int count, char **given) {
+    struct words words;
+    memset(&words, 0, sizeof words);
+    words.options.is_outside = is_outside;
+    if (!read_words(&words, ends, count, given)) {
+        printf("usage: %s [OPTION].. [EVENTS [SEED]], see --help\n", given[0]);
+        return 2;
+    }
+    if (words.shows_help) printf("%s [OPTION].. [EVENTS [SEED]]\n\n%s", given[0], HELP);
+    if (words.shows_rules) write_rules(end_of(ends));
+    if (words.shows_help || words.shows_rules) return 0;
+    return words.is_replay ? replay(ends) : run(ends, &words);
+}
+
+int conformance_main(const struct maker *maker, int count, char **words) {
+    struct ends ends;
+    memset(&ends, 0, sizeof ends);
+    ends.module = maker;
+    return conformance_words(&ends, 0, count, words);
+}
+
+int conformance_cpu_main(const struct cpu_maker *maker, int count, char **words) {
+    struct ends ends;
+    memset(&ends, 0, sizeof ends);
+    ends.cpu = maker;
+    return conformance_words(&ends, 0, count, words);
+}

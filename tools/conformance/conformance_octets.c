@@ -1,0 +1,200 @@
+/* Random numbers, and the octets of random commands. */
+#include "conformance_octets.h"
+
+#include <string.h>
+
+/* xorshift64* */
+uint64_t conformance_next(uint64_t *state) {
+    *state ^= *state >> 12;
+    *state ^= *state << 25;
+    *state ^= *state >> 27;
+    return *state * 2685821657736338717u;
+}
+
+unsigned conformance_below(uint64_t *state, unsigned bound) {
+    return (unsigned)(conformance_next(state) >> 33) % bound;
+}
+
+/* ---- Inputs ---- */
+
+uint64_t conformance_moving(enum theme theme, uint64_t *state) {
+    static const unsigned counts[] = {64, 64, 64, 63, 51, 17, 15, 5};
+    uint64_t moving = 0;
+    unsigned left = counts[conformance_below(state, 8)];
+    if (theme != OVERFLOWING) return ~moving;
+    while (left > 0) {
+        uint64_t bit = (uint64_t)1 << conformance_below(state, 64);
+        if ((moving & bit) == 0) left--;
+        moving |= bit;
+    }
+    return moving;
+}
+
+uint64_t conformance_levels(struct course *course, uint64_t *state) {
+    unsigned kind = course->theme == CALM ? conformance_below(state, 600) : conformance_below(state, 8);
+    if (course->theme == OVERFLOWING || kind == 0) {
+        course->levels ^= course->moving;
+    } else if (kind < 4) {
+        course->levels ^= conformance_next(state) & conformance_next(state) & conformance_next(state);
+    } else if (kind < 6) {
+        course->levels ^= (uint64_t)1 << conformance_below(state, 64);
+    }
+    return course->levels;
+}
+
+/* ---- Commands ---- */
+
+/* Filters are mostly short, so that states change. */
+static uint8_t random_filter(uint64_t *state) {
+    return (uint8_t)(conformance_below(state, 40) == 0 ? conformance_below(state, 256) : conformance_below(state, 4));
+}
+
+/* Filters from 200 on, with those at both ends of the range; a third is short. */
+static uint8_t long_filter(uint64_t *state) {
+    static const uint8_t ends[] = {255, 255, 254, 253, 252, 200, 201, 202};
+    if (conformance_below(state, 3) == 0) return random_filter(state);
+    if (conformance_below(state, 2) == 0) return ends[conformance_below(state, 8)];
+    return (uint8_t)(200 + conformance_below(state, 56));
+}
+
+static uint8_t filter_of(enum theme theme, uint64_t *state) {
+    if (theme == CALM) return long_filter(state);
+    return (uint8_t)(theme == ORDINARY ? conformance_below(state, 4) : 1);
+}
+
+size_t conformance_open(uint8_t *octets, enum theme theme, uint64_t *state) {
+    unsigned input;
+    octets[0] = FIO2070_CONFIGURE_INPUTS;
+    octets[1] = 64;
+    for (input = 0; input < 64; input++) {
+        octets[2 + 3 * input] = (uint8_t)input;
+        octets[3 + 3 * input] = filter_of(theme, state);
+        octets[4 + 3 * input] = filter_of(theme, state);
+    }
+    return 2 + 3 * 64;
+}
+
+/* How many items a configuration has: mostly few, now and then all inputs, or more. */
+static unsigned random_count(uint64_t *state) {
+    switch (conformance_below(state, 16)) {
+    case 0: return 255;
+    case 1: return conformance_below(state, 256);
+    case 2:
+    case 3:
+    case 4: return 64;
+    default: return conformance_below(state, 20);
+    }
+}
+
+size_t conformance_configuration(uint8_t *octets, uint64_t *state) {
+    unsigned count = random_count(state), place;
+    unsigned bound = conformance_below(state, 8) == 0 ? 128 : 64;
+    octets[0] = FIO2070_CONFIGURE_INPUTS;
+    octets[1] = (uint8_t)count;
+    for (place = 0; place < count; place++) {
+        unsigned input = count == 64 && bound == 64 ? place : conformance_below(state, bound);
+        octets[2 + 3 * place] = (uint8_t)(input | (conformance_below(state, 8) == 0 ? 128 : 0));
+        octets[3 + 3 * place] = random_filter(state);
+        octets[4 + 3 * place] = random_filter(state);
+    }
+    /* One absent input, at any place or at the last, is enough to refuse all. */
+    if (count > 0 && bound == 128 && conformance_below(state, 2) == 0) {
+        for (place = 0; place < count; place++) octets[2 + 3 * place] &= 0xbf;
+        octets[2 + 3 * (conformance_below(state, 2) == 0 ? count - 1 : conformance_below(state, count))] |= 64;
+    }
+    return 2 + 3 * (size_t)count;
+}
+
+/* A load of the counter near the ends of 16 and 32 bits. */
+static size_t random_load(uint8_t *octets, uint64_t *state) {
+    static const uint32_t ends[] = {0, 65536, 4294967295u, 16777216};
+    uint32_t load = conformance_below(state, 8) == 0 ? (uint32_t)conformance_next(state)
+                                                     : ends[conformance_below(state, 4)] - conformance_below(state, 64);
+    return fio2070_encode_load_counter(load, octets, CONFORMANCE_LONGEST_FRAME);
+}
+
+/* How long a body is: mostly short, now and then up to the longest. */
+static size_t body_length(uint64_t *state) {
+    switch (conformance_below(state, 8)) {
+    case 0: return 772;
+    case 1: return conformance_below(state, 773);
+    case 2: return 250 + conformance_below(state, 12);
+    default: return conformance_below(state, 16);
+    }
+}
+
+static void fill(uint8_t *octets, size_t length, uint64_t *state) {
+    while (length > 0) octets[--length] = (uint8_t)conformance_next(state);
+}
+
+/* A command that is a type and a body. */
+static size_t random_body(uint8_t *octets, uint64_t *state) {
+    static const uint8_t types[] = {FIO2070_TRACK_INPUTS, FIO2070_COMPLEX_OUTPUTS, FIO2070_CONTROLLER_ID};
+    size_t length = body_length(state);
+    octets[0] = types[conformance_below(state, 3)];
+    fill(octets + 1, length, state);
+    return 1 + length;
+}
+
+static size_t random_status(uint8_t *octets, uint64_t *state) {
+    static const uint8_t masks[] = {0, 128, 127, 255};
+    uint8_t clear =
+        conformance_below(state, 2) == 0 ? masks[conformance_below(state, 4)] : (uint8_t)conformance_next(state);
+    return fio2070_encode_status(clear, octets, CONFORMANCE_LONGEST_FRAME);
+}
+
+static size_t random_timeout(uint8_t *octets, uint64_t *state) {
+    static const uint8_t ends[] = {0, 9, 10, 11, 99, 100, 101, 255};
+    uint8_t timeout =
+        conformance_below(state, 2) == 0 ? ends[conformance_below(state, 8)] : (uint8_t)conformance_next(state);
+    return fio2070_encode_watchdog(timeout, octets, CONFORMANCE_LONGEST_FRAME);
+}
+
+size_t conformance_command(uint8_t *octets, uint64_t *state) {
+    uint8_t outputs[16];
+    switch (conformance_below(state, 10)) {
+    case 0: return random_status(octets, state);
+    case 1:
+    case 2: return random_load(octets, state);
+    case 3: return fio2070_encode_raw_inputs(octets, CONFORMANCE_LONGEST_FRAME);
+    case 4:
+    case 5: return fio2070_encode_filtered_inputs(octets, CONFORMANCE_LONGEST_FRAME);
+    case 6:
+        fill(outputs, sizeof outputs, state);
+        return fio2070_encode_set_outputs(outputs, outputs + 8, octets, CONFORMANCE_LONGEST_FRAME);
+    case 7: return random_timeout(octets, state);
+    case 8: return fio2070_encode_identify(octets, CONFORMANCE_LONGEST_FRAME);
+    default: return random_body(octets, state);
+    }
+}
+
+/* ---- Hostile octets ---- */
+
+/* Octets of any kind, short or long, of a type that is none or of one that is. */
+static size_t random_octets(uint8_t *octets, uint64_t *state) {
+    static const unsigned bounds[] = {5, 5, 300, 774, 1025};
+    size_t length = conformance_below(state, bounds[conformance_below(state, 5)]);
+    fill(octets, length, state);
+    if (length > 0 && conformance_below(state, 2) == 0) octets[0] = (uint8_t)(47 + conformance_below(state, 16));
+    return length;
+}
+
+/* A body of one octet too many or more. */
+static size_t random_long_body(uint8_t *octets, uint64_t *state) {
+    size_t length = 774 + conformance_below(state, conformance_below(state, 2) == 0 ? 1 : 250);
+    random_body(octets, state);
+    fill(octets + 1, length - 1, state);
+    return length;
+}
+
+size_t conformance_hostile(uint8_t *octets, uint64_t *state) {
+    size_t length = conformance_below(state, 4) == 0 ? conformance_configuration(octets, state)
+                                                     : conformance_command(octets, state);
+    switch (conformance_below(state, 6)) {
+    case 0: octets[conformance_below(state, (unsigned)length)] = (uint8_t)conformance_next(state); return length;
+    case 1: return conformance_below(state, (unsigned)length + 1);
+    case 2: octets[length] = (uint8_t)conformance_next(state); return length + 1;
+    case 3: return random_long_body(octets, state);
+    default: return random_octets(octets, state);
+    }
+}

@@ -1,0 +1,42 @@
+/* Random numbers, and the octets of random commands. */
+#ifndef CONFORMANCE_OCTETS_H
+#define CONFORMANCE_OCTETS_H
+
+#include "conformance.h"
+
+/* The next number of a sequence whose state is not 0. */
+uint64_t conformance_next(uint64_t *state);
+
+/* A number from 0 to bound - 1. */
+unsigned conformance_below(uint64_t *state, unsigned bound);
+
+/* What the inputs do in a script. */
+enum theme {
+    ORDINARY,
+    OVERFLOWING, /* all of some inputs change at each scan, and few polls come */
+    CALM,        /* filters are long, and inputs seldom change */
+    STEADY       /* scans and polls alone, long enough for block numbers to come round */
+};
+
+/* What the CPU's end and the inputs are at. */
+struct course {
+    enum theme theme;
+    unsigned number;
+    uint64_t levels, moving; /* the inputs that change together */
+};
+
+/* The levels of the next scan. */
+uint64_t conformance_levels(struct course *course, uint64_t *state);
+
+/* The inputs that change together in a course of this theme: mostly all, else as many as divide 255. */
+uint64_t conformance_moving(enum theme theme, uint64_t *state);
+
+/* The octets of a command, with at most CONFORMANCE_LONGEST_FRAME of them. Each returns how many there are. */
+size_t conformance_command(uint8_t *octets, uint64_t *state);
+size_t conformance_configuration(uint8_t *octets, uint64_t *state);
+size_t conformance_hostile(uint8_t *octets, uint64_t *state);
+
+/* A configuration of all inputs, all reported, with filters as the theme has them. */
+size_t conformance_open(uint8_t *octets, enum theme theme, uint64_t *state);
+
+#endif

@@ -1,0 +1,131 @@
+/* Random scripts of a module whose CPU polls, loses answers, configures and errs. */
+#include "conformance_octets.h"
+
+#include <string.h>
+
+const struct mix CONFORMANCE_MIX = {100, 30, 10, 40, 80, 20, 30, 2, 250, 60, 40};
+
+/* How many events a script has. */
+static size_t random_length(enum theme theme, uint64_t *state) {
+    if (theme == CALM) return 500 + conformance_below(state, 2500);
+    if (theme == STEADY) return 1000 + conformance_below(state, conformance_below(state, 8) == 0 ? 19000 : 3000);
+    if (conformance_below(state, 16) == 0) return 400 + conformance_below(state, 2000);
+    return 20 + conformance_below(state, 380);
+}
+
+static enum theme random_theme(const struct mix *mix, uint64_t *state) {
+    unsigned rest = conformance_below(state, 1000);
+    if (rest < mix->overflows) return OVERFLOWING;
+    if ((rest -= mix->overflows) < mix->calm) return CALM;
+    return rest - mix->calm < mix->steady ? STEADY : ORDINARY;
+}
+
+/* The mix of a theme. */
+static struct mix mix_of(const struct mix *mix, enum theme theme) {
+    struct mix themed = *mix;
+    if (theme == OVERFLOWING) themed.polls /= 4;
+    if (theme == CALM) {
+        themed.polls /= 4;
+        themed.configurations /= 40;
+        themed.others /= 4;
+        themed.hostile /= 4;
+        themed.restarts /= 8;
+    }
+    if (theme == STEADY) {
+        themed.polls *= 2;
+        themed.out_of_sequence = themed.configurations = themed.restarts = 0;
+    }
+    return themed;
+}
+
+static size_t write_poll(uint8_t *octets, unsigned number) {
+    octets[0] = FIO2070_POLL;
+    octets[1] = (uint8_t)number;
+    return 2;
+}
+
+/* A number out of sequence: one near the number before, one shortly before 0, or any. */
+static unsigned stray_number(unsigned number, uint64_t *state) {
+    switch (conformance_below(state, 3)) {
+    case 0: return number + 253 + conformance_below(state, 7);
+    case 1: return 254;
+    default: return conformance_below(state, 256);
+    }
+}
+
+/* A frame that comes to the module, or LINESYNC, a restart or a scan. */
+static void random_event(struct event *event, uint8_t *octets, const struct mix *mix, struct course *course,
+                         uint64_t *state) {
+    unsigned rest = conformance_below(state, 1000);
+    event->kind = EVENT_FRAME;
+    if (rest < mix->polls) {
+        event->length = write_poll(octets, ++course->number);
+    } else if ((rest -= mix->polls) < mix->repeats) {
+        event->length = write_poll(octets, course->number);
+    } else if ((rest -= mix->repeats) < mix->out_of_sequence) {
+        course->number = stray_number(course->number, state);
+        event->length = write_poll(octets, course->number);
+    } else if ((rest -= mix->out_of_sequence) < mix->configurations) {
+        event->length = conformance_configuration(octets, state);
+    } else if ((rest -= mix->configurations) < mix->others) {
+        event->length = conformance_command(octets, state);
+    } else if ((rest -= mix->others) < mix->hostile) {
+        event->length = conformance_hostile(octets, state);
+    } else if ((rest -= mix->hostile) < mix->syncs) {
+        event->kind = EVENT_SYNC;
+    } else if ((rest -= mix->syncs) < mix->restarts) {
+        event->kind = EVENT_RESTART;
+    } else {
+        event->kind = EVENT_SCAN;
+        event->inputs = conformance_levels(course, state);
+    }
+}
+
+static void add_frame(struct script *script, const uint8_t *octets, size_t length) {
+    struct event event;
+    memset(&event, 0, sizeof event);
+    event.kind = EVENT_FRAME;
+    event.octets = octets;
+    event.length = length;
+    conformance_add(script, &event);
+}
+
+/* Now and then commands before the first scan, and a load of the counter; mostly all inputs are opened. */
+static void begin(struct script *script, enum theme theme, uint64_t *state) {
+    static const struct event sync = {EVENT_SYNC, 0, 0, NULL, 0};
+    uint8_t octets[CONFORMANCE_LONGEST_FRAME];
+    unsigned count = conformance_below(state, 4) == 0 ? conformance_below(state, 4) : 0;
+    while (count-- > 0) add_frame(script, octets, conformance_command(octets, state));
+    if (conformance_below(state, 4) == 0) {
+        add_frame(script, octets,
+                  fio2070_encode_load_counter((uint32_t)conformance_next(state), octets, sizeof octets));
+        conformance_add(script, &sync);
+    }
+    if (theme != ORDINARY || conformance_below(state, 8) != 0) {
+        add_frame(script, octets, conformance_open(octets, theme, state));
+    }
+}
+
+void conformance_random(struct script *script, const struct maker *maker, const struct mix *mix, size_t most,
+                        uint64_t *state) {
+    uint8_t octets[CONFORMANCE_LONGEST_FRAME];
+    struct course course;
+    struct mix themed;
+    size_t length;
+    course.theme = random_theme(mix, state);
+    course.number = conformance_below(state, 256);
+    course.levels = ~(uint64_t)0;
+    course.moving = conformance_moving(course.theme, state);
+    themed = mix_of(mix, course.theme);
+    length = random_length(course.theme, state);
+    script->id = maker->id;
+    script->per_block = maker->per_block;
+    begin(script, course.theme, state);
+    while (script->length < length && script->length < most) {
+        struct event event;
+        memset(&event, 0, sizeof event);
+        event.octets = octets;
+        random_event(&event, octets, &themed, &course, state);
+        conformance_add(script, &event);
+    }
+}

@@ -1,0 +1,52 @@
+/* The script that shows a difference, field by field what both ends did, and the rule that it is about. */
+#include "conformance_link.h"
+
+#include <string.h>
+
+enum { SHOWN = 48 /* octets of an answer */ };
+
+/* Octets, whole where they are few, else from shortly before the first that is not the same. */
+static void write_octets(const char *who, const uint8_t *octets, size_t length, size_t other, FILE *out) {
+    size_t first = length > SHOWN && other > 8 ? other - 8 : 0, place;
+    if (length > SHOWN && first > length - SHOWN) first = length - SHOWN;
+    fprintf(out, "# %s: ", who);
+    if (length == 0) fputs("none", out);
+    if (length > SHOWN) fprintf(out, "%lu octets, from octet %lu on ", (unsigned long)length, (unsigned long)first);
+    for (place = first; place < length && place < first + SHOWN; place++) fprintf(out, "%02x", octets[place]);
+    fputs("\n", out);
+}
+
+static void write_frames(const struct difference *both, FILE *out) {
+    size_t other = 0;
+    while (other < both->expected_length && other < both->got_length && both->expected[other] == both->got[other])
+        other++;
+    write_octets("expected", both->expected, both->expected_length, other, out);
+    write_octets("got", both->got, both->got_length, other, out);
+}
+
+static void write_numbers(const char *who, uint8_t number, size_t items, FILE *out) {
+    fprintf(out, "# %s: number %u items %lu\n", who, number, (unsigned long)items);
+}
+
+static void write_rule(enum rule rule, FILE *out) {
+    const struct rule_row *row = &CONFORMANCE_RULE_ROWS[rule];
+    fprintf(out, "# rule: %s, %s, docs/PROTOCOL.md, %s: %s\n", row->name, conformance_source(rule), row->section,
+            row->sentence);
+}
+
+void conformance_report(const struct ends *ends, const struct script *script, const struct difference *difference,
+                        FILE *out) {
+    conformance_write(script, out);
+    if (ends->cpu == NULL || difference->expected_length > 0) {
+        write_frames(difference, out);
+    } else {
+        write_numbers("expected", difference->expected_number, difference->expected_items, out);
+        write_numbers("got", difference->got_number, difference->got_items, out);
+    }
+    conformance_write_fields(difference, out);
+    write_rule(conformance_judge(ends, script, difference), out);
+    if (ends->cpu != NULL) {
+        fputs("# transcript:\n", out);
+        conformance_transcript(ends->cpu, script, "# ", out);
+    }
+}

@@ -1,0 +1,214 @@
+/* Scripts as texts, in the format of `fio2070 simulate` (docs/FORMATS.md). A frame that simulate's own
+ * ends do not send stands as a remark: a poll with another number than the CPU's, octets that spell no
+ * command, and octets that no module sent. Such a text begins with a remark, which simulate refuses. */
+#include "conformance_link.h"
+
+#include <string.h>
+
+static const char TO_MODULE[] = "# frame to the module: ", TO_CPU[] = "# frame to the CPU: ";
+static const char FOR_REPLAY[] =
+    "# For --replay alone: `fio2070 simulate` has no line for the frames that stand as remarks.\n";
+
+/* ---- Writing ---- */
+
+/* A text that is written, and the proved ends after its lines. */
+struct text {
+    FILE *out; /* NULL: the remarks are counted, and nothing is written */
+    int remarks;
+    struct link link;
+};
+
+static void write_octets(const struct text *text, const char *word, const uint8_t *octets, size_t length) {
+    size_t place;
+    if (text->out == NULL) return;
+    fputs(word, text->out);
+    for (place = 0; place < length; place++) fprintf(text->out, "%02x", octets[place]);
+    fputs("\n", text->out);
+}
+
+static void write_word(const struct text *text, const char *word) {
+    if (text->out != NULL) fputs(word, text->out);
+}
+
+static void write_number(const struct text *text, const char *word, unsigned long number) {
+    if (text->out != NULL && number > 0) fprintf(text->out, "%s %lu\n", word, number);
+}
+
+static void write_levels(const struct text *text, uint64_t inputs) {
+    uint8_t octets[8];
+    int octet;
+    for (octet = 0; octet < 8; octet++, inputs >>= 8) octets[octet] = (uint8_t)inputs;
+    write_octets(text, "scan ", octets, 8);
+}
+
+/* The line of an event that has one, and the ends after it. */
+static void write_event(struct text *text, const struct event *event) {
+    static struct difference ignored;
+    switch (event->kind) {
+    case EVENT_SCAN: write_levels(text, event->inputs); break;
+    case EVENT_SYNC: write_word(text, "sync\n"); break;
+    case EVENT_RESTART: write_word(text, "restart\n"); break;
+    case EVENT_POLL: write_word(text, "poll\n"); break;
+    case EVENT_COMMAND: write_octets(text, "send ", event->octets, event->length); break;
+    case EVENT_DELIVER: write_number(text, "to-module", text->link.sent); break;
+    case EVENT_ANSWER: write_number(text, "to-cpu", conformance_link_answer(&text->link, event)); break;
+    case EVENT_FRAME:
+        text->remarks++;
+        write_octets(text, TO_MODULE, event->octets, event->length);
+        break;
+    case EVENT_HEAR:
+        text->remarks++;
+        write_octets(text, TO_CPU, event->octets, event->length);
+        break;
+    }
+    conformance_link_step(&text->link, event, &ignored);
+}
+
+static void write_events(struct text *text, const struct script *script, FILE *out) {
+    struct ends none;
+    size_t place;
+    memset(&none, 0, sizeof none);
+    text->out = out;
+    text->remarks = 0;
+    conformance_link_start(&text->link, &none, script);
+    for (place = 0; place < script->length; place++) write_event(text, &script->events[place]);
+}
+
+static void write_header(const struct script *script, FILE *out) {
+    int version = 1;
+    size_t place;
+    for (place = 0; place < script->length; place++) {
+        if (script->events[place].kind == EVENT_RESTART) version = 2;
+    }
+    if (script->per_block != FIO2070_MOST_ENTRIES) version = 3;
+    fprintf(out, "fio2070 script %d %u %u", version, script->id, script->number);
+    if (version == 3) fprintf(out, " %u %u", script->per_block, FIO2070_MOST_WAITING);
+    fputs("\n", out);
+}
+
+void conformance_write(const struct script *script, FILE *out) {
+    static struct text text;
+    write_events(&text, script, NULL);
+    if (text.remarks > 0) fputs(FOR_REPLAY, out);
+    write_header(script, out);
+    write_events(&text, script, out);
+}
+
+/* ---- Reading ---- */
+
+static int digit_of(char digit) {
+    if ('0' <= digit && digit <= '9') return digit - '0';
+    if ('a' <= digit && digit <= 'f') return digit - 'a' + 10;
+    if ('A' <= digit && digit <= 'F') return digit - 'A' + 10;
+    return -1;
+}
+
+/* Reads pairs of hexadecimal digits as the event's octets. Returns 0 where the words are anything else. */
+static int read_octets(const char *words, struct event *event) {
+    static uint8_t octets[CONFORMANCE_LONGEST_FRAME];
+    size_t length = strlen(words), place;
+    if (length % 2 != 0 || length / 2 > sizeof octets) return 0;
+    for (place = 0; place < length; place += 2) {
+        int high = digit_of(words[place]), low = digit_of(words[place + 1]);
+        if (high < 0 || low < 0) return 0;
+        octets[place / 2] = (uint8_t)(16 * high + low);
+    }
+    event->octets = octets;
+    event->length = length / 2;
+    return 1;
+}
+
+/* Reads 16 digits, input 0 in the lowest bit of the first octet. */
+static int read_levels(const char *words, struct event *event) {
+    int octet;
+    if (!read_octets(words, event) || event->length != 8) return 0;
+    for (octet = 7; octet >= 0; octet--) event->inputs = event->inputs << 8 | event->octets[octet];
+    event->length = 0;
+    return 1;
+}
+
+/* The rest of a line after these words, NULL where it begins otherwise. */
+static const char *after(const char *line, const char *words) {
+    size_t length = strlen(words);
+    return strncmp(line, words, length) == 0 ? line + length : NULL;
+}
+
+/* A delivery is that of the frame that was sent last, or of one of the last answers. */
+static int read_delivery(const char *line, const struct link *link, struct event *event) {
+    unsigned long number;
+    char end;
+    if (sscanf(line, "to-module %lu%c", &number, &end) == 1) {
+        event->kind = EVENT_DELIVER;
+        return number > 0 && number == link->sent;
+    }
+    if (sscanf(line, "to-cpu %lu%c", &number, &end) != 1 || number > link->answered) return 0;
+    event->kind = EVENT_ANSWER;
+    event->back = (unsigned)(link->answered - number);
+    return number > 0 && conformance_link_answer(link, event) == number;
+}
+
+/* Reads the line of an event. Returns 0 where it is of no form. */
+static int read_event(const char *line, const struct link *link, struct event *event) {
+    static const struct {
+        const char *words;
+        enum event_kind kind;
+    } forms[] = {{"sync", EVENT_SYNC},  {"restart", EVENT_RESTART}, {"poll", EVENT_POLL}, {"send ", EVENT_COMMAND},
+                 {"scan ", EVENT_SCAN}, {TO_MODULE, EVENT_FRAME},   {TO_CPU, EVENT_HEAR}};
+    size_t place;
+    for (place = 0; place < sizeof forms / sizeof forms[0]; place++) {
+        const char *rest = after(line, forms[place].words);
+        if (rest == NULL) continue;
+        event->kind = forms[place].kind;
+        if (event->kind == EVENT_SCAN) return read_levels(rest, event);
+        return place < 3 ? *rest == '\0' : read_octets(rest, event);
+    }
+    return read_delivery(line, link, event);
+}
+
+/* Reads the header. Returns 0 where the line is none. */
+static int read_header(const char *line, struct script *script) {
+    unsigned version, id, number, per_block = FIO2070_MOST_ENTRIES, waiting = FIO2070_MOST_WAITING;
+    int count = sscanf(line, "fio2070 script %u %u %u %u %u", &version, &id, &number, &per_block, &waiting);
+    if (count < 3 || (version == 3 ? count != 5 : count != 3)) return 0;
+    if (id > 255 || number > 255 || per_block == 0 || per_block > 255 || waiting != FIO2070_MOST_WAITING) return 0;
+    script->id = (uint8_t)id;
+    script->number = (uint8_t)number;
+    script->per_block = (uint8_t)per_block;
+    return 1;
+}
+
+static int is_remark(const char *line) {
+    return *line == '\0' || (*line == '#' && after(line, TO_MODULE) == NULL && after(line, TO_CPU) == NULL);
+}
+
+/* Adds the event of a line. Returns 0 where it is of no form, or one too many. */
+static int add_line(struct script *script, const char *line, const struct link *link) {
+    struct event event;
+    memset(&event, 0, sizeof event);
+    return read_event(line, link, &event) && conformance_add(script, &event) != NULL;
+}
+
+unsigned long conformance_read(struct script *script, FILE *in) {
+    static char line[2 * CONFORMANCE_LONGEST_FRAME + 64];
+    static struct link link;
+    static struct difference ignored;
+    struct ends none;
+    unsigned long number = 0;
+    int has_header = 0;
+    memset(&none, 0, sizeof none);
+    conformance_clear(script);
+    while (fgets(line, sizeof line, in) != NULL) {
+        number++;
+        line[strcspn(line, "\n")] = '\0';
+        if (is_remark(line)) continue;
+        if (!has_header) {
+            if (!read_header(line, script)) return number;
+            conformance_link_start(&link, &none, script);
+            has_header = 1;
+            continue;
+        }
+        if (!add_line(script, line, &link)) return number;
+        conformance_link_step(&link, &script->events[script->length - 1], &ignored);
+    }
+    return has_header ? 0 : number + 1;
+}

@@ -1,0 +1,290 @@
+/* Leaves out of a script what its difference does not need: events, items and entries, changes of inputs, and the size
+ * of its numbers. */
+#include "conformance_fresh.h"
+#include "conformance_link.h"
+
+#include <string.h>
+
+/* After so many events of trials a script is short enough. */
+enum { MOST_TRIED = 20000000 };
+
+/* A script that is shrunk, and the one that is tried in its place. */
+struct shrinking {
+    const struct ends *ends;
+    struct fresh *fresh;
+    struct script *script;
+    unsigned long tried;
+};
+
+static struct script trial;
+
+static void begin_trial(const struct shrinking *shrinking) { conformance_copy(&trial, shrinking->script); }
+
+/* Takes the trial in the place of the script where it shows a difference. */
+static int take_trial(struct shrinking *shrinking) {
+    static struct difference difference;
+    size_t length;
+    difference.has_failed = 0;
+    if (shrinking->tried > MOST_TRIED) return 0;
+    if (shrinking->fresh != NULL) {
+        length = conformance_fresh_compare(shrinking->fresh, shrinking->ends, &trial, &difference);
+    } else {
+        length = conformance_compare(shrinking->ends, &trial, &difference);
+    }
+    shrinking->tried += length > 0 ? length : trial.length;
+    if (difference.has_failed) shrinking->tried += MOST_TRIED;
+    if (length == 0 || difference.has_failed) return 0;
+    trial.length = length;
+    conformance_copy(shrinking->script, &trial);
+    return 1;
+}
+
+/* ---- Events ---- */
+
+/* Keeps the last events alone, with the CPU's number as it is before them. Returns 1 where they are enough. */
+static int begin_at(struct shrinking *shrinking, size_t first) {
+    static struct link link;
+    static struct difference ignored;
+    struct ends none;
+    size_t place;
+    memset(&none, 0, sizeof none);
+    begin_trial(shrinking);
+    conformance_link_start(&link, &none, &trial);
+    for (place = 0; place < first; place++) conformance_link_step(&link, &trial.events[place], &ignored);
+    trial.number = link.cpu.number;
+    trial.length -= first;
+    memmove(trial.events, trial.events + first, trial.length * sizeof trial.events[0]);
+    return take_trial(shrinking);
+}
+
+/* Leaves out the first events of a CPU's script. Returns 1 where some could be. */
+static int begin_later(struct shrinking *shrinking) {
+    size_t last, length = shrinking->script->length;
+    for (last = 1; last < length; last += 1 + last / 16) {
+        if (begin_at(shrinking, length - last)) return 1;
+    }
+    return 0;
+}
+
+/* Leaves out events, in runs of half the script down to one. Returns 1 where some could be. */
+static int drop_events(struct shrinking *shrinking) {
+    size_t run, first;
+    int dropped = 0;
+    for (run = shrinking->script->length / 2 + 1; run > 0; run /= 2) {
+        for (first = 0; first + run <= shrinking->script->length;) {
+            begin_trial(shrinking);
+            memmove(&trial.events[first], &trial.events[first + run],
+                    (trial.length - first - run) * sizeof trial.events[0]);
+            trial.length -= run;
+            if (take_trial(shrinking)) {
+                dropped = 1;
+            } else {
+                first += run;
+            }
+        }
+    }
+    return dropped;
+}
+
+/* ---- Inputs ---- */
+
+/* Lets a scan change all inputs, so that fewer scans give as many entries. */
+static int change_all_inputs(struct shrinking *shrinking) {
+    uint64_t levels = ~(uint64_t)0;
+    size_t place;
+    int changed = 0;
+    for (place = 0; place < shrinking->script->length; place++) {
+        if (shrinking->script->events[place].kind != EVENT_SCAN) continue;
+        levels = ~levels;
+        if (shrinking->script->events[place].inputs == levels) continue;
+        begin_trial(shrinking);
+        trial.events[place].inputs = levels;
+        changed |= take_trial(shrinking);
+        if (place < shrinking->script->length) levels = shrinking->script->events[place].inputs;
+    }
+    return changed;
+}
+
+/* Lets scans change fewer inputs: all levels 1, then half of them, down to each alone. */
+static void calm_scans(struct shrinking *shrinking) {
+    size_t place;
+    unsigned width, first;
+    for (place = 0; place < shrinking->script->length; place++) {
+        if (shrinking->script->events[place].kind != EVENT_SCAN) continue;
+        for (width = 64; width > 0; width /= 2) {
+            for (first = 0; first < 64 && place < shrinking->script->length; first += width) {
+                uint64_t mask = (width == 64 ? ~(uint64_t)0 : ((uint64_t)1 << width) - 1) << first;
+                begin_trial(shrinking);
+                trial.events[place].inputs |= mask;
+                if (trial.events[place].inputs != shrinking->script->events[place].inputs) take_trial(shrinking);
+            }
+        }
+    }
+}
+
+/* ---- Items ---- */
+
+/* Gives an event of the trial other octets. */
+static void set_octets(size_t place, const uint8_t *octets, size_t length) {
+    struct event event = trial.events[place];
+    event.octets = octets;
+    event.length = length;
+    if (conformance_add(&trial, &event) == NULL) return;
+    trial.events[place] = trial.events[--trial.length];
+}
+
+/* Where the count stands in the octets of an event: the items of a configuration, or the entries of a block, follow it.
+ * 0 where there is none. */
+static size_t count_place(const struct event *event) {
+    if (event->length > 1 && event->kind != EVENT_HEAR && event->octets[0] == FIO2070_CONFIGURE_INPUTS) return 1;
+    if (event->length > 2 && event->octets[0] == FIO2070_POLL + FIO2070_ANSWER) return 2;
+    return 0;
+}
+
+/* Leaves out some items or entries of an event. Returns 1 where it could. */
+static int drop_run(struct shrinking *shrinking, size_t place, size_t at, size_t first, size_t run) {
+    uint8_t octets[CONFORMANCE_LONGEST_FRAME];
+    uint8_t *item = octets + at + 1 + 3 * first;
+    size_t length;
+    begin_trial(shrinking);
+    length = trial.events[place].length - 3 * run;
+    memcpy(octets, trial.events[place].octets, trial.events[place].length);
+    octets[at] = (uint8_t)(octets[at] - run);
+    memmove(item, item + 3 * run, length - at - 1 - 3 * first);
+    set_octets(place, octets, length);
+    return take_trial(shrinking);
+}
+
+/* Leaves out items or entries, in runs of half of them down to one. */
+static void drop_items(struct shrinking *shrinking, size_t place) {
+    const struct script *script = shrinking->script;
+    size_t at = count_place(&script->events[place]), run, first;
+    if (at == 0) return;
+    for (run = script->events[place].octets[at] / 2u + 1; run > 0; run /= 2) {
+        for (first = 0; place < script->length && first + run <= script->events[place].octets[at];) {
+            if (script->events[place].length < at + 1 + 3u * script->events[place].octets[at]) return;
+            if (!drop_run(shrinking, place, at, first, run)) first += run;
+        }
+    }
+}
+
+/* ---- Numbers ---- */
+
+/* Tries an octet of a frame with another value. Returns 1 where it could be. */
+static int try_octet(struct shrinking *shrinking, size_t place, size_t octet, uint8_t value) {
+    uint8_t octets[CONFORMANCE_LONGEST_FRAME];
+    begin_trial(shrinking);
+    memcpy(octets, trial.events[place].octets, trial.events[place].length);
+    octets[octet] = value;
+    set_octets(place, octets, trial.events[place].length);
+    return take_trial(shrinking);
+}
+
+/* Makes an octet of a frame as small as it may be, but no smaller than this. */
+static void lower_octet(struct shrinking *shrinking, size_t place, size_t octet, uint8_t low) {
+    const struct script *script = shrinking->script;
+    if (script->events[place].octets[octet] == low || try_octet(shrinking, place, octet, low)) return;
+    while (place < script->length && script->events[place].octets[octet] > low + 1) {
+        uint8_t middle = (uint8_t)(low + (script->events[place].octets[octet] - low) / 2);
+        if (!try_octet(shrinking, place, octet, middle)) low = middle;
+    }
+}
+
+/* Filters of 1, where they are enough, and inputs that are reported; of one item the lowest input. */
+static void lower_items(struct shrinking *shrinking, size_t place) {
+    const struct script *script = shrinking->script;
+    size_t octet, count = script->events[place].octets[1];
+    for (octet = 2; place < script->length && octet < script->events[place].length; octet++) {
+        uint8_t item = script->events[place].octets[octet];
+        if (octet % 3 != 2) {
+            lower_octet(shrinking, place, octet, 1);
+        } else if (count == 1) {
+            lower_octet(shrinking, place, octet, 0);
+        } else if (item > 127) {
+            try_octet(shrinking, place, octet, item & 127);
+        }
+    }
+}
+
+/* Loads the last number, so that fewer scans go round. */
+static void raise_load(struct shrinking *shrinking, size_t place) {
+    static const uint8_t last[] = {FIO2070_LOAD_COUNTER, 255, 255, 255, 255};
+    const struct event *event = &shrinking->script->events[place];
+    if (event->length != sizeof last || event->octets[0] != FIO2070_LOAD_COUNTER) return;
+    begin_trial(shrinking);
+    set_octets(place, last, sizeof last);
+    take_trial(shrinking);
+}
+
+/* Cuts a body, and lowers the numbers of a frame. */
+static void lower_frame(struct shrinking *shrinking, size_t place) {
+    const struct script *script = shrinking->script;
+    size_t octet, length;
+    if (count_place(&script->events[place]) == 1) {
+        lower_items(shrinking, place);
+        return;
+    }
+    for (length = 1; place < script->length && length < script->events[place].length; length *= 2) {
+        begin_trial(shrinking);
+        trial.events[place].length = length;
+        if (take_trial(shrinking)) break;
+    }
+    for (octet = 1; octet < 64 && place < script->length && octet < script->events[place].length; octet++) {
+        lower_octet(shrinking, place, octet, 0);
+    }
+}
+
+/* Takes so much off the numbers of all polls and blocks. */
+static void shift_numbers(struct shrinking *shrinking, uint8_t shift) {
+    uint8_t octets[CONFORMANCE_LONGEST_FRAME];
+    size_t place;
+    if (shift == 0) return;
+    begin_trial(shrinking);
+    for (place = 0; place < trial.length; place++) {
+        const struct event *event = &trial.events[place];
+        int is_poll = event->kind == EVENT_FRAME && event->length == 2 && event->octets[0] == FIO2070_POLL;
+        int is_block =
+            event->kind == EVENT_HEAR && event->length > 1 && event->octets[0] == FIO2070_POLL + FIO2070_ANSWER;
+        if (!is_poll && !is_block) continue;
+        memcpy(octets, event->octets, event->length);
+        octets[1] = (uint8_t)(octets[1] - shift);
+        set_octets(place, octets, event->length);
+    }
+    trial.number = (uint8_t)(trial.number - shift);
+    take_trial(shrinking);
+}
+
+static uint8_t first_number(const struct shrinking *shrinking) {
+    const struct script *script = shrinking->script;
+    size_t place;
+    if (shrinking->ends->cpu != NULL) return script->number;
+    for (place = 0; place < script->length; place++) {
+        const struct event *event = &script->events[place];
+        if (event->kind == EVENT_FRAME && event->length == 2 && event->octets[0] == FIO2070_POLL) {
+            return event->octets[1];
+        }
+    }
+    return 0;
+}
+
+static int has_octets(const struct event *event) {
+    return event->kind == EVENT_FRAME || event->kind == EVENT_COMMAND || event->kind == EVENT_HEAR;
+}
+
+void conformance_shrink(const struct ends *ends, struct fresh *fresh, struct script *script) {
+    struct shrinking shrinking = {ends, fresh, script, 0};
+    size_t place;
+    while ((ends->cpu != NULL && begin_later(&shrinking)) || drop_events(&shrinking) || change_all_inputs(&shrinking)) {
+    }
+    for (place = 0; place < script->length; place++) {
+        if (has_octets(&script->events[place])) raise_load(&shrinking, place);
+    }
+    drop_events(&shrinking);
+    for (place = 0; place < script->length; place++) drop_items(&shrinking, place);
+    calm_scans(&shrinking);
+    shift_numbers(&shrinking, first_number(&shrinking));
+    for (place = 0; place < script->length; place++) {
+        if (has_octets(&script->events[place])) lower_frame(&shrinking, place);
+    }
+    drop_events(&shrinking);
+}

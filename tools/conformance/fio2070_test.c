@@ -1,0 +1,85 @@
+/* The command fio2070-test: holds a module that is asked by lines against the proved one. */
+#include "conformance_wire.h"
+
+#include <stdlib.h>
+#include <string.h>
+
+static const char HELP[] =
+    "Usage: fio2070-test [--id N] [--per-block N] [--deadline MS] WIRE [WORD..]\n"
+    "\n"
+    "Holds a module against the proved one, by random scripts. It is asked by lines, each of which it answers with one:\n"
+    "  reset          done          as after power on\n"
+    "  inputs H16     done          the levels of the 64 inputs, and one step of a millisecond\n"
+    "  sync           done          LINESYNC goes from 0 to 1\n"
+    "  frame HEX      answer HEX    or none; HEX may have no digits\n"
+    "\n"
+    "WIRE is one of these:\n"
+    "  --command LINE      a program that reads and writes the lines, as sh begins it\n"
+    "  --serial DEVICE     a serial adapter, with the speed that it has\n"
+    "  --socket HOST:PORT  a stream\n"
+    "\n"
+    "  --id N          the octet that it answers to command 60, 2 if not given\n"
+    "  --per-block N   the most entries of its blocks, 255 if not given\n"
+    "  --deadline MS   for each line of the module, 2000 if not given\n"
+    "\n"
+    "Each other WORD is the tester's: fio2070-test WIRE --help writes them.\n";
+
+/* What comes before the words of the tester. */
+struct setup {
+    struct wire wire;
+    int id, per_block, is_open;
+    const char *opened;
+};
+
+/* Reads an option and its word. Returns 0 where it is none of these. */
+static int read_option(struct setup *setup, const char *name, const char *word) {
+    if (strcmp(name, "--id") == 0) {
+        setup->id = atoi(word);
+    } else if (strcmp(name, "--per-block") == 0) {
+        setup->per_block = atoi(word);
+    } else if (strcmp(name, "--deadline") == 0) {
+        setup->wire.deadline_ms = atoi(word);
+    } else if (strcmp(name, "--command") == 0) {
+        setup->is_open = conformance_wire_command(&setup->wire, setup->opened = word);
+    } else if (strcmp(name, "--serial") == 0) {
+        setup->is_open = conformance_wire_serial(&setup->wire, setup->opened = word);
+    } else if (strcmp(name, "--socket") == 0) {
+        setup->is_open = conformance_wire_socket(&setup->wire, setup->opened = word);
+    } else {
+        return 0;
+    }
+    return 1;
+}
+
+static int run(struct setup *setup, int count, char **words) {
+    struct maker maker;
+    struct ends ends;
+    int status;
+    conformance_wire_maker(&setup->wire, (uint8_t)setup->id, (uint8_t)setup->per_block, &maker);
+    memset(&ends, 0, sizeof ends);
+    ends.module = &maker;
+    status = conformance_words(&ends, 1, count, words);
+    if (setup->wire.has_failed) printf("%s: %s\n", setup->opened, setup->wire.fault);
+    conformance_wire_close(&setup->wire);
+    return status;
+}
+
+int main(int count, char **words) {
+    static struct setup setup;
+    int place = 1;
+    setup.id = 2;
+    setup.per_block = FIO2070_MOST_ENTRIES;
+    setup.wire.deadline_ms = 2000;
+    setvbuf(stdout, NULL, _IOLBF, 0);
+    while (setup.opened == NULL && place + 1 < count && read_option(&setup, words[place], words[place + 1])) place += 2;
+    if (setup.opened == NULL) {
+        fputs(HELP, stdout);
+        return count == 2 && strcmp(words[1], "--help") == 0 ? 0 : 2;
+    }
+    if (!setup.is_open || setup.id < 0 || setup.id > 255 || setup.per_block < 1 || setup.per_block > 255) {
+        printf(setup.is_open ? "a number is out of its range\n" : "can't open %s\n", setup.opened);
+        return 2;
+    }
+    words[place - 1] = words[0];
+    return run(&setup, count - place + 1, words + place - 1);
+}

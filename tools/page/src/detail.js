@@ -1,0 +1,85 @@
+// One message whole: its words and octets, with what belongs together marked under the pointer and under the keys.
+
+import { element } from './dom.js';
+import { fieldsOf, wordsIn } from './fields.js';
+import { hexText } from './hex.js';
+import { DIRECTION } from './messagelist.js';
+
+const WAYS = { [DIRECTION.none]: 'no direction', [DIRECTION.sent]: 'sent by the CPU', [DIRECTION.heard]: 'heard by the CPU' };
+const LONGEST = 4096;
+
+// Marks the words and the octets of the same field.
+class Fields {
+  constructor(octets, words, fields) {
+    Object.assign(this, { octets, words, fields });
+    octets.forEach((it, place) => this.follow(it, () => this.mark(fields[place])));
+    words.forEach((it, place) => this.follow(it, () => this.mark([place])));
+  }
+
+  follow(it, mark) {
+    it.addEventListener('pointerenter', mark);
+    it.addEventListener('focus', mark);
+    it.addEventListener('pointerleave', () => this.mark([]));
+    it.addEventListener('blur', () => this.mark([]));
+  }
+
+  mark(places) {
+    this.words.forEach((it, place) => it.classList.toggle('is-marked', places.includes(place)));
+    this.octets.forEach((it, place) =>
+      it.classList.toggle('is-marked', this.fields[place].some((field) => places.includes(field))));
+  }
+}
+
+// The name of a word: the word before it, as in `block 5`.
+const nameOf = (all, place) => place % 2 === 0 || place === 0 ? all[place].word : all[place - 1].word + ' ' + all[place].word;
+
+function linesWith(lines, spans) {
+  const list = element('ol', { 'aria-label': 'Words' });
+  let place = 0;
+  for (const line of lines) {
+    const item = element('li');
+    item.append(/^ */.exec(line)[0]);
+    line.trim().split(' ').forEach((_, index) => item.append(...(index ? [' '] : []), spans[place++]));
+    list.append(item);
+  }
+  return list;
+}
+
+// The element of a message of a log.
+export function detailOf(log, place, textOf) {
+  const head = element('h2', {}, `Line ${log.lines[place]}`);
+  const way = element('p', { class: 'soft' }, WAYS[log.directions[place]] + timesOf(log, place));
+  const reason = log.reason(place) ? element('p', { class: 'reason' }, 'Breaks ' + log.reason(place)) : null;
+  const lines = log.words(place), octets = log.octets(place).slice(0, LONGEST);
+  const all = wordsIn(lines);
+  const isMessage = !log.isFaulty[place];
+  const fields = isMessage ? fieldsOf(octets, lines, textOf) : Array.from(octets, () => []);
+  const wordSpans = all.map((it) => element('span', {}, it.word));
+  const octetSpans = Array.from(octets, (octet, index) => element('span', {
+    tabindex: index === 0 ? '0' : '-1',
+    title: fields[index].map((field) => nameOf(all, field)).join(', '),
+  }, hexText([octet])));
+  if (isMessage) new Fields(octetSpans, wordSpans, fields);
+  const grid = element('div', { class: 'grid', role: 'group', 'aria-label': 'Octets', onkeydown: (event) => step(event, octetSpans) },
+    ...octetSpans.flatMap((it) => [it, '\u200b']));
+  return element('div', {}, head, way, reason, linesWith(lines, wordSpans), grid);
+}
+
+// The keys left and right go from octet to octet.
+function step(event, spans) {
+  const by = { ArrowRight: 1, ArrowLeft: -1 }[event.key];
+  const next = spans[spans.indexOf(event.target) + (by || 0)];
+  if (!by || !next) return;
+  event.preventDefault();
+  next.tabIndex = 0;
+  event.target.tabIndex = -1;
+  next.focus();
+}
+
+// The time of a message, and how long after the command above it came.
+function timesOf(log, place) {
+  if (!log.hasTimes || Number.isNaN(log.times[place])) return '';
+  const text = `, at ${log.clocks[place]}`;
+  const isAnswer = place > 0 && log.directions[place] === DIRECTION.heard && log.directions[place - 1] === DIRECTION.sent;
+  return isAnswer ? text + `, ${((log.times[place] - log.times[place - 1]) * 1000).toFixed(3)} ms after the command` : text;
+}

@@ -1,0 +1,140 @@
+// The view Inputs: the record of the log that is open as waveforms, moved by wheel, keys and touch.
+
+import { counted, element, say } from './dom.js';
+import { Waves } from './waves.js';
+
+const HELP = 'Wheel or + and − zoom, dragging or ← → move, ↑ ↓ choose an input, . and , its next and last transition, Enter goes to its message, 0 shows all.';
+const LEGEND = [['×', 'warn', 'a poll without an answer'], ['↷', 'bad', 'a block that the CPU left out'],
+  ['▨', 'bad', 'a gap mark: entries are missing']];
+
+export class InputsView {
+  // `goTo(place)` shows a message.
+  constructor(root, goTo) {
+    this.goTo = goTo;
+    this.note = element('p', { id: 'record-note' }, 'No log is open. Open one, or an example.');
+    this.reading = element('p', { class: 'mono', id: 'reading', role: 'status' });
+    this.canvas = element('canvas', { class: 'waves', id: 'waves', tabindex: '0', role: 'img', 'aria-label': 'Waveforms',
+      'aria-describedby': 'waves-help' });
+    this.head = element('canvas', { class: 'axis', role: 'presentation' });
+    this.waves = new Waves(this.head, this.canvas);
+    this.buttons = element('div', { class: 'row controls' },
+      this.button('Zoom in', () => this.waves.zoom(0.5)), this.button('Zoom out', () => this.waves.zoom(2)),
+      this.button('◀ Back', () => this.waves.pan(-0.4)), this.button('On ▶', () => this.waves.pan(0.4)),
+      this.button('All', () => this.waves.fit()));
+    root.append(this.note, this.buttons, this.reading, element('div', { class: 'wave-box' }, this.head, this.canvas),
+      element('p', { class: 'soft' }, ...LEGEND.flatMap(([sign, kind, words]) =>
+        [element('span', { class: kind }, sign), ` ${words}   `])),
+      element('p', { class: 'soft', id: 'waves-help' }, HELP));
+    this.listen();
+    this.setHidden(true);
+  }
+
+  button(words, act) {
+    return element('button', { onclick: () => { act(); this.draw(); } }, words);
+  }
+
+  setHidden(isHidden) {
+    this.buttons.hidden = this.canvas.parentElement.hidden = isHidden;
+  }
+
+  open(log) {
+    const { record } = this.log = log;
+    this.waves.open(record);
+    this.setHidden(record.times.length === 0);
+    this.note.textContent = record.times.length === 0 ? 'This log has no block with entries that a CPU would take.'
+      : `The record of a CPU that heard this log, by the proved poller: `
+        + [counted(record.times.length, 'transition'), counted(this.waves.lanes.length, 'input'),
+          counted(record.gaps.length, 'gap mark'), counted(record.lostPolls.length, 'unanswered poll')].join(', ')
+        + `. Times are milliseconds of the module’s counter.`;
+    this.canvas.setAttribute('aria-label', 'Waveforms of ' + this.note.textContent);
+    this.reading.textContent = '';
+    this.draw();
+  }
+
+  draw() {
+    if (this.log && this.canvas.clientWidth > 0) this.waves.draw();
+  }
+
+  listen() {
+    const { canvas, waves } = this;
+    new ResizeObserver(() => this.draw()).observe(canvas);
+    new MutationObserver(() => this.draw()).observe(document.documentElement, { attributeFilter: ['data-theme'] });
+    canvas.addEventListener('wheel', (event) => this.wheel(event), { passive: false });
+    canvas.addEventListener('keydown', (event) => this.key(event));
+    canvas.addEventListener('click', (event) => this.click(event));
+    canvas.addEventListener('dblclick', () => this.selectedMessage());
+    this.pointers = new Map();
+    canvas.addEventListener('pointerdown', (event) => {
+      this.pointers.set(event.pointerId, event.offsetX);
+      this.moved = 0;
+      canvas.setPointerCapture(event.pointerId);
+    });
+    canvas.addEventListener('pointermove', (event) => this.drag(event, waves));
+    ['pointerup', 'pointercancel'].forEach((name) =>
+      canvas.addEventListener(name, (event) => this.pointers.delete(event.pointerId)));
+  }
+
+  wheel(event) {
+    if (event.shiftKey) this.waves.pan(event.deltaY / 1000);
+    else this.waves.zoom(1.0015 ** event.deltaY, this.waves.timeAt(event.offsetX));
+    event.preventDefault();
+    this.draw();
+  }
+
+  // One pointer moves the times, two widen them.
+  drag(event, waves) {
+    if (!this.pointers.has(event.pointerId)) return;
+    const before = [...this.pointers.values()];
+    this.moved += Math.abs(event.offsetX - this.pointers.get(event.pointerId));
+    this.pointers.set(event.pointerId, event.offsetX);
+    const after = [...this.pointers.values()];
+    if (after.length === 1) {
+      waves.pan((before[0] - after[0]) / (waves.width || 1));
+    } else {
+      const apart = Math.abs(after[0] - after[1]) || 1;
+      waves.zoom(Math.abs(before[0] - before[1]) / apart || 1, waves.timeAt((after[0] + after[1]) / 2));
+    }
+    this.draw();
+  }
+
+  click(event) {
+    if (this.moved > 4) return;
+    const found = this.waves.nearest(event.offsetX, event.offsetY);
+    if (found) this.select(found);
+  }
+
+  select(found) {
+    const { waves } = this;
+    waves.selected = found;
+    const lane = waves.lanes[found.lane];
+    const time = lane.times[found.index];
+    if (time < waves.from || time > waves.to) waves.pan((time - (waves.from + waves.to) / 2) / (waves.to - waves.from));
+    const place = this.log.record.places[lane.indexes[found.index]];
+    this.reading.replaceChildren(`input ${lane.input} state ${lane.states[found.index]} at ${time} ms `,
+      element('button', { id: 'to-message', onclick: () => this.goTo(place) }, `Line ${this.log.lines[place]}`));
+    say(`input ${lane.input} becomes ${lane.states[found.index]} at ${time} milliseconds`);
+    this.draw();
+  }
+
+  selectedMessage() {
+    const { lane, index } = this.waves.selected;
+    if (index >= 0) this.goTo(this.log.record.places[this.waves.lanes[lane].indexes[index]]);
+  }
+
+  key(event) {
+    const { waves } = this;
+    const { lane, index } = waves.selected;
+    const last = (row) => waves.lanes[row].times.length - 1;
+    const step = (row, to) => row in waves.lanes && this.select({ lane: row, index: Math.max(0, Math.min(to, last(row))) });
+    const acts = {
+      '+': () => waves.zoom(0.5), '=': () => waves.zoom(0.5), '-': () => waves.zoom(2), ArrowLeft: () => waves.pan(-0.1),
+      ArrowRight: () => waves.pan(0.1), 0: () => waves.fit(), '.': () => step(lane, index + 1), ',': () => step(lane, index - 1),
+      ArrowDown: () => step(lane + (index < 0 ? 0 : 1), Math.max(index, 0)), ArrowUp: () => step(lane - 1, Math.max(index, 0)),
+      Enter: () => this.selectedMessage(),
+    };
+    if (!(event.key in acts) || event.ctrlKey || event.metaKey || event.altKey) return;
+    event.preventDefault();
+    acts[event.key]();
+    this.draw();
+  }
+}

@@ -1,0 +1,90 @@
+// Starts the library and the views, and says so where this browser can't.
+
+import { byId } from './dom.js';
+import { InputsView } from './inputs.js';
+import { Judge } from './judge.js';
+import { Library } from './library.js';
+import { Log } from './log.js';
+import { startMachine } from './machine.js';
+import { MessagesView } from './messages.js';
+import { OpenView } from './open.js';
+import { Patterns } from './patterns.js';
+import { PlanView } from './plan.js';
+import { PlayView } from './play.js';
+import { readLog, textOf } from './reader.js';
+import { Tabs } from './tabs.js';
+import { wordsOf } from './words.js';
+
+// What the log that is open needs in the machine's memory: its octets, and a poller.
+class Arena {
+  constructor(library) {
+    Object.assign(this, { machine: library.machine, address: 0, size: 0, poller: library.poller(0), checker: library.checker() });
+  }
+
+  hold(octets) {
+    if (octets.length > this.size) {
+      this.address = this.machine.reserve(octets.length);
+      this.size = octets.length;
+    }
+    this.machine.octets(this.address, octets.length).set(octets);
+    return this.address;
+  }
+}
+
+function trouble(text) {
+  byId('trouble').textContent = text;
+  byId('trouble').hidden = text === '';
+}
+
+function useTheme() {
+  const dark = matchMedia('(prefers-color-scheme: dark)');
+  const set = (isDark) => { document.documentElement.dataset.theme = isDark ? 'dark' : 'light'; };
+  set(dark.matches);
+  dark.addEventListener('change', () => set(dark.matches));
+  byId('theme').addEventListener('click', () => set(document.documentElement.dataset.theme !== 'dark'));
+}
+
+function startViews(library) {
+  const arena = new Arena(library);
+  const patterns = new Patterns(FORMS), judge = new Judge(library);
+  const tabs = new Tabs();
+  const messages = new MessagesView(byId('view-messages'), (octets) => wordsOf(library, library.place(octets), octets.length));
+  const inputs = new InputsView(byId('view-inputs'), (place) => {
+    tabs.show('messages');
+    messages.goTo(place);
+  });
+  tabs.whenShown((name) => name === 'inputs' && inputs.draw());
+  const open = (name, octets, end) => {
+    trouble('');
+    const log = new Log(library, arena, name, readLog(textOf(octets), patterns, judge), end);
+    tabs.show('messages');
+    messages.open(log);
+    inputs.open(log);
+    document.documentElement.dataset.opened = name;
+  };
+  new OpenView(byId('view-open'), EXAMPLES, open);
+  new PlanView(byId('view-plan'));
+  const play = new PlayView(byId('view-play'), library, EXAMPLES);
+  if (play.openFragment(location.hash)) tabs.show('play');
+}
+
+async function start() {
+  useTheme();
+  window.addEventListener('error', (event) => trouble(event.message));
+  window.addEventListener('unhandledrejection', (event) => trouble(event.reason.message));
+  const bits = new URLSearchParams(location.search).get('bits');
+  let machine;
+  try {
+    machine = await startMachine(BUILDS.filter((build) => bits === null || build.bits === Number(bits)));
+  } catch (reason) {
+    byId('trouble').append(` (${reason.message})`);
+    return;
+  }
+  if (machine.build.bits === 32) byId('lowered').textContent = ', wasm-opt, which lowered it to 32-bit addresses,';
+  trouble('');
+  startViews(new Library(machine));
+  document.documentElement.dataset.bits = String(machine.build.bits);
+  document.documentElement.dataset.rules = String(machine.has('fio2070_checker_start'));
+}
+
+start();

@@ -1,0 +1,125 @@
+// Octets as logs write them: digits with all kinds of signs between, numbers, and string literals.
+
+import { fromHex } from './hex.js';
+import { matchAt } from './patterns.js';
+
+const MARK = /0x|[^0-9a-f]+/i;
+const PAIRS = { '[': ']', '{': '}', '(': ')', '<': '>', '"': '"', "'": "'" };
+const SPLIT = /[ \t]{2,}|\t|[ \t]*\||[ \t]+(?=["'<[(:])/g;
+const QUOTED = /(\b(?:b|rb|br|u8))?(["'])((?:[^"'\\]|\\.|(?!\2)["'])*)\2/g;
+const LISTED = /\{([^{}]*)\}|\[([^[\]]*)\]|\(([^()]*)\)/g;
+const COMMENT = /\/\*.*?\*\/|\/\/.*$/g;
+const ESCAPE = /\\(?:x([0-9a-fA-F]{1,2})|([0-7]{1,3})|([^]))/g;
+const ESCAPED = { n: '\n', r: '\r', t: '\t', a: '\x07', b: '\b', f: '\f', v: '\v', e: '\x1b' };
+const NUMBERS = /^(?:\(\w+\)\s*)?(?:0x[0-9a-f]{1,2}u?|\d{1,3})(?:[\s,;]+(?:\(\w+\)\s*)?(?:0x[0-9a-f]{1,2}u?|\d{1,3}))*$/i;
+
+// How many places of a line are tried, at most, for a column of characters and for quotes and brackets.
+const MOST_TRIED = 40;
+
+// The first matches of a pattern.
+function firstMatches(text, pattern) {
+  const found = [];
+  for (const match of text.matchAll(pattern)) {
+    if (found.push(match) === MOST_TRIED) break;
+  }
+  return found;
+}
+
+// The octets of a list of hexadecimal words.
+export function fromDigits(text) {
+  return fromHex(text.split(MARK).map((digits) => digits.length === 1 ? '0' + digits : digits).join(''));
+}
+
+const fromNumbers = (numbers) => numbers.length > 0 && numbers.every((it) => it < 256) ? Uint8Array.from(numbers) : null;
+
+// Whether nothing but a remark, a count or an ending is left behind a place.
+function isTail(patterns, text, place) {
+  while (text.slice(place).trim() !== '') {
+    const found = patterns.tails.map((tail) => matchAt(tail, text, place)).find((tail) => tail && tail[0] !== '');
+    if (!found) return false;
+    place += found[0].length;
+  }
+  return true;
+}
+
+// Whether a column of characters is that of the octets.
+function shows(column, octets) {
+  if (column === '' || column.length > octets.length) return false;
+  return octets.every((octet, place) => {
+    const shown = column[place] ?? ' ';
+    if (octet >= 0x21 && octet <= 0x7e) return shown === String.fromCharCode(octet);
+    return octet > 0x20 || !/[0-9a-z]/i.test(shown);
+  });
+}
+
+// The octets before a column of their characters; null where there is no such column.
+function withColumn(patterns, text) {
+  for (const split of [...text.matchAll(SPLIT)].slice(-MOST_TRIED)) {
+    const left = text.slice(0, split.index), right = text.slice(split.index + split[0].length);
+    if (!patterns.wholeList.test(left.trim())) continue;
+    const octets = fromDigits(left);
+    if ([right, right.slice(0, -1), right.slice(1, -1), right.slice(1)].some((column) => shows(column, octets))) return octets;
+  }
+  return null;
+}
+
+// The list of octets that a text is but for its tail; null where it is none.
+function listIn(patterns, text) {
+  const list = matchAt(patterns.list, text, 0);
+  return list && isTail(patterns, text, list[0].length) ? list[0] : null;
+}
+
+// The text between brackets or quotes around all of it.
+function inside(text) {
+  let found = text;
+  while (found.length > 1 && PAIRS[found[0]] === found[found.length - 1]) found = found.slice(1, -1).trim();
+  return found;
+}
+
+// How a text may be octets and nothing more but a tail: the notation and the octets.
+export function readings(patterns, text) {
+  const found = [];
+  const column = /[ \t|]/.test(text) ? withColumn(patterns, text) : null;
+  if (patterns.plain.test(text)) {
+    found.push(['hex', fromHex(text.replace(/ /g, ''))]);
+    if (column) found.push(['column', column]);
+    return found;
+  }
+  const inner = inside(text);
+  const digits = listIn(patterns, text) || listIn(patterns, inner);
+  if (digits) found.push(['hex', fromDigits(digits)]);
+  else if (patterns.single.test(inner)) found.push(['digits', fromDigits(inner)]);
+  if (column) found.push(['column', column]);
+  if (patterns.decimal.test(text) || patterns.decimal.test(inner)) {
+    const numbers = fromNumbers(inner.match(/\d+/g).map(Number));
+    if (numbers) found.push(['decimal', numbers]);
+  }
+  return found;
+}
+
+// The octets of a string literal of C, Python or a shell; null where a character is above 255.
+function fromLiteral(text) {
+  const plain = text.replace(ESCAPE, (_, hex, octal, letter) => {
+    if (hex) return String.fromCharCode(parseInt(hex, 16));
+    return octal ? String.fromCharCode(parseInt(octal, 8) & 255) : ESCAPED[letter] ?? letter;
+  });
+  return fromNumbers(Array.from(plain, (letter) => letter.codePointAt(0)));
+}
+
+// Octets in quotes, braces or brackets anywhere in a line: where they begin, and each way to read them.
+export function delimited(patterns, text) {
+  const found = [];
+  const add = (start, octets) => octets && octets.length > 0 && found.push({ start, octets });
+  for (const { index, 1: prefix, 3: quoted } of firstMatches(text, QUOTED)) {
+    if (!prefix && patterns.wholeList.test(quoted.trim()) && !quoted.includes('\\')) add(index, fromDigits(quoted));
+    add(index, fromLiteral(quoted));
+  }
+  for (const { index, 1: braces, 2: brackets, 3: rounds } of firstMatches(text, LISTED)) {
+    // Brackets behind a name have the length of an array.
+    if (brackets !== undefined && /\w[ \t]*$/.test(text.slice(0, index))) continue;
+    const inner = (braces ?? brackets ?? rounds).replace(COMMENT, ' ').replace(/^[\s,;]+|[\s,;]+$/g, '');
+    if (NUMBERS.test(inner)) add(index, fromNumbers((inner.replace(/\(\w+\)/g, '').match(/0x[0-9a-f]+|\b\d+/gi) || []).map(Number)));
+    if (patterns.wholeList.test(inner)) add(index, fromDigits(inner));
+  }
+  return found;
+}

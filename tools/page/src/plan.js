@@ -1,0 +1,89 @@
+// The view Plan: how often to poll, how late a transition can be, how long an outage may last.
+
+import { counted, element, labelled, withCommas } from './dom.js';
+import { longestPace, planOf, rowOf } from './planning.js';
+
+const SLIDERS = [
+  ['inputs', 'open inputs', 1, 64, 64],
+  ['filter', 'smallest filter in samples', 1, 255, 5],
+  ['pace', 'a round every so many ms', 1, 255, 19],
+  ['lost', 'rounds lost in a row', 0, 8, 0],
+  ['outage', 'an outage of so many ms', 0, 3000, 80],
+];
+const HEADS = ['Open inputs', 'Filter', 'Poll every', 'Waiting', 'Late', 'Waiting, answers lost', 'Late, answers lost',
+  'Outage, 1,024 wait', 'Outage, 8,192 wait'];
+
+export class PlanView {
+  constructor(root) {
+    this.chosen = { waiting: 1024 };
+    this.sliders = SLIDERS.map((slider) => this.slider(...slider));
+    this.answers = element('tbody');
+    this.row = element('tr', { id: 'plan-row' });
+    this.verdict = element('p', { id: 'plan-verdict', role: 'status' });
+    const waiting = element('select', { id: 'plan-waiting', onchange: () => this.choose('waiting', Number(waiting.value)) },
+      element('option', { value: '1024' }, '1,024'), element('option', { value: '8192' }, '8,192'));
+    root.append(element('div', { class: 'plan' },
+      element('form', { class: 'sliders', onsubmit: (event) => event.preventDefault() }, ...this.sliders,
+        labelled('entries that may wait', waiting)),
+      element('div', {}, this.verdict,
+        element('table', { class: 'answers' }, element('thead', {}, headRow(['What', 'Number', 'Why'])), this.answers))),
+    element('h2', {}, 'The row of the planning table'),
+    element('div', { class: 'scrolled' },
+      element('table', { class: 'answers' }, element('thead', {}, headRow(HEADS)), element('tbody', {}, this.row))),
+    element('p', { class: 'soft' }, 'A scan comes once a millisecond. A clean round is a poll that reaches the module and its answer '
+      + 'that reaches the CPU before the CPU polls again, with nothing but scans between. The numbers hold from a time on at which '
+      + 'the CPU has taken every block and nothing waits, until the next configuration, load of the counter or restart. '
+      + 'The clauses are proved; these formulas restate docs/PLANNING.md.'));
+    this.draw();
+  }
+
+  // A slider with the number beside it, which can be typed too.
+  slider(name, words, least, most, first) {
+    this.chosen[name] = first;
+    const range = element('input', { type: 'range', id: 'plan-' + name, min: String(least), max: String(most), value: String(first),
+      'aria-label': words });
+    const number = element('input', { type: 'number', min: String(least), max: String(most), value: String(first),
+      'aria-label': words + ', as a number' });
+    const take = (control, other) => control.addEventListener('input', () => {
+      const value = Math.min(most, Math.max(least, Math.round(Number(control.value) || 0)));
+      other.value = String(value);
+      this.choose(name, value);
+    });
+    take(range, number);
+    take(number, range);
+    return element('div', { class: 'slider' }, element('span', {}, words), range, number);
+  }
+
+  choose(name, value) {
+    this.chosen[name] = value;
+    this.draw();
+  }
+
+  draw() {
+    const plan = planOf(this.chosen);
+    const { inputs, filter, pace, lost, waiting, outage } = this.chosen;
+    const isGood = plan.isInTime && plan.isRiddenOut;
+    this.verdict.className = isGood ? 'good' : 'bad';
+    this.verdict.textContent = (plan.isInTime
+      ? `A round every ${pace} ms is often enough${lost ? ` with ${counted(lost, 'lost round')} in a row` : ''}: nothing is lost.`
+      : plan.startEvery > 0 ? `A round every ${pace} ms is too seldom: start one at least every ${plan.startEvery} ms.`
+        : 'No pace is often enough for so many lost rounds.')
+      + (plan.isRiddenOut ? '' : ` In an outage of ${outage} ms transitions may be lost.`);
+    const rows = [
+      ['start a round at least every', plan.startEvery + ' ms', 'k n ≤ b f: enough of IsPolledInTime' + (lost ? ', r + 1 times as often' : '')],
+      ...plan.isInTime ? [
+        ['entries that wait, at most', withCommas(plan.waits), lost ? 'rounds_keep_up of Delivers' : 'few_wait of KeepsUp'],
+        ['a transition is in a block at most', plan.late + ' ms late', 'never_late of Delivers'],
+      ] : [],
+      ['the longest outage, where nothing waits', withCommas(plan.longestOutage) + ' ms',
+        plan.hasRoom ? 'room of IsOutage, outage of Delivers' : `k (1 + (n - 1) / f) ≤ ${waiting} does not hold: not proved`],
+      [`entries that wait after ${withCommas(outage)} ms, at most`, withCommas(plan.after), 'computed, not proved'],
+      ['clean rounds until these are in the record', String(plan.caughtUpIn), 'caught_up of clean_rounds_catch_up'],
+    ];
+    this.answers.replaceChildren(...rows.map(([what, number, why]) => element('tr', {},
+      element('th', { scope: 'row' }, what), element('td', { class: 'mono' }, number), element('td', { class: 'soft' }, why))));
+    this.row.replaceChildren(...rowOf(inputs, filter).map((number) => element('td', { class: 'mono' }, withCommas(number))));
+  }
+}
+
+const headRow = (heads) => element('tr', {}, ...heads.map((head) => element('th', { scope: 'col' }, head)));

@@ -1,0 +1,39 @@
+// The formulas of docs/PLANNING.md, with the clause of each.
+
+const MOST_ENTRIES_OF_A_BLOCK = 255;
+const upTo = (number, divisor) => Math.ceil(number / divisor);
+const down = (number, divisor) => Math.floor(number / divisor);
+
+// The longest pace: a clean round at least every so many scans.
+export const longestPace = (inputs, filter) => down(MOST_ENTRIES_OF_A_BLOCK * filter, inputs);
+
+// What follows for `inputs` open inputs with filters of at least `filter`, rounds `pace` scans apart of which `lost` in a
+// row are lost, `waiting` entries that may wait, and an outage of so many scans.
+export function planOf({ inputs, filter, pace, lost, waiting, outage }) {
+  const longest = longestPace(inputs, filter);
+  const apart = pace * (lost + 1);
+  const rounds = lost > 0 ? 2 * apart : apart;
+  const after = Math.min(inputs * upTo(outage, filter), waiting);
+  return {
+    longest,
+    isInTime: apart <= longest,
+    startEvery: down(longest, lost + 1),
+    waits: down(inputs * (rounds + filter - 1), filter),
+    late: rounds + filter - 2,
+    longestOutage: filter * down(waiting, inputs),
+    hasRoom: inputs * (filter + longest - 1) <= waiting * filter,
+    after,
+    isRiddenOut: outage <= filter * down(waiting, inputs),
+    caughtUpIn: 1 + upTo(after, MOST_ENTRIES_OF_A_BLOCK),
+  };
+}
+
+// The row of docs/PLANNING.md for so many inputs and such a filter.
+export function rowOf(inputs, filter) {
+  const pace = longestPace(inputs, filter);
+  const with1024 = planOf({ inputs, filter, pace, lost: 0, waiting: 1024, outage: 0 });
+  const with8192 = planOf({ inputs, filter, pace, lost: 0, waiting: 8192, outage: 0 });
+  const lostAnswers = { waits: down(inputs * (2 * pace + filter - 1), filter), late: 2 * pace + filter - 2 };
+  return [inputs, filter, pace, with1024.waits, with1024.late, lostAnswers.waits, lostAnswers.late,
+    with1024.longestOutage, with8192.longestOutage];
+}

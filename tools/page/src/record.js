@@ -1,0 +1,83 @@
+// The record that the CPU of a log has, by the proved poller: transitions in order, and gap marks where the module said
+// that entries are missing. Times go on from one another, where the counter wraps, is loaded or starts anew.
+
+import { BLOCK, HEARD, POLL } from './library.js';
+
+const WRAP = 2 ** 32;
+
+class Record {
+  constructor() {
+    // One array for each field of a transition: its time, its input, its state, and the message that carried it.
+    this.times = [];
+    this.inputs = [];
+    this.states = [];
+    this.places = [];
+    // Stretches with entries missing, the blocks taken, polls without an answer, and polls that left a block out.
+    this.gaps = [];
+    this.blocks = [];
+    this.lostPolls = [];
+    this.skips = [];
+    this.offset = 0;
+    this.latest = 0;
+  }
+
+  // Follows the counter to the stamp of a block. A step back of more than half its range is a wrap; after any other, the
+  // counter was loaded or began anew, and times go on from the latest one.
+  follow(stamp) {
+    const back = this.latest - (stamp + this.offset);
+    if (back > 0) this.offset += back > WRAP / 2 ? WRAP : back;
+    this.latest = stamp + this.offset;
+  }
+
+  // Adds the items of a block that the poller took, which came in the message at a place.
+  add(poller, heard, place, stamp) {
+    const before = this.latest;
+    this.follow(stamp);
+    this.blocks.push({ time: this.latest, place });
+    let from = -1;
+    for (let index = 0; index < heard.items; index++) {
+      const item = poller.recordItem(index);
+      if (item.isGap) {
+        from = before;
+        continue;
+      }
+      // An entry is at most 65,536 ms older than its block.
+      const age = (stamp - item.wide) >>> 0;
+      const time = Math.max(this.latest - age, 0);
+      if (from >= 0) this.gaps.push({ from: Math.min(from, time), to: time, place });
+      from = -1;
+      this.times.push(time);
+      this.inputs.push(item.input);
+      this.states.push(item.state);
+      this.places.push(place);
+    }
+    if (from >= 0) this.gaps.push({ from, to: this.latest, place });
+  }
+}
+
+// Marks what stands between two blocks at the time of the block before it.
+const mark = (record, place) => ({ place, time: record.latest });
+
+// The record of a log. A poll that asks for the block that was taken last changes nothing: its answer is stale. One that
+// asks for any other number than the poller's own sets the poller: the CPU of the log left a block out.
+export function recordOf(log) {
+  const record = new Record(), { poller } = log;
+  let isStarted = false;
+  for (let place = 0; place < log.count; place++) {
+    const code = log.codes[place];
+    if (code !== POLL && code !== BLOCK) continue;
+    if (!isStarted) poller.number = log.blocks[place];
+    isStarted = true;
+    if (code === BLOCK) {
+      const heard = poller.hear(log.address(place), log.lengths[place]);
+      if (heard.kind === HEARD.taken) record.add(poller, heard, place, log.stamps[place]);
+      continue;
+    }
+    if (log.isUnanswered(place)) record.lostPolls.push(mark(record, place));
+    const ahead = (log.blocks[place] - poller.number) & 255;
+    if (ahead === 0 || ahead === 255) continue;
+    record.skips.push(mark(record, place));
+    poller.number = log.blocks[place];
+  }
+  return record;
+}

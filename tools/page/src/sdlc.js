@@ -1,0 +1,40 @@
+// Frames of SDLC and of octet-stuffed HDLC: flags, address, control and frame check around the message.
+
+const FLAG = 0x7e, ESCAPING = 0x7d, STUFFED = 0x20, HEADER = 2, CHECK = 2;
+
+// FCS-16: the polynomial x^16 + x^12 + x^5 + 1, lowest bit first, all ones at the start and inverted.
+function frameCheck(octets) {
+  let check = 0xffff;
+  for (const octet of octets) {
+    check ^= octet;
+    for (let bit = 0; bit < 8; bit++) check = check >> 1 ^ (check & 1 ? 0x8408 : 0);
+  }
+  return check ^ 0xffff;
+}
+
+function hasCheck(octets) {
+  const end = octets.length - CHECK;
+  return end >= HEADER && frameCheck(octets.subarray(0, end)) === (octets[end] | octets[end + 1] << 8);
+}
+
+function unstuffed(octets) {
+  const out = [];
+  let isEscaped = false;
+  for (const octet of octets) {
+    if (octet === ESCAPING && !isEscaped) {
+      isEscaped = true;
+      continue;
+    }
+    out.push(isEscaped ? octet ^ STUFFED : octet);
+    isEscaped = false;
+  }
+  return Uint8Array.from(out);
+}
+
+// The information field of a frame with a right frame check, with or without flags and stuffing; null where it has none.
+export function informationOf(octets) {
+  const isFlagged = octets.length > 1 && octets[0] === FLAG && octets[octets.length - 1] === FLAG;
+  const inner = isFlagged ? octets.subarray(1, -1) : octets;
+  const framed = [inner, unstuffed(inner)].find(hasCheck);
+  return framed ? framed.subarray(HEADER, -CHECK) : null;
+}

@@ -1,0 +1,41 @@
+// The views as tabs: the keys left, right, Home and End go from one to another.
+
+import { byId } from './dom.js';
+
+export class Tabs {
+  constructor() {
+    this.tabs = [...document.querySelectorAll('[role="tab"]')];
+    this.listeners = [];
+    this.tabs.forEach((tab) => {
+      tab.addEventListener('click', () => this.choose(tab));
+      tab.addEventListener('keydown', (event) => this.key(event, tab));
+    });
+  }
+
+  // Calls a function with the name of each view that is shown.
+  whenShown(listener) {
+    this.listeners.push(listener);
+  }
+
+  show(name) {
+    this.choose(byId('tab-' + name));
+  }
+
+  choose(chosen) {
+    this.tabs.forEach((tab) => {
+      tab.setAttribute('aria-selected', String(tab === chosen));
+      tab.tabIndex = tab === chosen ? 0 : -1;
+      byId(tab.getAttribute('aria-controls')).hidden = tab !== chosen;
+    });
+    this.listeners.forEach((listener) => listener(chosen.id.replace('tab-', '')));
+  }
+
+  key(event, tab) {
+    const place = this.tabs.indexOf(tab), last = this.tabs.length - 1;
+    const next = { ArrowRight: place === last ? 0 : place + 1, ArrowLeft: place === 0 ? last : place - 1, Home: 0, End: last }[event.key];
+    if (next === undefined) return;
+    event.preventDefault();
+    this.choose(this.tabs[next]);
+    this.tabs[next].focus();
+  }
+}
