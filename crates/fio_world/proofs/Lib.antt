@@ -35,6 +35,7 @@ pub mod Gained
 pub mod NewLevels
 pub mod MovedScans
 pub mod WholeRecords
+pub mod GapMarks
 pub mod Promises
 pub mod StandardLinks
 pub mod Examples

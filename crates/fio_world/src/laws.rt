@@ -93,7 +93,8 @@ pub fn clean_rounds_catch_up()
 
 /// Without restarts nothing is lost unless the buffer was full: where never more transitions stood
 /// beyond the newest block than may wait, the record is the front of the transition log, whole; and
-/// a gap mark says that once more did.
+/// each gap mark has its own block, before which the record is what all blocks before it are, and when
+/// that block was made more did.
 pub fn nothing_is_lost()
     ensures whole { HoldsWithoutRestart (λ settings first machine.
         IsWholeUnlessFull settings machine) }
