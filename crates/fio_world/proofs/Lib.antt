@@ -31,6 +31,7 @@ pub mod CleanRoundsInTime
 pub mod Arrivals
 pub mod InAllRounds
 pub mod AnyTime
+pub mod LossyLinks
 pub mod Gained
 pub mod NewLevels
 pub mod MovedScans

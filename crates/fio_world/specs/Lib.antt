@@ -26,6 +26,7 @@ pub mod Delivery
 pub mod InTime
 pub mod AnyTime
 pub mod NewLevels
+pub mod LossyLinks
 pub mod Sound
 -- what contracts see of a world
 pub mod EndToEnd
