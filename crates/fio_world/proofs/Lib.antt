@@ -32,6 +32,7 @@ pub mod Arrivals
 pub mod InAllRounds
 pub mod AnyTime
 pub mod LossyLinks
+pub mod LostRounds
 pub mod Gained
 pub mod NewLevels
 pub mod MovedScans

@@ -15,6 +15,7 @@ ghost use Rattle.std.specs.Prelude.{false};
 ghost use Rattle.fio_world.specs.AnyTime.{IsNeverLate, StandardLinkIsNeverLater};
 ghost use Rattle.fio_world.specs.NewLevels.{NewLevelsAreRecorded, StandardLinkRecordsNewLevels};
 ghost use Rattle.fio_world.specs.LossyLinks.{AllArrivesWhereKeptUpWith, OutagesArePossible, RoundsCatchUp, StandardLimitsHaveRoom};
+ghost use Rattle.fio_world.specs.LostRounds.{LostRoundsArePossible};
 ghost use Rattle.std.specs.List.{AllByRecursion};
 ghost use Rattle.fio_world.specs.Collected.{Collects};
 ghost use Rattle.fio_world.specs.Scripts.{Scenario};
@@ -174,6 +175,12 @@ pub fn outages_within_a_pace()
     ensures possible { OutagesArePossible }
     ensures caught_up { RoundsCatchUp }
     ensures standard { StandardLimitsHaveRoom 19 76 }
+{}
+
+/// A round begins at least every n scans, and each clean one makes up for s. Where of each c + 1 rounds in a
+/// row at most l are lost, with c n at most (c - l) s, the blocks are never more than (l + 1) n behind.
+pub fn lost_rounds()
+    ensures { LostRoundsArePossible }
 {}
 
 /// Scans that come while a poll or its answer is under way lead where they lead before the poll is
