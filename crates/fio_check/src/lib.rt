@@ -9,6 +9,18 @@
 //! rules (`Observations`), the latest that is said above a place (`Places`), what stands above a line
 //! (`Facts`), the rules (`Rules`), the verdict (`Verdicts`). Their laws (`Laws`) are the contracts of
 //! the module `laws`.
+//!
+//! # Examples
+//!
+//! ```rust
+//! use fio_check::{Facts, Observation, Rule, rule_broken};
+//!
+//! let mut above = Facts::default();
+//! above.add(Observation::of(true, &[0x36, 5]));
+//! let next = Observation::of(true, &[0x36, 6]);
+//! assert_eq!(rt; above.number_due(), Some(5));
+//! assert_eq!(rt; rule_broken(&above, next), Some(Rule::Advance));
+//! ```
 #![tactic(auto)]
 
 mod facts;
