@@ -8,9 +8,9 @@ mod show;
 mod simulate;
 
 pub use check::check_text;
-pub use record::record_text;
 use fio_message::Memory;
 use fio_world::Report;
+pub use record::record_text;
 pub use show::show_text;
 pub use simulate::simulate_text;
 use std::alloc::Global;
