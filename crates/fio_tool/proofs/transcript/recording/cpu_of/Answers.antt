@@ -1,4 +1,4 @@
-use Rattle.std.proofs.Common.{◌≡◌, ◌∙◌, refl}
+use Rattle.std.proofs.Common.{◌∙◌, refl}
 use Rattle.fio_tool.proofs.RecordedLines.{cpu_end, cpu_next}
 use Rattle.fio_tool.proofs.transcript.recording.cpu_of.Goals as goal
 
