@@ -133,6 +133,20 @@ crates/fio_c/out/%/libfio_c.a: $(archive) packaging/for-target
 $(module): crates/fio_c/out/$(wasm)/libfio_c.a
 	'$(kit)/bin/rattle-link' --target $(wasm) --toolchain '$(kit)/toolchain' --stack 65536 -o $@ $<
 
+# The portable library: fio2070.c and fio2070.h, two files of C99 for any processor (tools/portable/README.md).
+
+portable = portable
+translator = $(addprefix tools/portable/,translate instructions.py functions.py module.py head.c machine.c calls.c)
+
+.PHONY: portable
+
+portable: $(portable)/fio2070.c
+
+$(portable)/fio2070.c: $(module) include/fio2070.h $(translator)
+	tools/portable/translate $(module) include/fio2070.h $(portable) \
+	    --made-from "$$(git describe --always --dirty 2>/dev/null || echo unknown)" --kit "$$(rt --version)" \
+	    --proof "$$(cat crates/fio_c/out/$(wasm)/proof 2>/dev/null || echo unknown)"
+
 # The shared library has the tester too.
 tester = $(wildcard tools/conformance/conformance*.c)
 exports = tools/conformance/exports.map
