@@ -105,7 +105,12 @@ proved := $(shell find $(addprefix crates/,$(crates)) \
 
 .PHONY: library install-library uninstall-library
 
+# `make library TARGET=aarch64` makes the archive for AArch64 under Linux, proved for that target of the kit.
+ifeq ($(TARGET),aarch64)
+library: $(OUT)/aarch64/libfio2070.a
+else
 library: $(OUT)/libfio2070.a $(OUT)/libfio2070.so $(OUT)/fio2070-test
+endif
 
 # Each library before those that use it: asked for the last alone, `rt lib` reads all of them once more.
 $(archive): $(proved)
@@ -128,6 +133,10 @@ wasm: $(module)
 
 crates/fio_c/out/%/libfio_c.a: $(archive) packaging/for-target
 	packaging/for-target $* $(RTFLAGS)
+
+$(OUT)/aarch64/libfio2070.a: crates/fio_c/out/aarch64-unknown-linux-gnu/libfio_c.a
+	mkdir -p $(@D)
+	cp $< $@
 
 # Its stack is 64 KB, of which no call takes more than a sixth.
 $(module): crates/fio_c/out/$(wasm)/libfio_c.a

@@ -21,7 +21,8 @@ TRANSLATOR = os.path.join(TOP, 'tools', 'portable')
 MODULE = os.path.join(TOP, 'crates/fio_c/out/wasm64-unknown-unknown/fio_c.wasm')
 COMPARE = os.path.join(TOP, 'tests/support/c/compare.c')
 STRICT = ['-Wall', '-Wextra', '-Wpedantic', '-Wconversion', '-Werror']
-FAULTS = ['-fsanitize=address,undefined', '-fno-sanitize-recover=all']
+# By one compiler: each takes long over a file of this size.
+FAULTS = {'gcc': ['-fsanitize=address,undefined', '-fno-sanitize-recover=all']}
 # name, prefix of the compiler, its options, command of qemu-user.
 PROCESSORS = [('powerpc', 'powerpc-linux-gnu-', [], 'qemu-ppc'),
               ('armhf', 'arm-linux-gnueabihf-', ['-mthumb'], 'qemu-arm'),
@@ -106,6 +107,13 @@ def others():
             check.fault(row, on_processor, name, prefix, options, qemu)
 
 
+def archive_for_aarch64():
+    """The archive of `make library TARGET=aarch64` answers alike."""
+    return fault_of('make', '-s', '-C', TOP, 'library', 'TARGET=aarch64') or fault_of(
+        'aarch64-linux-gnu-gcc', '-O1', '-static', '-I', os.path.join(TOP, 'include'), COMPARE,
+        os.path.join(TOP, 'aarch64/libfio2070.a'), '-o', path('archive')) or differs(['qemu-aarch64', path('archive')])
+
+
 def shows():
     """examples/c/decode.c over the portable library writes what stands beside the examples."""
     fault = fault_of('gcc', '-O1', '-I', PORTABLE, os.path.join(TOP, 'examples/c/decode.c'),
@@ -157,9 +165,13 @@ for compiler in ('gcc', 'clang'):
     check.fault('no warning by ' + compiler, fault_of, compiler, '-std=c99', '-Os', *STRICT, '-c',
                 os.path.join(PORTABLE, 'fio2070.c'), '-o', path('strict.o'))
     check.fault('alone by ' + compiler, is_alone, compiler)
-    check.fault('frames and links by ' + compiler, lambda by: build(by, ['-O1', *FAULTS], by) or differs([path(by)]), compiler)
+    check.fault('frames and links by ' + compiler, lambda by: build(by, ['-O1', *FAULTS.get(by, [])], by) or differs([path(by)]), compiler)
 check.fault('the decoder of the examples', shows)
 others()
+if check.given.every and shutil.which('aarch64-linux-gnu-gcc') and shutil.which('qemu-aarch64'):
+    check.fault('the archive for aarch64', archive_for_aarch64)
+else:
+    check.skip('the archive for aarch64', 'it is proved with --every alone, and runs with gcc-aarch64-linux-gnu and qemu-user')
 wrong_translators()
 shutil.rmtree(room)
 check.end()
