@@ -60,6 +60,7 @@ SAME(size_of_poller, sizeof(struct fio2070_poller), 1);
 
 static struct fio2070_fault fault_in(const uint8_t *p) {
     struct fio2070_fault fault;
+    memset(&fault, 0, sizeof fault);
     fault.kind = p[0];
     fault.code = p[1];
     fault.needed = get16(p + 2);
@@ -95,6 +96,7 @@ struct fio2070_fault fio2070_read_block(const uint8_t *octets, size_t length, st
         call_fio2070_read_block(&machine, a, b, length, c);
     }
     if (fault[0] == FIO2070_NO_FAULT) {
+        memset(header, 0, sizeof *header);
         header->number = into[0];
         header->status = into[1];
         header->count = into[2];
@@ -135,6 +137,7 @@ struct fio2070_fault fio2070_decode_command(const uint8_t *octets, size_t length
         call_fio2070_decode_command(&machine, a, b, length, c);
     }
     if (fault[0] == FIO2070_NO_FAULT) {
+        memset(command, 0, sizeof *command);
         command->code = into[0];
         command->clear = into[1];
         command->block = into[2];
@@ -163,6 +166,7 @@ struct fio2070_fault fio2070_decode_answer(const uint8_t *octets, size_t length,
         call_fio2070_decode_answer(&machine, a, b, length, c);
     }
     if (fault[0] == FIO2070_NO_FAULT) {
+        memset(answer, 0, sizeof *answer);
         answer->code = into[0];
         answer->flags = into[1];
         answer->receive_errors = into[2];
@@ -254,6 +258,7 @@ struct fio2070_heard fio2070_poller_hear(struct fio2070_poller *poller, const ui
                  d = WRITES(from, room * 12);
         call_fio2070_poller_hear(&machine, a, b, c, length, d, room);
     }
+    memset(&heard, 0, sizeof heard);
     heard.kind = into[0];
     heard.code = into[1];
     heard.number = into[2];
@@ -293,6 +298,16 @@ OVER(counter, ask_load, 1, void, , (struct fio2070_counter * counter, uint32_t n
 OVER(counter, line_sync, 1, void, , (struct fio2070_counter * counter), it)
 OVER(counter, now, 0, uint32_t, return, (const struct fio2070_counter *counter), it)
 
+/* Where fio2070_checker_start is declared: */
+OVER(checker, start, 1, void, , (struct fio2070_checker * checker), it)
+OVER(checker, sent, 1, uint8_t, return (uint8_t),
+     (struct fio2070_checker * checker, const uint8_t *octets, size_t length, struct fio2070_breach *breach), it,
+     READS(octets, length), length, WRITES(breach, sizeof *breach))
+OVER(checker, heard, 1, uint8_t, return (uint8_t),
+     (struct fio2070_checker * checker, const uint8_t *octets, size_t length, struct fio2070_breach *breach), it,
+     READS(octets, length), length, WRITES(breach, sizeof *breach))
+/* So far. */
+
 OVER(filters, start, 1, void, , (struct fio2070_filters * filters), it)
 OVER(filters, scan, 1, uint64_t, return, (struct fio2070_filters * filters, uint64_t raw), it, raw)
 OVER(filters, filtered, 0, uint64_t, return, (const struct fio2070_filters *filters), it)
@@ -307,6 +322,7 @@ struct fio2070_configured fio2070_filters_configure(struct fio2070_filters *filt
         uint64_t a = WRITES(into, 16), b = WRITES(filters, sizeof *filters), c = READS(items, count * sizeof *items);
         call_fio2070_filters_configure(&machine, a, b, c, count);
     }
+    memset(&configured, 0, sizeof configured);
     configured.kind = into[0];
     configured.place = (size_t)get64(into + 8);
     return configured;
