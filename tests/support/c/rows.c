@@ -1,5 +1,5 @@
 /* The worked examples, call by call. The last line is `N passed, M failed`. */
-#include "layout.h"
+#include "fio2070.h"
 
 #include <stdio.h>
 #include <string.h>
@@ -26,7 +26,7 @@ static const uint8_t SHORTEST[] = {0xb6, 5, 0, 0, 0, 0, 3, 0xe8};
 static uint8_t long_octets[774];
 
 static void reads_blocks(void) {
-    struct fio2070_block_header header = {9, 9, 9, 9};
+    struct fio2070_block_header header = {9, 9, 9, 9, 9};
     struct fio2070_entry entries[2] = {{7, 7, 7}, {7, 7, 7}};
     uint8_t two[sizeof BLOCK];
     CHECK(same_fault(fio2070_read_block(SHORTEST, sizeof SHORTEST, &header), FIO2070_NO_FAULT, 0, 0, 0));
@@ -78,8 +78,9 @@ static int has_words(struct fio2070_fault fault, const char *words) {
 }
 
 static void says_faults(void) {
-    static const struct fio2070_fault none = {0, 0, 0, 0}, empty = {1, 0, 0, 0}, too_long = {2, 0, 0, 774};
-    static const struct fio2070_fault unknown = {3, 48, 0, 0}, wrong = {4, 0, 14, 11};
+    static const struct fio2070_fault none = {0, 0, 0, {0}, 0}, empty = {1, 0, 0, {0}, 0};
+    static const struct fio2070_fault too_long = {2, 0, 0, {0}, 774};
+    static const struct fio2070_fault unknown = {3, 48, 0, {0}, 0}, wrong = {4, 0, 14, {7, 7, 7, 7}, 11};
     CHECK(has_words(none, ""));
     CHECK(has_words(empty, "empty"));
     CHECK(has_words(too_long, "too long got 774"));

@@ -166,7 +166,7 @@ impl Filters {
             unsafe { raw::fio2070_filters_configure(&mut self.0, items.as_ptr(), items.len()) };
         match done.kind {
             0 => Ok(()),
-            1 => Err(done.place),
+            1 => Err(done.place as usize),
             _ => Err(255),
         }
     }

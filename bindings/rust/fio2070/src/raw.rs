@@ -7,7 +7,8 @@ pub struct Fault {
     pub kind: u8,
     pub code: u8,
     pub needed: u16,
-    pub got: usize,
+    pub reserved: [u8; 4],
+    pub got: u64,
 }
 
 /// A transition.
@@ -38,6 +39,7 @@ pub struct Command {
     pub block: u8,
     pub timeout: u8,
     pub count: u8,
+    pub reserved: u8,
     pub body: u16,
     pub load: u32,
     pub levels: [u8; 8],
@@ -55,6 +57,7 @@ pub struct Answer {
     pub status: u8,
     pub block: u8,
     pub count: u8,
+    pub reserved: [u8; 3],
     pub body: u16,
     pub stamp: u32,
     pub inputs: u64,
@@ -67,6 +70,7 @@ pub struct RecordItem {
     pub gap: u8,
     pub input: u8,
     pub state: u8,
+    pub reserved: [u8; 3],
     pub stamp: u16,
     pub wide: u32,
 }
@@ -83,6 +87,7 @@ pub(crate) struct RawHeard {
     pub number: u8,
     pub status: u8,
     pub entries: u8,
+    pub reserved: u8,
     pub items: u16,
     pub fault: Fault,
 }
@@ -90,7 +95,8 @@ pub(crate) struct RawHeard {
 #[repr(C)]
 pub(crate) struct RawConfigured {
     pub kind: u8,
-    pub place: usize,
+    pub reserved: [u8; 7],
+    pub place: u64,
 }
 
 /// The data and control octets.

@@ -164,7 +164,8 @@ fn a_poller_polls_a_module() {
             input: 12,
             state: 0,
             stamp: 999,
-            wide: 999
+            wide: 999,
+            ..RecordItem::default()
         }
     );
     assert_eq!(poller.hear(&answer, &mut items), Heard::Stale(5));
