@@ -68,8 +68,11 @@ ifneq ($(tools),)
 	install -d '$(root)/$(TOOLS)'
 	cp -R tools '$(root)/$(TOOLS)'
 	install -d '$(bin)' '$(root)/$(TOOLS)/python/fio2070' '$(root)/$(TOOLS)/python/fiolog'
-	install -m 644 bindings/python/fio2070/*.py '$(root)/$(TOOLS)/python/fio2070'
+	install -m 644 bindings/python/fio2070/*.py bindings/python/fio2070/py.typed '$(root)/$(TOOLS)/python/fio2070'
 	install -m 644 bindings/python/fiolog/*.py bindings/python/fiolog/forms.json '$(root)/$(TOOLS)/python/fiolog'
+	install -d '$(root)/$(TOOLS)/rust/fio2070/src'
+	install -m 644 bindings/rust/fio2070/Cargo.* bindings/rust/fio2070/build.rs '$(root)/$(TOOLS)/rust/fio2070'
+	install -m 644 bindings/rust/fio2070/src/*.rs '$(root)/$(TOOLS)/rust/fio2070/src'
 	$(if $(python_library),install -m 644 $(python_library) '$(root)/$(TOOLS)/python/fio2070')
 	ln -sf '../$(TOOLS)/tools/fiolog' '$(bin)/fiolog'
 	@echo 'The Wireshark dissector is installed. To enable it:'
@@ -81,11 +84,11 @@ uninstall-more:
 	rm -f $(foreach file,$(notdir $(libraries)),'$(root)/$(LIB)/$(file)')
 	rm -f $(foreach file,$(notdir $(headers)),'$(root)/include/$(file)')
 	rm -f '$(bin)/fiolog'
-	rm -rf '$(root)/$(TOOLS)/tools' '$(root)/$(TOOLS)/python'
+	rm -rf '$(root)/$(TOOLS)/tools' '$(root)/$(TOOLS)/python' '$(root)/$(TOOLS)/rust'
 
 # The archive and the Debian package, with the library for C: the same files give the same octets each time.
 
-dist deb: all libfio2070.a
+dist deb: all libfio2070.a fio2070-test
 	@packaging/$@ '$(DIST)'
 
 # The library for C: `make library` makes the archive, and a shared library for languages that load one, in OUT.
@@ -183,11 +186,17 @@ ifneq ($(shared),)
 	install -m 644 $(shared) '$(root)/$(LIB)'
 endif
 ifneq ($(command),)
+	install -d '$(bin)' '$(man)' '$(bash)' '$(zsh)' '$(fish)'
 	install -m 755 $(command) '$(bin)'
+	install -m 644 man/fio2070-test.1 '$(man)'
+	install -m 644 completions/fio2070-test.bash '$(bash)/fio2070-test'
+	install -m 644 completions/fio2070-test.zsh '$(zsh)/_fio2070-test'
+	install -m 644 completions/fio2070-test.fish '$(fish)'
 endif
 
 uninstall-library:
 	rm -f '$(pkgconfig)/fio2070.pc' '$(root)/$(LIB)/libfio2070.so' '$(bin)/fio2070-test'
+	rm -f '$(man)/fio2070-test.1' '$(bash)/fio2070-test' '$(zsh)/_fio2070-test' '$(fish)/fio2070-test.fish'
 
 # The page: one file that a browser opens offline, with the library in it (tools/page/README.md). Where `wasm-opt` of the
 # package binaryen is there, it also lowers the library to memory of 32 bits, for browsers that have no other.

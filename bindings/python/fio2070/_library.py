@@ -3,11 +3,9 @@
 import ctypes
 import os
 from ctypes import POINTER, c_size_t, c_uint8, c_uint16, c_uint32, c_uint64
+from typing import Any
 
-LONGEST_FRAME = 773
-MOST_ENTRIES = 255
-MOST_RECORD_ITEMS = 256
-LONGEST_FAULT_TEXT = 65
+from .constants import LONGEST_FAULT_TEXT, LONGEST_FRAME, MOST_ENTRIES, MOST_RECORD_ITEMS
 
 
 def _load() -> ctypes.CDLL:
@@ -92,7 +90,7 @@ class CModule(ctypes.Structure):
 library = _load()
 
 
-def _declare(name: str, result, *arguments) -> None:
+def _declare(name: str, result: Any, *arguments: Any) -> None:
     function = getattr(library, 'fio2070_' + name)
     function.restype = result
     function.argtypes = arguments
@@ -106,6 +104,7 @@ _declare('decode_command', CFault, *_OCTETS, POINTER(CCommand))
 _declare('command_items', c_size_t, *_OCTETS, POINTER(CItem), c_size_t)
 _declare('decode_answer', CFault, *_OCTETS, POINTER(CAnswer))
 _declare('block_entries', c_size_t, *_OCTETS, POINTER(CEntry), c_size_t)
+_declare('version', c_uint32)
 _declare('widen', c_uint32, c_uint32, c_uint16)
 for _name, _arguments in {
         'status': [c_uint8], 'load_counter': [c_uint32], 'configure_inputs': [POINTER(CItem), c_size_t],

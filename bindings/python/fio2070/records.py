@@ -1,6 +1,6 @@
 """Messages and their parts. A field that a type does not have is 0 or empty."""
 
-from typing import List, NamedTuple
+from typing import List, NamedTuple, Tuple, Type
 
 
 class Fault(ValueError):
@@ -9,6 +9,9 @@ class Fault(ValueError):
     def __init__(self, kind: int, code: int, needed: int, got: int, text: str) -> None:
         super().__init__(text)
         self.kind, self.code, self.needed, self.got = kind, code, needed, got
+
+    def __reduce__(self) -> Tuple[Type['Fault'], Tuple[int, int, int, int, str]]:
+        return Fault, (self.kind, self.code, self.needed, self.got, str(self))
 
 
 class Entry(NamedTuple):

@@ -111,6 +111,19 @@ fn answers_are_written_and_read() {
 }
 
 #[test]
+fn faults_are_errors() {
+    fn reads(octets: &[u8]) -> Result<Command, Box<dyn std::error::Error>> {
+        Ok(decode_command(octets)?)
+    }
+    assert_eq!(
+        reads(&[0x33]).unwrap_err().to_string(),
+        "wrong length needed 2 got 1"
+    );
+    assert_eq!(reads(&[0x36, 5]).unwrap().code, constants::POLL);
+    assert_eq!(decode_command(&[]).unwrap_err().kind, constants::EMPTY);
+}
+
+#[test]
 fn faults_have_words() {
     let words = |octets: &[u8]| decode_command(octets).unwrap_err().to_string();
     assert_eq!(words(&[]), "empty");
