@@ -15,7 +15,11 @@ from .grammar import BLANKS, Reading, head_of, heading, in_marks, in_pieces
 from .notations import from_digits
 
 MOST_WAITING = 256
+# So many lines above the first frame may be a heading.
+MOST_HEADINGS = 20
 MOST_NOISE = 4096
+# A frame of 773 octets as a row with much around it is shorter; of a longer line the beginning is named.
+LONGEST_ROW, LONGEST_NAMED = 1 << 16, 100
 # A form is usual where it has at least one frame for so many of the most usual one.
 RARE = 16
 # The project's own texts: a frame a line, perhaps behind `> ` or `< `.
@@ -107,6 +111,10 @@ class Reader:
     # ---- one line ----
 
     def _read(self, number, text):
+        if len(text) > LONGEST_ROW:
+            text = text[:LONGEST_NAMED]
+            self.queue.append(Line(number, PASSED, text, note='longer than a line with a frame can be'))
+            return
         text = text.strip(BLANKS + '\n\ufeff') if not text[:1].isspace() else text.rstrip(BLANKS + '\n')
         stripped = text.strip()
         open_join = self._open_join()
@@ -253,9 +261,9 @@ class Reader:
         number, text = waiting.lines[0]
         messages = {fit.message for fit in waiting.fits if fit.message}
         if at_end and not self.shapes:
-            if len(messages) == 1:
+            if len(messages) == 1 and not self._is_noise():
                 return self._frame(waiting, [fit for fit in waiting.fits if fit.message])
-            own = [fit for fit in waiting.fits if fit.reading.shape in OWN and not messages]
+            own = [fit for fit in waiting.fits if fit.reading.shape in OWN and not messages and not self._is_noise()]
             if own and self.framing.mode not in ORDERED:
                 return Line(number, DAMAGED, text, own[0].reading.octets, None, own[0].reading.direction, own[0].note)
         if len(messages) > 1:
@@ -265,6 +273,11 @@ class Reader:
         else:
             note = max(waiting.fits, key=lambda fit: len(fit.reading.prefix)).note
         return Line(number, PASSED, text, note=note)
+
+    def _is_noise(self):
+        """Whether more lines were passed over than wait: then one that can be a frame is so by chance."""
+        passed = sum(isinstance(one, Line) and one.kind == PASSED for one in self.queue) + self.kinds[PASSED]
+        return passed > MOST_HEADINGS and passed > sum(isinstance(one, _Waiting) for one in self.queue)
 
     @staticmethod
     def _reason(text):
