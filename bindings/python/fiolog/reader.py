@@ -27,6 +27,8 @@ OWN = {((), 'hex'), (('direction',), 'hex')}
 FORMS = ('auto', 'frames', 'transcript', 'log', 'csv', 'json')
 _OWN_LINE = {'frames': re.compile(r'()((?:[0-9a-fA-F]{2})+)'), 'transcript': re.compile(r'([<>]) ((?:[0-9a-fA-F]{2})+)')}
 _DIGITS = re.compile('[0-9]')
+_OFFSET = re.compile(r'0000[0-9A-Fa-f]{3,4}')
+_LOST_DIGIT = re.compile(r'(?:[0-9A-Fa-f]{2}|0x[0-9A-Fa-f]{1,2})[ \t,]+(?:0x)?[0-9A-Fa-f][ \t,]+(?:0x)?[0-9A-Fa-f]{2}')
 _HAS_OCTETS = re.compile(r'(?<![0-9A-Za-z])(?:0x)?[0-9A-Fa-f]{2}|\\x|[bB]["\']')
 
 
@@ -283,6 +285,8 @@ class Reader:
     def _reason(text):
         if re.search(r'(?:^|[ \t])[0-9A-Fa-f]$', text) and re.search(r'[0-9A-Fa-f]{2}[ \t]+[0-9A-Fa-f]$', text):
             return 'the last octet has one digit: the line may be cut'
+        if _LOST_DIGIT.search(text):
+            return 'an octet has one digit, and others have two'
         if heading(text):
             return 'a heading'
         return 'no form of line that is known' if _HAS_OCTETS.search(text) else 'no octets'
@@ -341,7 +345,7 @@ class Reader:
                      and 0 in joins.offsets(reading.offset)), None)
         column = next((reading for reading in found if reading.offset is not None and reading.notation == 'column'
                        and 0 in joins.offsets(reading.offset)), None)
-        if self.has_dumps and not dump and any(reading.offset is not None for reading in found):
+        if not dump and any(self._is_offset(reading) for reading in found):
             self.queue.append(Line(number, PASSED, text.strip(), note='an offset that continues no dump'))
             return True
         if dump:
@@ -356,6 +360,10 @@ class Reader:
                 self.queue.append(_Waiting(number, text, join=joins.Wrap(reading), time=self._time_above()))
                 return True
         return False
+
+    def _is_offset(self, reading):
+        """Whether a number before octets is the offset of a dump."""
+        return reading.offset is not None and (self.has_dumps or bool(_OFFSET.fullmatch(reading.offset)))
 
     def _may_wrap(self, reading):
         """Whether a line can be the first of several: it says more than octets, or is of a known form."""
