@@ -21,7 +21,9 @@ COLUMNS = ['file', 'line', 'time', 'direction', 'octets', 'type', 'says', 'input
 def add_arguments(parser):
     log.add_arguments(parser)
     form = parser.add_mutually_exclusive_group()
-    form.add_argument('--json', action='store_true', help='one object a line')
+    form.add_argument('--json', action='store_true',
+                      help='one object a line: file, line, time (seconds or null), direction (> or <) and octets; then fault, or '
+                           'type, says, the numbers of that message by name, and entries or items')
     form.add_argument('--csv', action='store_true', help='a table; an entry a row')
     parser.add_argument('--input', type=number_in(0, 63), metavar='N', help='only messages with this input, and of them its lines')
     parser.add_argument('--type', type=message_type, action='append', metavar='N', help='only this type: 49 to 60, 177 to 188, poll, block')
