@@ -5,22 +5,12 @@ import json
 import sys
 
 from . import terminal
+from .options import number_in
 
 LIMITS = {'standard': (255, 1024), 'largest': (255, 8192)}
 COMPUTED = 'computed, not proved'
 MOST_ROUNDS = 10_000
 MOST_INPUTS, MOST_FILTER, MOST_SCANS = 64, 255, 1 << 31
-
-
-def number_in(low, high):
-    """A number of the command line, from low to high."""
-    def read(text):
-        number = int(text)
-        if not low <= number <= high:
-            raise ValueError(text)
-        return number
-    read.__name__ = 'number from %d to %d' % (low, high)
-    return read
 
 
 def add_arguments(parser):
