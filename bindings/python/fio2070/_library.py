@@ -20,7 +20,8 @@ def _load() -> ctypes.CDLL:
 
 
 class CFault(ctypes.Structure):
-    _fields_ = [('kind', c_uint8), ('code', c_uint8), ('needed', c_uint16), ('got', c_size_t)]
+    _fields_ = [('kind', c_uint8), ('code', c_uint8), ('needed', c_uint16), ('reserved', c_uint8 * 4),
+                ('got', c_uint64)]
 
 
 class CEntry(ctypes.Structure):
@@ -33,13 +34,14 @@ class CItem(ctypes.Structure):
 
 class CCommand(ctypes.Structure):
     _fields_ = [('code', c_uint8), ('clear', c_uint8), ('block', c_uint8), ('timeout', c_uint8), ('count', c_uint8),
-                ('body', c_uint16), ('load', c_uint32), ('levels', c_uint8 * 8), ('controls', c_uint8 * 8)]
+                ('reserved', c_uint8), ('body', c_uint16), ('load', c_uint32), ('levels', c_uint8 * 8),
+                ('controls', c_uint8 * 8)]
 
 
 class CAnswer(ctypes.Structure):
     _fields_ = [('code', c_uint8), ('flags', c_uint8), ('receive_errors', c_uint8), ('transmit_errors', c_uint8),
-                ('status', c_uint8), ('block', c_uint8), ('count', c_uint8), ('body', c_uint16), ('stamp', c_uint32),
-                ('inputs', c_uint64)]
+                ('status', c_uint8), ('block', c_uint8), ('count', c_uint8), ('reserved', c_uint8 * 3),
+                ('body', c_uint16), ('stamp', c_uint32), ('inputs', c_uint64)]
 
 
 class CPoller(ctypes.Structure):
@@ -47,24 +49,35 @@ class CPoller(ctypes.Structure):
 
 
 class CRecordItem(ctypes.Structure):
-    _fields_ = [('gap', c_uint8), ('input', c_uint8), ('state', c_uint8), ('stamp', c_uint16), ('wide', c_uint32)]
+    _fields_ = [('gap', c_uint8), ('input', c_uint8), ('state', c_uint8), ('reserved', c_uint8 * 3),
+                ('stamp', c_uint16), ('wide', c_uint32)]
 
 
 class CHeard(ctypes.Structure):
     _fields_ = [('kind', c_uint8), ('code', c_uint8), ('number', c_uint8), ('status', c_uint8), ('entries', c_uint8),
-                ('items', c_uint16), ('fault', CFault)]
+                ('reserved', c_uint8), ('items', c_uint16), ('fault', CFault)]
 
 
 class CConfigured(ctypes.Structure):
-    _fields_ = [('kind', c_uint8), ('place', c_size_t)]
+    _fields_ = [('kind', c_uint8), ('reserved', c_uint8 * 7), ('place', c_uint64)]
 
 
 class CCounter(ctypes.Structure):
     _fields_ = [('value', c_uint32), ('load', c_uint32), ('is_asked', c_uint8), ('reserved', c_uint8 * 3)]
 
 
+class CChecker(ctypes.Structure):
+    _fields_ = [('has_awaited', c_uint8), ('awaited', c_uint8), ('absent_named', c_uint8), ('has_polled', c_uint8),
+                ('polled', c_uint8), ('answered', c_uint8), ('advanced', c_uint8), ('more', c_uint8),
+                ('skips', c_uint8)]
+
+
+class CBreach(ctypes.Structure):
+    _fields_ = [('rule', c_uint8), ('has_due', c_uint8), ('due', c_uint8), ('got', c_uint8)]
+
+
 class CFilters(ctypes.Structure):
-    _fields_ = [('lanes', c_uint8 * 192), ('words', c_uint64 * 3)]
+    _fields_ = [('words', c_uint64 * 27)]
 
 
 class COutputs(ctypes.Structure):
@@ -73,7 +86,7 @@ class COutputs(ctypes.Structure):
 
 class CModule(ctypes.Structure):
     """The octets of struct fio2070_module, as aligned as that is."""
-    _fields_ = [('words', c_uint64 * (4112 // 8))]
+    _fields_ = [('words', c_uint64 * 514)]
 
 
 library = _load()
@@ -105,6 +118,9 @@ for _name, _arguments in {
         'watchdog_answer': [c_uint8], 'other_answer': [c_uint8, *_OCTETS]}.items():
     _declare('encode_' + _name, c_size_t, *_arguments, *_OUT)
 _declare('poller_hear', CHeard, POINTER(CPoller), *_OCTETS, POINTER(CRecordItem), c_size_t)
+_declare('checker_start', None, POINTER(CChecker))
+_declare('checker_sent', c_uint8, POINTER(CChecker), *_OCTETS, POINTER(CBreach))
+_declare('checker_heard', c_uint8, POINTER(CChecker), *_OCTETS, POINTER(CBreach))
 _declare('counter_start', None, POINTER(CCounter))
 _declare('counter_tick', None, POINTER(CCounter))
 _declare('counter_ask_load', None, POINTER(CCounter), c_uint32)

@@ -141,7 +141,7 @@ def _raw_cpu(maker: CpuMaker, calls: _Calls) -> _CpuMaker:
     def hear(octets, length, out):
         items = maker.hear(ctypes.string_at(octets, length))[:c.MOST_RECORD_ITEMS]
         for place, item in enumerate(items):
-            out[place] = c.CRecordItem(*item)
+            out[place] = c.CRecordItem(**RecordItem(*item)._asdict())
         return len(items)
 
     return _CpuMaker(None, _RESET(calls.guarded(maker.reset)), _POLL(calls.guarded(poll, _FAILED)),
