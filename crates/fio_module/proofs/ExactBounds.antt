@@ -42,7 +42,7 @@ fewer_filters blocks opened count less =
     ]
 
 -- without a scan nothing is logged
-no_scan : (later life : Life) → scans_in (filter_events later) ≡ 0 → length (log_of (later ++ life)) ≡ length (log_of life)
+pub no_scan : (later life : Life) → scans_in (filter_events later) ≡ 0 → length (log_of (later ++ life)) ≡ length (log_of life)
 no_scan [] life none = refl
 no_scan (Scanned raw ∷ later) life none = absurd (omega arith)
 no_scan (Commanded (ConfigureInputs items) ∷ later) life none = no_scan later life none

@@ -31,7 +31,7 @@ use Rattle.fio_world.proofs.CleanRoundsInTime.{has_stretch}
 use Rattle.fio_world.proofs.AnyTime.{never_late}
 use Rattle.fio_world.proofs.LossyLinks.{all_arrives}
 use Rattle.fio_world.proofs.NewLevels.{new_levels_are_recorded}
-use Rattle.fio_world.proofs.WholeRecords.{whole_unless_full, whole_where_polled_often, whole_after_outage}
+use Rattle.fio_world.proofs.WholeRecords.{whole_unless_full, whole_where_polled_often, whole_where_polled_for_each, whole_after_outage}
 use Rattle.fio_world.proofs.GapMarks.{gaps_name_times}
 use Rattle.fio_world.proofs.Times.{BlockTimely, blocks_timely, blocks_timed}
 
@@ -120,6 +120,7 @@ module _ (settings : Settings) (range : AreInRange settings) (first : ℕ) (mach
         unless_full = whole_unless_full settings machine pieces;
         gaps = gaps_name_times settings machine taken_items;
         polled_often = whole_where_polled_often settings range machine pieces;
+        polled_for_each = whole_where_polled_for_each settings range machine pieces;
         outage = whole_after_outage settings machine pieces;
         rounds_make_blocks = λ scans begin last taken t leads.
             (has_stretch settings range first scans machine begin last between taken t leads).makes;

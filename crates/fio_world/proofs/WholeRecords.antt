@@ -11,10 +11,11 @@ use Rattle.fio_module.specs.Delivery.{NeverTooMany, NoBlockLost}
 use Rattle.fio_module.proofs.Losses.{nothing_is_lost}
 use Rattle.fio_module.proofs.Polling.{polled_often_stays_few}
 use Rattle.fio_module.proofs.Outages.{outage_stays_few}
+use Rattle.fio_module.proofs.FiltersThatDiffer.{polled_for_each_loses_none}
 use Rattle.fio_world.specs.Link.{Machine}
 use Rattle.fio_world.specs.Pieces.{Piece, Gap, Got, piece_of, ArePieces}
 use Rattle.fio_world.specs.Headline.{end_taken}
-use Rattle.fio_world.specs.Delivery.{IsWholeUnlessFull, IsWholeWherePolledOften, IsWholeAfterOutage}
+use Rattle.fio_world.specs.Delivery.{IsWholeUnlessFull, IsWholeWherePolledOften, IsWholeWherePolledForEach, IsWholeAfterOutage}
 use Rattle.fio_world.proofs.MadeBlocks.{each-at}
 use Rattle.fio_world.proofs.PieceLaws.{drop_found}
 
@@ -69,6 +70,13 @@ pub whole_where_polled_often : (settings : Settings) → AreInRange settings →
 whole_where_polled_often settings range machine pieces filter scans life later is few often =
     whole_unless_full settings machine pieces
     (subst (NeverTooMany settings) (sym is) (polled_often_stays_few settings filter scans life later range often few))
+
+-- where it is polled often for each input
+pub whole_where_polled_for_each : (settings : Settings) → AreInRange settings → (machine : Machine)
+    → RecordIsPieces settings machine → IsWholeWherePolledForEach settings machine
+whole_where_polled_for_each settings range machine pieces scans life later is few often =
+    whole_unless_full settings machine pieces
+    (subst (NeverTooMany settings) (sym is) ((polled_for_each_loses_none settings scans life later range often).stays few))
 
 -- after an outage
 pub whole_after_outage : (settings : Settings) (machine : Machine)

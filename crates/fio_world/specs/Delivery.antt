@@ -9,6 +9,7 @@ use Rattle.fio_module.specs.Life.{Life, Commanded, life_of}
 use Rattle.fio_module.specs.Log.{entry_of, log_of}
 use Rattle.fio_module.specs.Blocks.{MadeBlock, latest_poll, is_new, blocks_of, next_block, newest_end, waiting_of}
 use Rattle.fio_module.specs.Delivery.{NeverTooMany, IsPolledOften, IsOutage}
+use Rattle.fio_module.specs.FiltersThatDiffer.{IsPolledForEach}
 use Rattle.fio_cpu.specs.declared.record.Item.TheVariants as items
 use Rattle.fio_cpu.specs.Record.{recorded}
 use Rattle.fio_world.specs.declared.event.Event.{Event}
@@ -114,6 +115,12 @@ abbrev pub IsWholeWherePolledOften : Settings → Machine → Type 0
 IsWholeWherePolledOften settings machine = (filter scans : ℕ) (life later : Life) →
     life_of machine.history ≡ later ++ life → NeverTooMany settings life →
     IsPolledOften settings filter scans life later → RecordIsWhole settings machine
+
+-- so it is where the module is polled often for each input, with its own filters
+abbrev pub IsWholeWherePolledForEach : Settings → Machine → Type 0
+IsWholeWherePolledForEach settings machine = (scans : ℕ) (life later : Life) →
+    life_of machine.history ≡ later ++ life → NeverTooMany settings life →
+    IsPolledForEach settings scans life later → RecordIsWhole settings machine
 
 -- so is it after an outage that the buffer has room for
 abbrev pub IsWholeAfterOutage : Settings → Machine → Type 0

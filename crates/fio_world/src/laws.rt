@@ -9,7 +9,7 @@ ghost use Rattle.fio_world.specs.Headline.{Headline};
 ghost use Rattle.fio_world.specs.Rounds.{PollsOf, PollsReceivedHaveRounds, NewestPollMadeNewestBlock, BlockAnswersOf, AnswersCarryBlocks};
 ghost use Rattle.fio_world.specs.Rising.{IsRising};
 ghost use Rattle.fio_world.specs.Sound.{HoldsOfRuns, HoldsWithoutRestart, IsSoundRun, LeadToOneMachine};
-ghost use Rattle.fio_world.specs.Delivery.{CleanRoundTakesBlock, CleanRoundTakesAll, CleanRoundsCatchUp, IsWholeUnlessFull, GapsNameTimes, IsWholeWherePolledOften, IsWholeAfterOutage};
+ghost use Rattle.fio_world.specs.Delivery.{CleanRoundTakesBlock, CleanRoundTakesAll, CleanRoundsCatchUp, IsWholeUnlessFull, GapsNameTimes, IsWholeWherePolledOften, IsWholeWherePolledForEach, IsWholeAfterOutage};
 ghost use Rattle.fio_world.specs.InTime.{RoundsMakeBlocks, RoundsKeepUp, AllArrivesInTime, ScansMoveOut};
 ghost use Rattle.std.specs.Prelude.{false};
 ghost use Rattle.fio_world.specs.AnyTime.{IsNeverLate, StandardLinkIsNeverLater};
@@ -105,11 +105,13 @@ pub fn nothing_is_lost()
 {}
 
 /// Without restarts: where the module is polled often enough, from a time on at which nothing waits,
-/// the record is the front of the transition log, whole; and so it is after an outage for which the
-/// buffer has room.
+/// the record is the front of the transition log, whole, also where each input counts with its own
+/// filters; and so it is after an outage for which the buffer has room.
 pub fn polled_often_is_whole()
     ensures polled_often { HoldsWithoutRestart (λ settings first machine.
         IsWholeWherePolledOften settings machine) }
+    ensures for_each { HoldsWithoutRestart (λ settings first machine.
+        IsWholeWherePolledForEach settings machine) }
     ensures outage { HoldsWithoutRestart (λ settings first machine.
         IsWholeAfterOutage settings machine) }
 {}
