@@ -13,6 +13,16 @@
 //! above the lines of a transcript (`Transcript`), whose rules and verdict are those of `fio_check`.
 //! What is reported of an input with a fault is in `InputFaults`, what is read and written in `Streams`. The
 //! laws are the contracts of the modules `laws` and `transcript_laws`.
+//!
+//! # Examples
+//!
+//! ```rust
+//! use fio_tool::{Rule, Verdict, check_trace, read_trace};
+//!
+//! let lines = read_trace(rt.alloc(), b"> 3605\n> 3606\n")?;
+//! let verdict = check_trace(&lines);
+//! assert_eq!(rt; verdict, Verdict::Broken { number: 2, rule: Rule::Advance });
+//! ```
 #![tactic(auto)]
 
 mod command_line;
