@@ -41,6 +41,6 @@ mod world;
 pub use event::Event;
 pub use outcome::{Outcome, RunError, WorldError};
 pub use script::{Script, ScriptError, read_script};
-pub use simulation::{report, report_text};
+pub use simulation::{push_items, report, report_text};
 pub use text::{Report, push_fault};
 pub use world::World;
