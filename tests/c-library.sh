@@ -140,6 +140,11 @@ holds 'a million random buffers' "$last/fuzz" 1000000 20260701
 if [ -n "$(command -v python3)" ]; then
     holds 'Python' env -C "$top/bindings/python" PYTHONDONTWRITEBYTECODE=1 FIO2070_LIBRARY="$room/libfio2070.so" \
         python3 test.py
+    if has_command mypy; then
+        holds 'type hints' mypy --cache-dir="$room/mypy" "$top/bindings/python/fio2070"
+    else
+        skip 'type hints' 'no mypy here (Debian package mypy)'
+    fi
     if python3 -m venv "$room/python" >"$room/log" 2>&1; then
         holds 'pip install' "$room/python/bin/pip" install --quiet --no-index "$top/bindings/python"
         holds 'the installed package' env -C "$room" FIO2070_LIBRARY="$room/libfio2070.so" "$room/python/bin/python" -c \

@@ -3,7 +3,7 @@
 import ctypes
 import os
 from ctypes import POINTER, c_size_t, c_uint8, c_uint16, c_uint32, c_uint64
-from typing import Any
+from typing import Any, Dict, List
 
 from .constants import LONGEST_FAULT_TEXT, LONGEST_FRAME, MOST_ENTRIES, MOST_RECORD_ITEMS
 
@@ -12,7 +12,7 @@ def _load() -> ctypes.CDLL:
     """The library that FIO2070_LIBRARY names, or the one beside this file, or at the top of the repository that this
     file is in, or the installed one."""
     here = os.path.dirname(os.path.abspath(__file__))
-    places = [os.path.join(here, *above, 'libfio2070.so') for above in ([], ['..', '..', '..'])]
+    places = [os.path.join(here, 'libfio2070.so'), os.path.join(here, '..', '..', '..', 'libfio2070.so')]
     named = [os.environ['FIO2070_LIBRARY']] if os.environ.get('FIO2070_LIBRARY') else []
     return ctypes.CDLL((named + list(filter(os.path.exists, places)) + ['libfio2070.so'])[0])
 
@@ -106,15 +106,16 @@ _declare('decode_answer', CFault, *_OCTETS, POINTER(CAnswer))
 _declare('block_entries', c_size_t, *_OCTETS, POINTER(CEntry), c_size_t)
 _declare('version', c_uint32)
 _declare('widen', c_uint32, c_uint32, c_uint16)
-for _name, _arguments in {
+_ENCODERS: Dict[str, List[Any]] = {
         'status': [c_uint8], 'load_counter': [c_uint32], 'configure_inputs': [POINTER(CItem), c_size_t],
-        'raw_inputs': [], 'filtered_inputs': [], 'poll': [c_uint8], 'set_outputs': _OCTETS[:1] * 2,
+        'raw_inputs': [], 'filtered_inputs': [], 'poll': [c_uint8], 'set_outputs': [_OCTETS[0], _OCTETS[0]],
         'watchdog': [c_uint8], 'identify': [], 'other_command': [c_uint8, *_OCTETS],
         'status_answer': [c_uint8, c_uint8, c_uint8, c_uint32], 'load_counter_answer': [c_uint8],
         'configure_inputs_answer': [c_uint8], 'raw_inputs_answer': [c_uint64, c_uint32],
         'filtered_inputs_answer': [c_uint64, c_uint32],
         'block_answer': [c_uint8, POINTER(CEntry), c_size_t, c_uint8, c_uint32],
-        'watchdog_answer': [c_uint8], 'other_answer': [c_uint8, *_OCTETS]}.items():
+        'watchdog_answer': [c_uint8], 'other_answer': [c_uint8, *_OCTETS]}
+for _name, _arguments in _ENCODERS.items():
     _declare('encode_' + _name, c_size_t, *_arguments, *_OUT)
 _declare('poller_hear', CHeard, POINTER(CPoller), *_OCTETS, POINTER(CRecordItem), c_size_t)
 _declare('checker_start', None, POINTER(CChecker))

@@ -29,7 +29,8 @@ def items_of(items: Sequence[ConfigurationItem]) -> Any:
     """The items as the library reads them."""
     for one in items:
         check_range(256, one.input, one.leading, one.trailing)
-    return (c.CItem * max(len(items), 1))(*[(one.input, int(one.ignore), one.leading, one.trailing) for one in items])
+    return (c.CItem * max(len(items), 1))(
+        *[c.CItem(one.input, int(one.ignore), one.leading, one.trailing) for one in items])
 
 
 def status(clear: int) -> bytes:
@@ -131,7 +132,7 @@ def block_answer(block: int, entries: Sequence[Entry], status: int, stamp: int) 
     for one in entries:
         check_range(256, one.input, one.state)
         check_range(2**16, one.stamp)
-    read = (c.CEntry * max(len(entries), 1))(*[tuple(one) for one in entries])
+    read = (c.CEntry * max(len(entries), 1))(*[c.CEntry(*one) for one in entries])
     return _write('block_answer', block, read, len(entries), status, stamp)
 
 

@@ -50,3 +50,14 @@ pub const NO_ROOM: u8 = 4;
 pub const APPLIED: u8 = 0;
 pub const ABSENT_INPUT: u8 = 1;
 pub const TOO_MANY_ITEMS: u8 = 2;
+
+// Rules of transcripts.
+pub const READABLE: u8 = 1;
+pub const PAIR: u8 = 2;
+pub const NUMBER: u8 = 3;
+pub const ADVANCE: u8 = 4;
+pub const SAME: u8 = 5;
+pub const SEQUENCE: u8 = 6;
+pub const LIMITS: u8 = 7;
+pub const REST: u8 = 8;
+pub const REFUSAL: u8 = 9;
