@@ -105,7 +105,12 @@ proved := $(shell find $(addprefix crates/,$(crates)) \
 
 .PHONY: library install-library uninstall-library
 
+# `make library TARGET=aarch64` makes the archive for AArch64 under Linux, proved for that target of the kit.
+ifeq ($(TARGET),aarch64)
+library: $(OUT)/aarch64/libfio2070.a
+else
 library: $(OUT)/libfio2070.a $(OUT)/libfio2070.so $(OUT)/fio2070-test
+endif
 
 # Each library before those that use it: asked for the last alone, `rt lib` reads all of them once more.
 $(archive): $(proved)
@@ -129,9 +134,27 @@ wasm: $(module)
 crates/fio_c/out/%/libfio_c.a: $(archive) packaging/for-target
 	packaging/for-target $* $(RTFLAGS)
 
+$(OUT)/aarch64/libfio2070.a: crates/fio_c/out/aarch64-unknown-linux-gnu/libfio_c.a
+	mkdir -p $(@D)
+	cp $< $@
+
 # Its stack is 64 KB, of which no call takes more than a sixth.
 $(module): crates/fio_c/out/$(wasm)/libfio_c.a
 	'$(kit)/bin/rattle-link' --target $(wasm) --toolchain '$(kit)/toolchain' --stack 65536 -o $@ $<
+
+# The portable library: fio2070.c and fio2070.h, two files of C99 for any processor (tools/portable/README.md).
+
+portable = portable
+translator = $(addprefix tools/portable/,translate instructions.py functions.py module.py head.c machine.c calls.c)
+
+.PHONY: portable
+
+portable: $(portable)/fio2070.c
+
+$(portable)/fio2070.c: $(module) include/fio2070.h $(translator)
+	tools/portable/translate $(module) include/fio2070.h $(portable) \
+	    --made-from "$$(git describe --always --dirty 2>/dev/null || echo unknown)" --kit "$$(rt --version)" \
+	    --proof "$$(cat crates/fio_c/out/$(wasm)/proof 2>/dev/null || echo unknown)"
 
 # The shared library has the tester too.
 tester = $(wildcard tools/conformance/conformance*.c)

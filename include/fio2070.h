@@ -10,7 +10,7 @@
  *    asks of its type. A pointer is not null, also where its length is 0.
  *  - During a call no one else writes what an argument points to, and no one else reads what an
  *    argument without const points to. Such an argument overlaps no other.
- *  - The structs filters, counter and module are written by the calls of this header alone, _start
+ *  - The structs filters, counter, checker and module are written by the calls of this header alone, _start
  *    first. Before _start they may hold any octets; _start sets each of them. They may be copied and
  *    moved by memcpy.
  *
@@ -271,6 +271,44 @@ size_t fio2070_poller_poll(const struct fio2070_poller *poller, uint8_t *out, si
  * can be heard again with more. 256 items are always enough. */
 struct fio2070_heard fio2070_poller_hear(struct fio2070_poller *poller, const uint8_t *octets, size_t length,
                                          struct fio2070_record_item *items, size_t room);
+
+/* ---- The rules of a transcript ---- */
+
+/* The rules, in the order in which they are tried (own profile; docs/FORMATS.md). */
+enum {
+    FIO2070_READABLE = 1,
+    FIO2070_PAIR = 2,
+    FIO2070_NUMBER = 3,
+    FIO2070_ADVANCE = 4,
+    FIO2070_SAME = 5,
+    FIO2070_SEQUENCE = 6,
+    FIO2070_LIMITS = 7,
+    FIO2070_REST = 8,
+    FIO2070_REFUSAL = 9
+};
+
+/* A checker of what the CPU's end sends and hears. Its fields are the library's own. */
+struct fio2070_checker {
+    uint8_t has_awaited, awaited, absent_named, has_polled, polled, answered, advanced, more, skips;
+};
+
+/* The first rule that a frame breaks, and what was due. */
+struct fio2070_breach {
+    uint8_t rule;    /* 0 none, or a rule */
+    uint8_t has_due; /* 1 for FIO2070_NUMBER and FIO2070_ADVANCE, and for FIO2070_PAIR below a command; else 0, as
+                      * `due` and `got` are */
+    uint8_t due;     /* the number of the block, or the type of the answer, that was due */
+    uint8_t got;     /* the one that the frame has */
+};
+
+/* Above the first frame. */
+void fio2070_checker_start(struct fio2070_checker *checker);
+/* Take a frame that the CPU's end sent or heard: they write its breach, and return the breach's rule. Below
+ * a breach the checker goes on as one that starts at the next poll. */
+uint8_t fio2070_checker_sent(struct fio2070_checker *checker, const uint8_t *octets, size_t length,
+                             struct fio2070_breach *breach);
+uint8_t fio2070_checker_heard(struct fio2070_checker *checker, const uint8_t *octets, size_t length,
+                              struct fio2070_breach *breach);
 
 /* ---- Parts of a module ---- */
 

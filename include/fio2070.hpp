@@ -275,6 +275,26 @@ private:
     std::vector<RecordItem> record_;
 };
 
+/// A checker of what the CPU's end sends and hears.
+class Checker {
+public:
+    Checker() { ::fio2070_checker_start(&checker_); }
+    /// The breach of a frame: its rule is 0 where the frame keeps the rules.
+    ::fio2070_breach sent(Octets octets) {
+        ::fio2070_breach breach;
+        ::fio2070_checker_sent(&checker_, octets.data(), octets.size(), &breach);
+        return breach;
+    }
+    ::fio2070_breach heard(Octets octets) {
+        ::fio2070_breach breach;
+        ::fio2070_checker_heard(&checker_, octets.data(), octets.size(), &breach);
+        return breach;
+    }
+
+private:
+    ::fio2070_checker checker_{};
+};
+
 /// The millisecond counter.
 class Counter {
 public:

@@ -31,6 +31,16 @@ MESSAGES = [
 ]
 
 
+class Rules(unittest.TestCase):
+    def test_each_breach(self):
+        checker = fio2070.Checker()
+        self.assertIsNone(checker.sent(encode.poll(255)))
+        self.assertEqual(checker.sent(encode.poll(0)), (4, True, 255, 0))
+        self.assertIsNone(checker.heard(BLOCK))
+        self.assertIsNone(checker.sent(encode.poll(6)))
+        self.assertEqual(checker.heard(BLOCK), (3, True, 6, 5))
+
+
 class Messages(unittest.TestCase):
     def test_octets(self):
         for octets, expected in MESSAGES:

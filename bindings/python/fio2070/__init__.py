@@ -13,10 +13,10 @@ from typing import List, NamedTuple, Optional, Sequence, Tuple
 
 from . import _library as c
 from . import encode
-from .records import Answer, Command, ConfigurationItem, Entry, Fault, RecordItem
+from .records import Answer, Breach, Command, ConfigurationItem, Entry, Fault, RecordItem
 
-__all__ = ['Answer', 'Command', 'ConfigurationItem', 'Counter', 'Entry', 'Fault', 'Filters', 'Heard', 'Module',
-           'Poller', 'RecordItem', 'decode_answer', 'decode_command', 'encode', 'widen']
+__all__ = ['Answer', 'Breach', 'Checker', 'Command', 'ConfigurationItem', 'Counter', 'Entry', 'Fault', 'Filters',
+           'Heard', 'Module', 'Poller', 'RecordItem', 'decode_answer', 'decode_command', 'encode', 'widen']
 
 
 def _text_of(fault: c.CFault) -> str:
@@ -102,6 +102,26 @@ class Poller:
         if heard.kind == 2:
             return Heard('other', code=heard.code)
         return Heard('stale', number=heard.number)
+
+
+class Checker:
+    """A checker of what the CPU's end sends and hears. Below a breach it goes on as one that starts at the next poll."""
+
+    def __init__(self) -> None:
+        self._checker, self._breach = c.CChecker(), c.CBreach()
+        c.library.fio2070_checker_start(self._checker)
+
+    def sent(self, octets: bytes) -> Optional[Breach]:
+        """The breach of a frame that the CPU sent; None where it keeps the rules."""
+        return self._found(c.library.fio2070_checker_sent(self._checker, octets, len(octets), self._breach))
+
+    def heard(self, octets: bytes) -> Optional[Breach]:
+        """The breach of a frame that the CPU heard; None where it keeps the rules."""
+        return self._found(c.library.fio2070_checker_heard(self._checker, octets, len(octets), self._breach))
+
+    def _found(self, rule: int) -> Optional[Breach]:
+        found = self._breach
+        return Breach(rule, bool(found.has_due), found.due, found.got) if rule else None
 
 
 class Counter:

@@ -63,6 +63,14 @@ class CCounter(ctypes.Structure):
     _fields_ = [('value', c_uint32), ('load', c_uint32), ('is_asked', c_uint8), ('reserved', c_uint8 * 3)]
 
 
+class CChecker(ctypes.Structure):
+    _fields_ = [('octets', c_uint8 * 9)]
+
+
+class CBreach(ctypes.Structure):
+    _fields_ = [('rule', c_uint8), ('has_due', c_uint8), ('due', c_uint8), ('got', c_uint8)]
+
+
 class CFilters(ctypes.Structure):
     _fields_ = [('lanes', c_uint8 * 192), ('words', c_uint64 * 3)]
 
@@ -105,6 +113,9 @@ for _name, _arguments in {
         'watchdog_answer': [c_uint8], 'other_answer': [c_uint8, *_OCTETS]}.items():
     _declare('encode_' + _name, c_size_t, *_arguments, *_OUT)
 _declare('poller_hear', CHeard, POINTER(CPoller), *_OCTETS, POINTER(CRecordItem), c_size_t)
+_declare('checker_start', None, POINTER(CChecker))
+_declare('checker_sent', c_uint8, POINTER(CChecker), *_OCTETS, POINTER(CBreach))
+_declare('checker_heard', c_uint8, POINTER(CChecker), *_OCTETS, POINTER(CBreach))
 _declare('counter_start', None, POINTER(CCounter))
 _declare('counter_tick', None, POINTER(CCounter))
 _declare('counter_ask_load', None, POINTER(CCounter), c_uint32)

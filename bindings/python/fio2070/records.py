@@ -35,6 +35,15 @@ class RecordItem(NamedTuple):
     wide: int
 
 
+class Breach(NamedTuple):
+    """The first rule that a frame breaks: 1 readable, 2 pair, 3 number, 4 advance, 5 same, 6 sequence, 7 limits, 8 rest,
+    9 refusal. Where `has_due`, the number or the type that was due, and the one that came."""
+    rule: int
+    has_due: bool
+    due: int
+    got: int
+
+
 class Command(NamedTuple):
     """A command, 49 to 60."""
     code: int

@@ -99,10 +99,10 @@ module _ (settings : Settings) (scans : ℕ) (life before : Life) where
 
   after_poll : (number : ℕ) (stretch : Life) (new : Bool) → is_new (latest_poll ((stretch ++ before) ++ life)) number ≡ new
       → (length (blocks_of settings (before ++ life)) < count stretch
-          → scans_behind scans (stretch ++ before) life ≤ max (scans_behind scans before life + scanned_in stretch - scans) (scanned_in stretch))
+      → scans_behind scans (stretch ++ before) life ≤ max (scans_behind scans before life + scanned_in stretch - scans) (scanned_in stretch))
       → length (blocks_of settings (before ++ life)) < count (Commanded (Poll number) ∷ stretch)
       → scans_behind scans (Commanded (Poll number) ∷ (stretch ++ before)) life
-          ≤ max (scans_behind scans before life + scanned_in stretch - scans) (scanned_in stretch)
+      ≤ max (scans_behind scans before life + scanned_in stretch - scans) (scanned_in stretch)
   after_poll number stretch true is rest more =
       let less = behind_new scans (stretch ++ before) life number is in
       let most = behind_more scans life before stretch in

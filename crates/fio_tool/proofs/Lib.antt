@@ -3,4 +3,5 @@ pub mod CommandLineLemmas
 pub mod BlocksSpelled
 pub mod LongFrames
 pub mod CheckedLines
+pub mod RecordedLines
 pub mod FramesShown

@@ -222,6 +222,31 @@ static void hears(void) {
     CHECK(heard.kind == FIO2070_UNREADABLE && same_fault(heard.fault, FIO2070_WRONG_LENGTH, 0, 11, 10));
 }
 
+/* ---- The rules of a transcript ---- */
+
+static int is_breach(struct fio2070_breach breach, int rule, int has_due, int due, int got) {
+    return breach.rule == rule && breach.has_due == has_due && breach.due == due && breach.got == got;
+}
+
+static void checks(void) {
+    static const uint8_t empty[] = {182, 1, 0, 0, 0, 0, 0, 5};
+    struct fio2070_checker checker;
+    struct fio2070_breach breach;
+    memset(&checker, 0xa5, sizeof checker);
+    fio2070_checker_start(&checker);
+    CHECK(fio2070_checker_sent(&checker, (const uint8_t *)"\x36\xff", 2, &breach) == 0);
+    CHECK(is_breach(breach, 0, 0, 0, 0));
+    CHECK(fio2070_checker_sent(&checker, (const uint8_t *)"\x36\0", 2, &breach) == FIO2070_ADVANCE);
+    CHECK(is_breach(breach, FIO2070_ADVANCE, 1, 255, 0));
+    CHECK(fio2070_checker_heard(&checker, empty, sizeof empty, &breach) == 0);
+    CHECK(fio2070_checker_sent(&checker, (const uint8_t *)"\x36\2", 2, &breach) == 0);
+    CHECK(fio2070_checker_heard(&checker, empty, sizeof empty, &breach) == FIO2070_NUMBER);
+    CHECK(is_breach(breach, FIO2070_NUMBER, 1, 2, 1));
+    CHECK(fio2070_checker_sent(&checker, (const uint8_t *)"\x36\2", 2, &breach) == 0);
+    CHECK(fio2070_checker_heard(&checker, (const uint8_t *)"\xb3\0", 2, &breach) == FIO2070_PAIR);
+    CHECK(is_breach(breach, FIO2070_PAIR, 1, 182, 179));
+}
+
 /* ---- Parts of a module ---- */
 
 static void counts(void) {
@@ -354,6 +379,7 @@ int main(void) {
     reads_commands();
     reads_answers();
     hears();
+    checks();
     counts();
     filters();
     is_a_module();

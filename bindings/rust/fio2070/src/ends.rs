@@ -1,8 +1,8 @@
 //! Both ends of the link, and the filters.
 
 use crate::raw::{
-    self, ConfigurationItem, Fault, Outputs, RawCounter, RawFilters, RawModule, RawPoller,
-    RecordItem,
+    self, Breach, ConfigurationItem, Fault, Outputs, RawChecker, RawCounter, RawFilters, RawModule,
+    RawPoller, RecordItem,
 };
 use crate::LONGEST_FRAME;
 
@@ -71,6 +71,39 @@ impl Poller {
             3 => Heard::Stale(heard.number),
             _ => Heard::NoRoom(items),
         }
+    }
+}
+
+/// A checker of what the CPU's end sends and hears. Below a breach it goes on as one that starts at
+/// the next poll.
+#[derive(Clone)]
+pub struct Checker(RawChecker);
+
+impl Default for Checker {
+    fn default() -> Checker {
+        let mut checker = RawChecker([0; 9]);
+        unsafe { raw::fio2070_checker_start(&mut checker) };
+        Checker(checker)
+    }
+}
+
+impl Checker {
+    /// The breach of a frame that the CPU sent.
+    pub fn sent(&mut self, octets: &[u8]) -> Option<Breach> {
+        let mut breach = Breach::default();
+        let rule = unsafe {
+            raw::fio2070_checker_sent(&mut self.0, octets.as_ptr(), octets.len(), &mut breach)
+        };
+        (rule != 0).then_some(breach)
+    }
+
+    /// The breach of a frame that the CPU heard.
+    pub fn heard(&mut self, octets: &[u8]) -> Option<Breach> {
+        let mut breach = Breach::default();
+        let rule = unsafe {
+            raw::fio2070_checker_heard(&mut self.0, octets.as_ptr(), octets.len(), &mut breach)
+        };
+        (rule != 0).then_some(breach)
     }
 }
 

@@ -13,8 +13,8 @@ pub use encode::{
     other_command, poll, raw_inputs, raw_inputs_answer, set_outputs, status, status_answer,
     watchdog, watchdog_answer,
 };
-pub use ends::{Counter, Filters, Heard, Module, Poller};
-pub use raw::{Answer, Command, ConfigurationItem, Entry, Fault, Outputs, RecordItem};
+pub use ends::{Checker, Counter, Filters, Heard, Module, Poller};
+pub use raw::{Answer, Breach, Command, ConfigurationItem, Entry, Fault, Outputs, RecordItem};
 
 use core::fmt;
 

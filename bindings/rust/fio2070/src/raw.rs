@@ -110,6 +110,20 @@ pub(crate) struct RawCounter {
     pub reserved: [u8; 3],
 }
 
+/// The first rule that a frame breaks, from 1, and what was due where `has_due` is 1.
+#[derive(Clone, Copy, Debug, Default, PartialEq, Eq)]
+#[repr(C)]
+pub struct Breach {
+    pub rule: u8,
+    pub has_due: u8,
+    pub due: u8,
+    pub got: u8,
+}
+
+#[derive(Clone)]
+#[repr(C)]
+pub(crate) struct RawChecker(pub [u8; 9]);
+
 #[derive(Clone)]
 #[repr(C)]
 pub(crate) struct RawFilters(pub [u64; 27]);
@@ -223,6 +237,19 @@ extern "C" {
         items: *mut RecordItem,
         room: usize,
     ) -> RawHeard;
+    pub(crate) fn fio2070_checker_start(checker: &mut RawChecker);
+    pub(crate) fn fio2070_checker_sent(
+        checker: &mut RawChecker,
+        octets: *const u8,
+        length: usize,
+        breach: &mut Breach,
+    ) -> u8;
+    pub(crate) fn fio2070_checker_heard(
+        checker: &mut RawChecker,
+        octets: *const u8,
+        length: usize,
+        breach: &mut Breach,
+    ) -> u8;
     pub(crate) fn fio2070_counter_start(counter: &mut RawCounter);
     pub(crate) fn fio2070_counter_tick(counter: &mut RawCounter);
     pub(crate) fn fio2070_counter_ask_load(counter: &mut RawCounter, number: u32);

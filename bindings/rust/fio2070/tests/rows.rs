@@ -217,3 +217,15 @@ fn a_counter_is_loaded_at_the_line_sync() {
     counter.tick();
     assert_eq!(counter.now(), 0);
 }
+
+#[test]
+fn a_checker_says_what_was_due_and_goes_on() {
+    let mut checker = Checker::default();
+    assert_eq!(checker.sent(&[54, 255]), None);
+    let breach = checker.sent(&[54, 0]).unwrap();
+    assert_eq!((breach.rule, breach.due, breach.got), (4, 255, 0));
+    assert_eq!(checker.heard(&BLOCK), None);
+    assert_eq!(checker.sent(&[54, 6]), None);
+    let breach = checker.heard(&BLOCK).unwrap();
+    assert_eq!((breach.rule, breach.due, breach.got), (3, 6, 5));
+}
