@@ -121,12 +121,14 @@ class Checker:
         self._checker, self._breach = c.CChecker(), c.CBreach()
         c.library.fio2070_checker_start(self._checker)
 
-    def sent(self, octets: bytes) -> Optional[Breach]:
+    def sent(self, octets: Octets) -> Optional[Breach]:
         """The breach of a frame that the CPU sent; None where it keeps the rules."""
+        octets = bytes(octets)
         return self._found(c.library.fio2070_checker_sent(self._checker, octets, len(octets), self._breach))
 
-    def heard(self, octets: bytes) -> Optional[Breach]:
+    def heard(self, octets: Octets) -> Optional[Breach]:
         """The breach of a frame that the CPU heard; None where it keeps the rules."""
+        octets = bytes(octets)
         return self._found(c.library.fio2070_checker_heard(self._checker, octets, len(octets), self._breach))
 
     def _found(self, rule: int) -> Optional[Breach]:
