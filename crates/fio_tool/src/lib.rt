@@ -9,7 +9,7 @@
 //!
 //! The definitions stand in `specs/`. `Program` comes first: the text that each tool writes for an
 //! input, and the exit status; below it the command line (`CommandLine`). The three texts are `Show`
-//! above the lines of each message (`ShowCommands`, `ShowAnswers`); `Simulate`; and `Check`
+//! above the lines of each frame (`FrameLines` of `fio_show`); `Simulate`; and `Check`
 //! above the lines of a transcript (`Transcript`), whose rules and verdict are those of `fio_check`.
 //! What is reported of an input with a fault is in `InputFaults`, what is read and written in `Streams`. The
 //! laws are the contracts of the modules `laws` and `transcript_laws`.
