@@ -68,8 +68,11 @@ ifneq ($(tools),)
 	install -d '$(root)/$(TOOLS)'
 	cp -R tools '$(root)/$(TOOLS)'
 	install -d '$(bin)' '$(root)/$(TOOLS)/python/fio2070' '$(root)/$(TOOLS)/python/fiolog'
-	install -m 644 bindings/python/fio2070/*.py '$(root)/$(TOOLS)/python/fio2070'
+	install -m 644 bindings/python/fio2070/*.py bindings/python/fio2070/py.typed '$(root)/$(TOOLS)/python/fio2070'
 	install -m 644 bindings/python/fiolog/*.py bindings/python/fiolog/forms.json '$(root)/$(TOOLS)/python/fiolog'
+	install -d '$(root)/$(TOOLS)/rust/fio2070/src'
+	install -m 644 bindings/rust/fio2070/Cargo.* bindings/rust/fio2070/build.rs '$(root)/$(TOOLS)/rust/fio2070'
+	install -m 644 bindings/rust/fio2070/src/*.rs '$(root)/$(TOOLS)/rust/fio2070/src'
 	$(if $(python_library),install -m 644 $(python_library) '$(root)/$(TOOLS)/python/fio2070')
 	ln -sf '../$(TOOLS)/tools/fiolog' '$(bin)/fiolog'
 	@echo 'The Wireshark dissector is installed. To enable it:'
@@ -81,11 +84,11 @@ uninstall-more:
 	rm -f $(foreach file,$(notdir $(libraries)),'$(root)/$(LIB)/$(file)')
 	rm -f $(foreach file,$(notdir $(headers)),'$(root)/include/$(file)')
 	rm -f '$(bin)/fiolog'
-	rm -rf '$(root)/$(TOOLS)/tools' '$(root)/$(TOOLS)/python'
+	rm -rf '$(root)/$(TOOLS)/tools' '$(root)/$(TOOLS)/python' '$(root)/$(TOOLS)/rust'
 
 # The archive and the Debian package, with the library for C: the same files give the same octets each time.
 
-dist deb: all libfio2070.a
+dist deb: all libfio2070.a fio2070-test
 	@packaging/$@ '$(DIST)'
 
 # The library for C: `make library` makes the archive, and a shared library for languages that load one, in OUT.
@@ -105,7 +108,12 @@ proved := $(shell find $(addprefix crates/,$(crates)) \
 
 .PHONY: library install-library uninstall-library
 
+# `make library TARGET=aarch64` makes the archive for AArch64 under Linux, proved for that target of the kit.
+ifeq ($(TARGET),aarch64)
+library: $(OUT)/aarch64/libfio2070.a
+else
 library: $(OUT)/libfio2070.a $(OUT)/libfio2070.so $(OUT)/fio2070-test
+endif
 
 # Each library before those that use it: asked for the last alone, `rt lib` reads all of them once more.
 $(archive): $(proved)
@@ -129,9 +137,27 @@ wasm: $(module)
 crates/fio_c/out/%/libfio_c.a: $(archive) packaging/for-target
 	packaging/for-target $* $(RTFLAGS)
 
+$(OUT)/aarch64/libfio2070.a: crates/fio_c/out/aarch64-unknown-linux-gnu/libfio_c.a
+	mkdir -p $(@D)
+	cp $< $@
+
 # Its stack is 64 KB, of which no call takes more than a sixth.
 $(module): crates/fio_c/out/$(wasm)/libfio_c.a
 	'$(kit)/bin/rattle-link' --target $(wasm) --toolchain '$(kit)/toolchain' --stack 65536 -o $@ $<
+
+# The portable library: fio2070.c and fio2070.h, two files of C99 for any processor (tools/portable/README.md).
+
+portable = portable
+translator = $(addprefix tools/portable/,translate instructions.py functions.py module.py head.c machine.c calls.c)
+
+.PHONY: portable
+
+portable: $(portable)/fio2070.c
+
+$(portable)/fio2070.c: $(module) include/fio2070.h $(translator)
+	tools/portable/translate $(module) include/fio2070.h $(portable) \
+	    --made-from "$$(git describe --always --dirty 2>/dev/null || echo unknown)" --kit "$$(rt --version)" \
+	    --proof "$$(cat crates/fio_c/out/$(wasm)/proof 2>/dev/null || echo unknown)"
 
 # The shared library has the tester too.
 tester = $(wildcard tools/conformance/conformance*.c)
@@ -160,11 +186,17 @@ ifneq ($(shared),)
 	install -m 644 $(shared) '$(root)/$(LIB)'
 endif
 ifneq ($(command),)
+	install -d '$(bin)' '$(man)' '$(bash)' '$(zsh)' '$(fish)'
 	install -m 755 $(command) '$(bin)'
+	install -m 644 man/fio2070-test.1 '$(man)'
+	install -m 644 completions/fio2070-test.bash '$(bash)/fio2070-test'
+	install -m 644 completions/fio2070-test.zsh '$(zsh)/_fio2070-test'
+	install -m 644 completions/fio2070-test.fish '$(fish)'
 endif
 
 uninstall-library:
 	rm -f '$(pkgconfig)/fio2070.pc' '$(root)/$(LIB)/libfio2070.so' '$(bin)/fio2070-test'
+	rm -f '$(man)/fio2070-test.1' '$(bash)/fio2070-test' '$(zsh)/_fio2070-test' '$(fish)/fio2070-test.fish'
 
 # The page: one file that a browser opens offline, with the library in it (tools/page/README.md). Where `wasm-opt` of the
 # package binaryen is there, it also lowers the library to memory of 32 bits, for browsers that have no other.

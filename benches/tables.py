@@ -10,6 +10,7 @@ import workloads
 from programs import TOP
 
 PAGE = TOP / 'docs/PERFORMANCE.md'
+FIGURES = TOP / 'benches/figures.md'
 PARTS = [(0.25, 'a quarter'), (0.5, 'a half'), (1, 'whole')]
 
 
@@ -111,11 +112,24 @@ def machine(rounds):
     return f'{name.group(1)}, {os.cpu_count()} processors, load {load} at the end; medians of {rounds} runs in turns.\n'
 
 
-def write(found, rounds):
-    """Replaces the tables of the page, each between its two marks."""
-    page = PAGE.read_text()
-    for part, lines in {**found, 'machine': machine(rounds)}.items():
+def of_ratios(lines):
+    """The three ratios of each input, from the table of the program with those of another implementation."""
+    rows = [[cell.strip() for cell in line.split('|')[1:-1]] for line in lines.splitlines()[2:]]
+    return table(['Input', 'instructions', 'time', 'memory'], [[row[0], row[3], row[6], row[9]] for row in rows])
+
+
+def put(page, found):
+    """Replaces the tables of a page, each between its two marks."""
+    text = page.read_text()
+    for part, lines in found.items():
         marks = f'<!-- {part} -->\n', f'<!-- end of {part} -->'
-        before, rest = page.split(marks[0])
-        page = before + marks[0] + '\n' + lines + '\n' + marks[1] + rest.split(marks[1], maxsplit=1)[1]
-    PAGE.write_text(page)
+        before, rest = text.split(marks[0])
+        text = before + marks[0] + '\n' + lines + '\n' + marks[1] + rest.split(marks[1], maxsplit=1)[1]
+    page.write_text(text)
+
+
+def write(found, rounds):
+    """Writes the tables into their pages."""
+    put(FIGURES, {**found, 'machine': machine(rounds)})
+    if 'ratio' in found.get('programs', ''):
+        put(PAGE, {'ratios': of_ratios(found['programs'])})

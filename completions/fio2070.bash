@@ -4,8 +4,8 @@
 _fio2070() {
     local word=${COMP_WORDS[COMP_CWORD]} words=
     case $COMP_CWORD:${COMP_WORDS[1]} in
-    1:*) words='show simulate check -h --help -V --version' ;;
-    2:show | 2:simulate | 2:check) words='-h --help' ;;
+    1:*) words='show simulate check record -h --help -V --version' ;;
+    2:show | 2:simulate | 2:check | 2:record) words='-h --help' ;;
     esac
     COMPREPLY=($(compgen -W "$words" -- "$word"))
 }

@@ -8,12 +8,13 @@ _fio2070() {
         'show:report what captured frames say'
         'simulate:run a script of events on both ends of the link'
         'check:report whether a transcript keeps the rules'
+        'record:report what the CPU of a transcript recorded'
     )
     help=('(-)'{-h,--help}'[print help]')
     if (( CURRENT == 2 )); then
         _describe -t subcommands subcommand subcommands
         _arguments "$help[@]" '(-)'{-V,--version}'[print the version]'
-    elif (( CURRENT == 3 )) && [[ $words[2] == (show|simulate|check) ]]; then
+    elif (( CURRENT == 3 )) && [[ $words[2] == (show|simulate|check|record) ]]; then
         _arguments "$help[@]"
     fi
 }

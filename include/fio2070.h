@@ -10,7 +10,7 @@
  *    asks of its type. A pointer is not null, also where its length is 0.
  *  - During a call no one else writes what an argument points to, and no one else reads what an
  *    argument without const points to. Such an argument overlaps no other.
- *  - The structs filters, counter and module are written by the calls of this header alone, _start
+ *  - The structs filters, counter, checker and module are written by the calls of this header alone, _start
  *    first. Before _start they may hold any octets; _start sets each of them. They may be copied and
  *    moved by memcpy.
  *
@@ -25,6 +25,18 @@
 
 #include <stddef.h>
 #include <stdint.h>
+
+/* Whether a library for this compiler exists. A program that uses the library as portable C, and not one of its
+ * archives, defines FIO2070_PORTABLE. */
+#ifndef FIO2070_PORTABLE
+#if defined(_WIN32)
+#error "libfio2070.a has the calling convention of Linux: no program for Windows can call it."
+#elif !(defined(__x86_64__) || defined(__aarch64__))
+#error "libfio2070.a is made for x86-64 and for AArch64, and not for the processor of this compiler."
+#elif SIZE_MAX != 0xffffffffffffffff
+#error "libfio2070.a has 64-bit pointers, and this compiler has shorter ones."
+#endif
+#endif
 
 #ifdef __cplusplus
 extern "C" {
@@ -86,10 +98,18 @@ enum fio2070_fault_kind {
 
 /* Numbers that a kind does not have are 0. */
 struct fio2070_fault {
-    uint8_t kind;    /* an enum fio2070_fault_kind */
-    uint8_t code;    /* the first octet */
-    uint16_t needed; /* at most 773 */
-    size_t got;
+    /** 0 none; 1 there is no octet; 2 more than 773 octets, `got` says how many; 3 no message of this call
+     *  has the type `code`; 4 a message of this type and count has another length, `needed` and `got` say
+     *  which. */
+    uint8_t kind;
+    /** The first octet, for kind 3. */
+    uint8_t code;
+    /** How many octets are needed, for kind 4: at most 773. */
+    uint16_t needed;
+    /** 0 in each octet that the library writes. */
+    uint8_t reserved[4];
+    /** How many octets there are, for kinds 2 and 4. */
+    uint64_t got;
 };
 
 /* Writes the words of a fault as `fio2070 show` does, such as "wrong length needed 14 got 11", at
@@ -100,17 +120,27 @@ size_t fio2070_fault_text(const struct fio2070_fault *fault, uint8_t *out, size_
 /* ---- Reading block answers in place (TEES 2009, answer 182) ---- */
 
 struct fio2070_block_header {
+    /** The block number. */
     uint8_t number;
-    uint8_t status; /* FIO2070_MORE, _LOST, _AGAIN, _OUT_OF_SEQUENCE, and other bits as they come */
-    uint8_t count;  /* of entries, 0 to 255 */
-    uint32_t stamp; /* the module's millisecond counter when the block was made */
+    /** The status, with C, F, E and G in bits 3 to 0 (places own profile), and other bits as they come. */
+    uint8_t status;
+    /** How many entries the block has, from 0 to 255. */
+    uint8_t count;
+    /** 0 where the library writes it. */
+    uint8_t reserved;
+    /** The module's millisecond counter when the block was made. */
+    uint32_t stamp;
 };
 
 /* A transition: a change of the filtered state of an input. */
 struct fio2070_entry {
-    uint8_t input;  /* 0 to 127 */
-    uint8_t state;  /* after the transition: 0 or 1. Calls that are given entries take any number but 0 as 1. */
-    uint16_t stamp; /* the low 16 bits of the module's counter at the transition */
+    /** The input that changed, from 0 to 127. */
+    uint8_t input;
+    /** The filtered state after the transition, 0 or 1. Calls that are given an entry take any number but
+     *  0 as 1. */
+    uint8_t state;
+    /** The low 16 bits of the module's millisecond counter at the transition. */
+    uint16_t stamp;
 };
 
 /* Reads a block answer without its entries. After a fault `header` is unchanged. Any other answer is
@@ -131,38 +161,65 @@ uint32_t fio2070_widen(uint32_t answer_stamp, uint16_t stamp);
 
 /* A command: the fields of its type; the others are 0. */
 struct fio2070_command {
-    uint8_t code;        /* the type, 49 to 60 */
-    uint8_t clear;       /* 49: flags to clear */
-    uint8_t block;       /* 54: block number */
-    uint8_t timeout;     /* 58: milliseconds, as sent */
-    uint8_t count;       /* 51: of items, 0 to 255; fio2070_command_items copies them */
-    uint16_t body;       /* 56, 57, 59: how many octets follow the type, 0 to 772; they are not read further */
-    uint32_t load;       /* 50: the number to load, in milliseconds */
-    uint8_t levels[8];   /* 55: data octets */
-    uint8_t controls[8]; /* 55: control octets */
+    /** The type: 49 to 60 (TEES 2009). */
+    uint8_t code;
+    /** Type 49: the flags to clear. */
+    uint8_t clear;
+    /** Type 54: the block number. */
+    uint8_t block;
+    /** Type 58: the timeout in milliseconds, as it is sent. */
+    uint8_t timeout;
+    /** Type 51: how many items there are. `fio2070_command_items` copies them. */
+    uint8_t count;
+    /** 0 where the library writes it. */
+    uint8_t reserved;
+    /** Types 56, 57 and 59: how many octets follow the type. They are not read further. */
+    uint16_t body;
+    /** Type 50: the number to load, in milliseconds. */
+    uint32_t load;
+    /** Type 55: the data octets. */
+    uint8_t levels[8];
+    /** Type 55: the control octets. */
+    uint8_t controls[8];
 };
 
 /* How one input is read (TEES 2009, an item of command 51). */
 struct fio2070_configuration_item {
-    uint8_t input;    /* 0 to 127; a module has the inputs 0 to 63 */
-    uint8_t ignore;   /* 1: its transitions are not reported; 0. Calls that are given items take any number but 0 as 1. */
-    uint8_t leading;  /* samples of 0 in a row that change the state from 1 to 0; 0 acts as 1 */
-    uint8_t trailing; /* samples of 1 in a row that change the state from 0 to 1; 0 acts as 1 */
+    /** The input, from 0 to 127. The module has the inputs 0 to 63. */
+    uint8_t input;
+    /** 1 where the input's transitions are left out of the blocks, else 0. Calls that are given an item
+     *  take any number but 0 as 1. */
+    uint8_t ignore;
+    /** The leading filter: so many samples of 0 in a row change the state from 1 to 0; 0 acts as 1. */
+    uint8_t leading;
+    /** The trailing filter: so many samples of 1 in a row change the state from 0 to 1; 0 acts as 1. */
+    uint8_t trailing;
 };
 
 /* An answer: the fields of its type; the others are 0. */
 struct fio2070_answer {
-    uint8_t code;            /* the type, 177 to 188 */
-    uint8_t flags;           /* 177: the flags that are left */
-    uint8_t receive_errors;  /* 177 */
-    uint8_t transmit_errors; /* 177 */
-    uint8_t status;          /* 178, 179, 182, 186 */
-    uint8_t block;           /* 182: block number */
-    uint8_t count;           /* 182: of entries, 0 to 255; fio2070_block_entries copies them */
-    uint16_t body;           /* 183, 184, 185, 187, 188: how many octets follow the type, 0 to 772; they are not
-                                read further */
-    uint32_t stamp;          /* 177, 180, 181, 182: the millisecond counter */
-    uint64_t inputs;         /* 180, 181: bit i is input i */
+    /** The type: 177 to 188 (TEES 2009). */
+    uint8_t code;
+    /** Type 177: the flags that are left. */
+    uint8_t flags;
+    /** Type 177: how many errors in receiving were counted. */
+    uint8_t receive_errors;
+    /** Type 177: how many errors in transmitting were counted. */
+    uint8_t transmit_errors;
+    /** Types 178, 179, 182 and 186: the status. */
+    uint8_t status;
+    /** Type 182: the block number. */
+    uint8_t block;
+    /** Type 182: how many entries there are. `fio2070_block_entries` copies them. */
+    uint8_t count;
+    /** 0 in each octet that the library writes. */
+    uint8_t reserved[3];
+    /** Types 183, 184, 185, 187 and 188: how many octets follow the type. They are not read further. */
+    uint16_t body;
+    /** Types 177, 180, 181 and 182: the millisecond counter. */
+    uint32_t stamp;
+    /** Types 180 and 181: bit i is input i. */
+    uint64_t inputs;
 };
 
 /* Reads any command. After a fault `command` is unchanged. */
@@ -237,15 +294,23 @@ size_t fio2070_encode_other_answer(uint8_t code, const uint8_t *body, size_t len
 
 /* The caller sets the first number, and keeps the record. */
 struct fio2070_poller {
-    uint8_t number; /* of the block that the next poll asks for */
+    /** The block number of the next poll. The caller sets the first one. */
+    uint8_t number;
 };
 
 struct fio2070_record_item {
-    uint8_t gap;    /* 1: entries are missing here, and the other fields are 0; 0: an entry */
-    uint8_t input;  /* 0 to 127 */
-    uint8_t state;  /* after the transition: 0 or 1 */
-    uint16_t stamp; /* the low 16 bits of the module's counter at the transition */
-    uint32_t wide;  /* the time in milliseconds, as fio2070_widen has it */
+    /** 1 for a gap mark, where entries are missing, and the other fields are 0; 0 for an entry. */
+    uint8_t gap;
+    /** The input that changed, from 0 to 127. */
+    uint8_t input;
+    /** The filtered state after the transition, 0 or 1. */
+    uint8_t state;
+    /** 0 in each octet that the library writes. */
+    uint8_t reserved[3];
+    /** The low 16 bits of the module's millisecond counter at the transition. */
+    uint16_t stamp;
+    /** The time in milliseconds, in 32 bits, as `fio2070_widen` has it (own profile). */
+    uint32_t wide;
 };
 
 /* What octets were: the first of these that applies, but _TAKEN is 0. */
@@ -259,12 +324,22 @@ enum fio2070_heard_kind {
 
 /* Numbers that a kind does not have are 0. */
 struct fio2070_heard {
-    uint8_t kind; /* an enum fio2070_heard_kind */
+    /** 0 a block that was taken, with `entries` and `status`; 1 no answer, with `fault`; 2 another answer,
+     *  with its type `code`; 3 a stale block, with its `number`; 4 no room for `items`. */
+    uint8_t kind;
+    /** The type of another answer. */
     uint8_t code;
+    /** The number of a stale block. */
     uint8_t number;
+    /** The status of a block that was taken, with C, F, E and G in bits 3 to 0. */
     uint8_t status;
-    uint8_t entries; /* of the block that was taken */
-    uint16_t items;  /* that were written, or need room: 0 to 256 */
+    /** How many entries a block has that was taken. */
+    uint8_t entries;
+    /** 0 where the library writes it. */
+    uint8_t reserved;
+    /** How many items were written, or would have been with room for them: at most 256. */
+    uint16_t items;
+    /** Why the octets are no answer. */
     struct fio2070_fault fault;
 };
 
@@ -278,12 +353,72 @@ size_t fio2070_poller_poll(const struct fio2070_poller *poller, uint8_t *out, si
 struct fio2070_heard fio2070_poller_hear(struct fio2070_poller *poller, const uint8_t *octets, size_t length,
                                          struct fio2070_record_item *items, size_t room);
 
+/* ---- The rules of a transcript ---- */
+
+/* The rules, in the order in which they are tried (own profile; docs/FORMATS.md). */
+enum {
+    FIO2070_READABLE = 1,
+    FIO2070_PAIR = 2,
+    FIO2070_NUMBER = 3,
+    FIO2070_ADVANCE = 4,
+    FIO2070_SAME = 5,
+    FIO2070_SEQUENCE = 6,
+    FIO2070_LIMITS = 7,
+    FIO2070_REST = 8,
+    FIO2070_REFUSAL = 9
+};
+
+/* A checker of what the CPU's end sends and hears. Its fields are the library's own. */
+struct fio2070_checker {
+    /** 1 where a command stands directly above. */
+    uint8_t has_awaited;
+    /** The type of the answer to it. */
+    uint8_t awaited;
+    /** 1 where it names an input above 63. */
+    uint8_t absent_named;
+    /** 1 where a poll stands above. */
+    uint8_t has_polled;
+    /** The number of the latest poll. */
+    uint8_t polled;
+    /** 1 where the latest poll or block answer is a block answer. */
+    uint8_t answered;
+    /** 1 where the latest poll has another number than the poll before it. */
+    uint8_t advanced;
+    /** 0 where no block answer stands above, 1 where the latest has no C, 2 where it has. */
+    uint8_t more;
+    /** 1 below a breach, until the next poll. */
+    uint8_t skips;
+};
+
+/* The first rule that a frame breaks, and what was due. */
+struct fio2070_breach {
+    /** 0 none; 1 readable; 2 pair; 3 number; 4 advance; 5 same; 6 sequence; 7 limits; 8 rest; 9 refusal. */
+    uint8_t rule;
+    /** 1 where `due` and `got` are set: for advance and number, and for pair below a command. */
+    uint8_t has_due;
+    /** The number of the poll or the block answer, or the type of the answer, that was due. */
+    uint8_t due;
+    /** The one that the frame has. */
+    uint8_t got;
+};
+
+/* Above the first frame. */
+void fio2070_checker_start(struct fio2070_checker *checker);
+/* Take a frame that the CPU's end sent or heard: they write its breach, and return the breach's rule. Below
+ * a breach the checker goes on as one that starts at the next poll. */
+uint8_t fio2070_checker_sent(struct fio2070_checker *checker, const uint8_t *octets, size_t length,
+                             struct fio2070_breach *breach);
+uint8_t fio2070_checker_heard(struct fio2070_checker *checker, const uint8_t *octets, size_t length,
+                              struct fio2070_breach *breach);
+
 /* ---- Parts of a module ---- */
 
 /* The millisecond counter. Its fields are the library's own. */
 struct fio2070_counter {
-    uint32_t value, load;
-    uint8_t is_asked, reserved[3];
+    uint32_t value;
+    uint32_t load;
+    uint8_t is_asked;
+    uint8_t reserved[3];
 };
 
 /* At 0 (own profile), with no load asked for. */
@@ -299,8 +434,12 @@ uint32_t fio2070_counter_now(const struct fio2070_counter *counter);
 
 /* The filters of the 64 inputs. Bit i of a word is input i. The fields are the library's own. */
 struct fio2070_filters {
-    uint8_t run_lengths[64], leading[64], trailing[64];
-    uint64_t ignored, filtered, raw;
+    uint8_t run_lengths[64];
+    uint8_t leading[64];
+    uint8_t trailing[64];
+    uint64_t ignored;
+    uint64_t filtered;
+    uint64_t raw;
 };
 
 /* What became of a configuration. */
@@ -311,8 +450,12 @@ enum fio2070_configured_kind {
 };
 
 struct fio2070_configured {
-    uint8_t kind; /* an enum fio2070_configured_kind */
-    size_t place; /* counted from 0; 0 for the other kinds */
+    /** 0 applied; 1 an item names an input above 63; 2 more than 255 items. */
+    uint8_t kind;
+    /** 0 in each octet that the library writes. */
+    uint8_t reserved[7];
+    /** The place of the first item that names an input above 63, counted from 0, for kind 1. */
+    uint64_t place;
 };
 
 /* Each input is ignored, both its filters are 5, and its raw level and filtered state are 1 (own
@@ -335,24 +478,34 @@ uint64_t fio2070_filters_raw(const struct fio2070_filters *filters);
 
 /* The data and control octets of command 55. */
 struct fio2070_outputs {
-    uint8_t levels[8], controls[8];
+    /** The eight data octets. */
+    uint8_t levels[8];
+    /** The eight control octets. */
+    uint8_t controls[8];
 };
 
 /* A module of which 1,024 entries may wait. The fields are the library's own. */
 struct fio2070_module {
     struct {
-        uint8_t id, per_block, flags, watchdog, pushed_out, reserved[7];
+        uint8_t id;
+        uint8_t per_block;
+        uint8_t flags;
+        uint8_t watchdog;
+        uint8_t pushed_out;
+        uint8_t reserved[7];
         struct fio2070_counter counter;
         struct fio2070_outputs outputs;
         struct fio2070_filters filters;
         struct {
-            uint8_t octets[773], reserved;
+            uint8_t octets[773];
+            uint8_t reserved;
             uint16_t length;
         } sent;
     } state;
     struct {
         uint8_t entries[1024][3];
-        uint16_t first, count;
+        uint16_t first;
+        uint16_t count;
     } waiting;
     uint8_t reserved[4];
 };
@@ -386,6 +539,107 @@ uint32_t fio2070_module_counter(const struct fio2070_module *module);
 uint64_t fio2070_module_filtered(const struct fio2070_module *module);
 /* How many entries wait for a poll, 0 to 1,024. */
 size_t fio2070_module_waiting(const struct fio2070_module *module);
+
+/* ---- Layout: written by tools/generate-layouts ---- */
+/* Each struct has this size and these offsets with every compiler. */
+#if defined(__cplusplus)
+#define FIO2070_SAME(name, is) static_assert(is, "the layout of struct fio2070_" #name)
+#elif defined(__STDC_VERSION__) && __STDC_VERSION__ >= 201112L
+#define FIO2070_SAME(name, is) _Static_assert(is, "the layout of struct fio2070_" #name)
+#else
+#define FIO2070_SAME(name, is) typedef char fio2070_layout_of_##name[(is) ? 1 : -1]
+#endif
+FIO2070_SAME(answer, sizeof(struct fio2070_answer) == 24 &&
+             offsetof(struct fio2070_answer, flags) == 1 &&
+             offsetof(struct fio2070_answer, receive_errors) == 2 &&
+             offsetof(struct fio2070_answer, transmit_errors) == 3 &&
+             offsetof(struct fio2070_answer, status) == 4 &&
+             offsetof(struct fio2070_answer, block) == 5 &&
+             offsetof(struct fio2070_answer, count) == 6 &&
+             offsetof(struct fio2070_answer, reserved) == 7 &&
+             offsetof(struct fio2070_answer, body) == 10 &&
+             offsetof(struct fio2070_answer, stamp) == 12 &&
+             offsetof(struct fio2070_answer, inputs) == 16);
+
+FIO2070_SAME(block_header, sizeof(struct fio2070_block_header) == 8 &&
+             offsetof(struct fio2070_block_header, status) == 1 &&
+             offsetof(struct fio2070_block_header, count) == 2 &&
+             offsetof(struct fio2070_block_header, reserved) == 3 &&
+             offsetof(struct fio2070_block_header, stamp) == 4);
+
+FIO2070_SAME(entry, sizeof(struct fio2070_entry) == 4 &&
+             offsetof(struct fio2070_entry, state) == 1 &&
+             offsetof(struct fio2070_entry, stamp) == 2);
+
+FIO2070_SAME(checker, sizeof(struct fio2070_checker) == 9 &&
+             offsetof(struct fio2070_checker, awaited) == 1 &&
+             offsetof(struct fio2070_checker, absent_named) == 2 &&
+             offsetof(struct fio2070_checker, has_polled) == 3 &&
+             offsetof(struct fio2070_checker, polled) == 4 &&
+             offsetof(struct fio2070_checker, answered) == 5 &&
+             offsetof(struct fio2070_checker, advanced) == 6 &&
+             offsetof(struct fio2070_checker, more) == 7 &&
+             offsetof(struct fio2070_checker, skips) == 8);
+
+FIO2070_SAME(breach, sizeof(struct fio2070_breach) == 4 &&
+             offsetof(struct fio2070_breach, has_due) == 1 &&
+             offsetof(struct fio2070_breach, due) == 2 &&
+             offsetof(struct fio2070_breach, got) == 3);
+
+FIO2070_SAME(command, sizeof(struct fio2070_command) == 28 &&
+             offsetof(struct fio2070_command, clear) == 1 &&
+             offsetof(struct fio2070_command, block) == 2 &&
+             offsetof(struct fio2070_command, timeout) == 3 &&
+             offsetof(struct fio2070_command, count) == 4 &&
+             offsetof(struct fio2070_command, reserved) == 5 &&
+             offsetof(struct fio2070_command, body) == 6 &&
+             offsetof(struct fio2070_command, load) == 8 &&
+             offsetof(struct fio2070_command, levels) == 12 &&
+             offsetof(struct fio2070_command, controls) == 20);
+
+FIO2070_SAME(configuration_item, sizeof(struct fio2070_configuration_item) == 4 &&
+             offsetof(struct fio2070_configuration_item, ignore) == 1 &&
+             offsetof(struct fio2070_configuration_item, leading) == 2 &&
+             offsetof(struct fio2070_configuration_item, trailing) == 3);
+
+FIO2070_SAME(fault, sizeof(struct fio2070_fault) == 16 &&
+             offsetof(struct fio2070_fault, code) == 1 &&
+             offsetof(struct fio2070_fault, needed) == 2 &&
+             offsetof(struct fio2070_fault, reserved) == 4 &&
+             offsetof(struct fio2070_fault, got) == 8);
+
+FIO2070_SAME(configured, sizeof(struct fio2070_configured) == 16 &&
+             offsetof(struct fio2070_configured, reserved) == 1 &&
+             offsetof(struct fio2070_configured, place) == 8);
+
+FIO2070_SAME(module, sizeof(struct fio2070_module) == 4112);
+
+FIO2070_SAME(poller, sizeof(struct fio2070_poller) == 1);
+
+FIO2070_SAME(record_item, sizeof(struct fio2070_record_item) == 12 &&
+             offsetof(struct fio2070_record_item, input) == 1 &&
+             offsetof(struct fio2070_record_item, state) == 2 &&
+             offsetof(struct fio2070_record_item, reserved) == 3 &&
+             offsetof(struct fio2070_record_item, stamp) == 6 &&
+             offsetof(struct fio2070_record_item, wide) == 8);
+
+FIO2070_SAME(heard, sizeof(struct fio2070_heard) == 24 &&
+             offsetof(struct fio2070_heard, code) == 1 &&
+             offsetof(struct fio2070_heard, number) == 2 &&
+             offsetof(struct fio2070_heard, status) == 3 &&
+             offsetof(struct fio2070_heard, entries) == 4 &&
+             offsetof(struct fio2070_heard, reserved) == 5 &&
+             offsetof(struct fio2070_heard, items) == 6 &&
+             offsetof(struct fio2070_heard, fault) == 8);
+
+FIO2070_SAME(counter, sizeof(struct fio2070_counter) == 12);
+
+FIO2070_SAME(filters, sizeof(struct fio2070_filters) == 216);
+
+FIO2070_SAME(outputs, sizeof(struct fio2070_outputs) == 16 &&
+             offsetof(struct fio2070_outputs, controls) == 8);
+#undef FIO2070_SAME
+/* ---- End of the layout ---- */
 
 #ifdef __cplusplus
 }

@@ -1,15 +1,18 @@
 // The calls of fio2070.h for C++17: values that are always started, views of octets, optional results.
 // Header only; link libfio2070.a. Ranges, errors and sources are those of fio2070.h. Nothing here
-// throws but what a std::vector throws where memory runs out.
+// throws but Read::value() and what a std::vector throws where memory runs out.
 #ifndef FIO2070_HPP
 #define FIO2070_HPP
 
 #include "fio2070.h"
 
+#include <algorithm>
 #include <array>
 #include <cstddef>
 #include <cstdint>
+#include <initializer_list>
 #include <optional>
+#include <stdexcept>
 #include <string>
 #include <type_traits>
 #include <vector>
@@ -35,6 +38,8 @@ public:
     constexpr View(T (&array)[Size]) : data_(array), size_(Size) {}
     template <typename List, typename = std::enable_if_t<std::is_convertible_v<decltype(std::declval<List &>().data()), T *>>>
     constexpr View(List &&list) : data_(list.data()), size_(list.size()) {}
+    /// A list that lasts as long as the call that it is given to.
+    constexpr View(std::initializer_list<std::remove_const_t<T>> list) : data_(first_of(list)), size_(list.size()) {}
 
     /// Never null, as the library wants it.
     constexpr T *data() const { return data_ != nullptr ? data_ : &nothing; }
@@ -45,6 +50,9 @@ public:
     constexpr T &operator[](std::size_t place) const { return data()[place]; }
 
 private:
+    static constexpr T *first_of(const std::initializer_list<std::remove_const_t<T>> &list) {
+        return list.size() != 0 ? &*list.begin() : nullptr;
+    }
     inline static std::remove_const_t<T> nothing{};
     T *data_ = nullptr;
     std::size_t size_ = 0;
@@ -71,6 +79,16 @@ private:
     ::fio2070_fault fault_;
 };
 
+/// The fault of a message that was asked for and is not there; its text is that of the fault.
+class FaultError : public std::runtime_error {
+public:
+    explicit FaultError(const Fault &fault) : std::runtime_error(fault.text()), fault_(fault) {}
+    const Fault &fault() const { return fault_; }
+
+private:
+    Fault fault_;
+};
+
 /// A message, or why there is none.
 template <typename Message>
 class Read {
@@ -79,6 +97,11 @@ public:
         : fault_(fault), message_(fault.kind == FIO2070_NO_FAULT ? std::optional<Message>(message) : std::nullopt) {}
     explicit operator bool() const { return message_.has_value(); }
     const std::optional<Message> &message() const { return message_; }
+    /// The message; throws FaultError where there is none.
+    const Message &value() const {
+        if (!message_) throw FaultError(fault_);
+        return *message_;
+    }
     const Message &operator*() const { return *message_; }
     const Message *operator->() const { return &*message_; }
     /// Of kind FIO2070_NO_FAULT where there is a message.
@@ -145,6 +168,10 @@ public:
     const std::uint8_t *begin() const { return data(); }
     const std::uint8_t *end() const { return data() + size_; }
     std::uint8_t operator[](std::size_t place) const { return octets_[place]; }
+    friend bool operator==(const Frame &one, const Frame &other) {
+        return std::equal(one.begin(), one.end(), other.begin(), other.end());
+    }
+    friend bool operator!=(const Frame &one, const Frame &other) { return !(one == other); }
 
     /// What `write(out, room)` writes; none where it writes nothing.
     template <typename Write>
@@ -272,6 +299,12 @@ public:
         return heard;
     }
     const std::vector<RecordItem> &record() const { return record_; }
+    /// The record, which is empty then, so that a long run needs no more memory.
+    std::vector<RecordItem> drain() {
+        std::vector<RecordItem> drained;
+        drained.swap(record_);
+        return drained;
+    }
 
 private:
     // Doubles, so that many blocks take few allocations.
@@ -281,6 +314,26 @@ private:
     }
     ::fio2070_poller poller_;
     std::vector<RecordItem> record_;
+};
+
+/// A checker of what the CPU's end sends and hears.
+class Checker {
+public:
+    Checker() { ::fio2070_checker_start(&checker_); }
+    /// The breach of a frame: its rule is 0 where the frame keeps the rules.
+    ::fio2070_breach sent(Octets octets) {
+        ::fio2070_breach breach;
+        ::fio2070_checker_sent(&checker_, octets.data(), octets.size(), &breach);
+        return breach;
+    }
+    ::fio2070_breach heard(Octets octets) {
+        ::fio2070_breach breach;
+        ::fio2070_checker_heard(&checker_, octets.data(), octets.size(), &breach);
+        return breach;
+    }
+
+private:
+    ::fio2070_checker checker_{};
 };
 
 /// The millisecond counter.
@@ -346,4 +399,22 @@ private:
 };
 
 } // namespace fio2070
+
+// Equality of values, in the namespace of their types.
+inline bool operator==(const fio2070_entry &one, const fio2070_entry &other) {
+    return one.input == other.input && one.state == other.state && one.stamp == other.stamp;
+}
+inline bool operator!=(const fio2070_entry &one, const fio2070_entry &other) { return !(one == other); }
+inline bool operator==(const fio2070_configuration_item &one, const fio2070_configuration_item &other) {
+    return one.input == other.input && one.ignore == other.ignore && one.leading == other.leading &&
+           one.trailing == other.trailing;
+}
+inline bool operator!=(const fio2070_configuration_item &one, const fio2070_configuration_item &other) {
+    return !(one == other);
+}
+inline bool operator==(const fio2070_record_item &one, const fio2070_record_item &other) {
+    return one.gap == other.gap && one.input == other.input && one.state == other.state &&
+           one.stamp == other.stamp && one.wide == other.wide;
+}
+inline bool operator!=(const fio2070_record_item &one, const fio2070_record_item &other) { return !(one == other); }
 #endif

@@ -20,15 +20,15 @@ version() { crates/fio2070/out/fio2070 --version | cut -d ' ' -f 2; }
 epoch() { echo "${SOURCE_DATE_EPOCH:-$(git log -1 --format=%ct 2>/dev/null || stat -c %Y CHANGELOG.md)}"; }
 
 # stage FOLDER SETTING..: installs into a new folder, by `make install` with these settings, without symbols and without
-# the shared library, which has no version for a package, and without the tester's command. All can be read by everyone, whatever the settings of who
+# the shared library, which has no version for a package. All can be read by everyone, whatever the settings of who
 # cloned the repository.
 stage() {
     folder=$1
     shift
     umask 022
-    env -u MAKEFLAGS -u MAKELEVEL -u MFLAGS make -s install DESTDIR="$folder" shared= command= "$@" >/dev/null ||
+    env -u MAKEFLAGS -u MAKELEVEL -u MFLAGS make -s install DESTDIR="$folder" shared= "$@" >/dev/null ||
         fail 'make install failed'
-    find "$folder" -path '*/bin/fio2070' -exec strip --strip-unneeded '{}' ';' \
+    find "$folder" -path '*/bin/fio2070*' -exec strip --strip-unneeded '{}' ';' \
         -o -name '*.so' -exec strip --strip-unneeded '{}' ';' \
         -o -name '*.a' -exec strip --strip-debug --enable-deterministic-archives '{}' ';' || fail 'strip failed'
     chmod -R u=rwX,go=rX "$folder"

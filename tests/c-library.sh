@@ -76,6 +76,19 @@ exports() {
     grep -o 'fio2070_[a-z0-9_]*(' "$top/include/fio2070.h" | tr -d '(' | sort -u | diff exported -
 }
 
+# fits COMPILER: with it the structs have the layout of the library, as the header asserts.
+fits() {
+    echo '#include "fio2070.h"' >header.c
+    # shellcheck disable=SC2086
+    "$1" -std=c99 -ffreestanding $strict -DFIO2070_PORTABLE -I "$top/include" -fsyntax-only header.c
+}
+
+# fits_not COMPILER: it is told that the archive has no code for its processor.
+fits_not() {
+    ! "$1" -ffreestanding -I "$top/include" -fsyntax-only header.c 2>said && grep -q '#error "libfio2070.a' said
+}
+
+holds 'what follows from the structs' "$top/tools/generate-layouts" --check
 first 'make library' run_make library OUT="$room"
 holds 'the library needs no other' alone "$archive"
 holds 'the header declares what there is' exports "$archive"
@@ -106,6 +119,14 @@ for build in 'gcc -std=c99' 'g++ -std=c++11' 'clang -std=c99 -g -O1 -fsanitize=a
     holds "poller by $1" polls "$room/$1"
     last=$room/$1
 done
+for processor in aarch64-linux-gnu m68k-linux-gnu arm-linux-gnueabihf powerpc-linux-gnu riscv64-linux-gnu; do
+    if [ -z "$(command -v "$processor-gcc")" ]; then
+        skip "layout on $processor" "$processor-gcc is not installed"
+        continue
+    fi
+    holds "layout on $processor" fits "$processor-gcc"
+    case $processor in aarch64*) ;; *) holds "no archive for $processor" fits_not "$processor-gcc" ;; esac
+done
 for compiler in g++ clang++; do
     [ -n "$(command -v "$compiler")" ] || continue
     [ "$compiler" = g++ ] || set -- -fsanitize=address,undefined -fno-sanitize-recover=all
@@ -119,6 +140,11 @@ holds 'a million random buffers' "$last/fuzz" 1000000 20260701
 if [ -n "$(command -v python3)" ]; then
     holds 'Python' env -C "$top/bindings/python" PYTHONDONTWRITEBYTECODE=1 FIO2070_LIBRARY="$room/libfio2070.so" \
         python3 test.py
+    if has_command mypy; then
+        holds 'type hints' mypy --cache-dir="$room/mypy" "$top/bindings/python/fio2070"
+    else
+        skip 'type hints' 'no mypy here (Debian package mypy)'
+    fi
     if python3 -m venv "$room/python" >"$room/log" 2>&1; then
         holds 'pip install' "$room/python/bin/pip" install --quiet --no-index "$top/bindings/python"
         holds 'the installed package' env -C "$room" FIO2070_LIBRARY="$room/libfio2070.so" "$room/python/bin/python" -c \

@@ -14,6 +14,7 @@ import sys
 import tempfile
 import threading
 import tty
+from concurrent.futures import ThreadPoolExecutor
 import xml.etree.ElementTree as xml
 
 sys.dont_write_bytecode = True
@@ -47,6 +48,15 @@ NAMED = {
 
 # The most events of a script that was shrunk, but for faults that need long runs.
 SHORT = 40
+
+# Faults that are found over a wire in a module with a clock of its own, within 8,000 events.
+BY_BOUNDS = ['E is not set', 'a repeat has a new stamp', 'state of an entry is turned', '1 comes after 255',
+             'entries of a scan come in descending order', 'C is not set', 'counter steps by two',
+             'stamp of a block has 16 bits', 'answer 183 has a stamp of 0', 'ignored inputs are reported',
+             'load happens at once', 'first of two loads holds', 'input 63 is not sampled']
+
+# The sections of docs/PROTOCOL.md that have rules in tables.
+RULED = ['Counter', 'Filters', 'Configuration', 'Waiting entries', 'Polls', 'Other commands']
 
 # What a script for `--replay` alone begins with.
 FOR_REPLAY = '# For --replay alone'
@@ -203,14 +213,20 @@ def tables(check, program, room):
     """Each rule stands in docs/PROTOCOL.md under its section; the XML has a case for each, with what became of it."""
     with open(os.path.join(TOP, 'docs/PROTOCOL.md'), encoding='utf-8') as document:
         sections = re.split('(?m)^#+ ', document.read())
+    plain = {section.partition('\n')[0]: section.replace('*', '') for section in sections}
     pages = {section.partition('\n')[0]: re.sub(r'\s+', ' ', section.replace('*', '')) for section in sections}
-    names = set()
+    names, cited = set(), {}
     for end in ('module', 'cpu'):
         for name, source, section, sentence in re.findall(
                 r'^(\S+) +(TEES 2009|own profile) +([^:]*): (.*)$', run([program, end, 'none', '--rules'])[1], re.M):
             names.add(name)
+            cited.setdefault(section, []).append(sentence)
             check.holds('rule ' + name, sentence in pages.get(section, ''), '%s: %s' % (section, sentence))
     check.holds('names of rules', len(names) > 60)
+    left = [row for section in RULED for row in re.findall(r'^\| (.*) \| [^|]*(?:TEES 2009|own profile)[^|]* \|$',
+                                                           plain[section], re.M)
+            if not any(part in row for part in cited[section])]
+    check.equal('rows of PROTOCOL that no rule cites', [], left)
     result = os.path.join(room, 'result.xml')
     run([program, 'module', 'E is not set', '--junit', result, '--except', 'lost'])
     suite = xml.parse(result).getroot()
@@ -218,15 +234,17 @@ def tables(check, program, room):
     check.equal('JUnit: what became of rules', (['failure'], ['skipped'], []),
                 (cases['sent-again'], cases['lost'], cases['load-at-sync']))
     check.equal('JUnit: counts', (len(cases), 1), (int(suite.get('tests')), int(suite.get('failures'))))
+    said = suite.find('.//failure').text
+    check.holds('JUnit: the report', said.startswith('fio2070 script 1 2 0\npoll\n') and '\n# field: E of' in said
+                and '\n# rule: sent-again, TEES 2009, docs/PROTOCOL.md, Polls: ' in said, said)
 
 
 def page(check, program):
-    """The reports of the page are those that the tester writes of these scripts."""
+    """The report of the page is that which the tester writes of its script."""
     with open(os.path.join(TOP, 'tools/conformance/README.md'), encoding='utf-8') as document:
         blocks = re.findall('(?s)```text\n(fio2070 script.*?)```', document.read())
-    faults = [('module', 'E is not set'), ('cpu', 'a block without entries leaves the number')]
-    check.equal('reports of the page', blocks, [run([program, *fault, '--replay'], script_of(block))[1]
-                                                for fault, block in zip(faults, blocks)])
+    check.equal('report of the page', blocks, [
+        run([program, 'module', 'E is not set', '--replay'], script_of(block))[1] for block in blocks[:1]])
 
 
 def over(check, name, command, wanted):
@@ -264,7 +282,7 @@ def wires(check, room):
     over(check, 'wire: a wrong module', [tester, '--command', adapter + " | sed -u 's/^answer bc02/answer bc03/'", '5000',
                                          '--first'], differs)
     over(check, 'wire: another identification', [tester, '--id', '3', '--command', adapter, '5000', '--first'], differs)
-    for name, command, fault in [('ends', 'false', 'it ended'), ('is late', 'sleep 9', 'it wrote no line in time'),
+    for name, command, fault in [('ends', 'read line', 'it ended'), ('is late', 'sleep 9', 'it wrote no line in time'),
                                  ('says something else', "sed -u 's/.*/what/'", 'not `done`: what')]:
         over(check, 'wire: a module that ' + name, [tester, '--deadline', '300', '--command', command, '1000'], (3, fault))
     over(check, 'wire: a socket', [tester, '--socket', '127.0.0.1:%d' % served(adapter), '5000'], same)
@@ -273,6 +291,20 @@ def wires(check, room):
     with subprocess.Popen([adapter], stdin=ours, stdout=ours) as process:
         over(check, 'wire: a pseudo-terminal', [tester, '--serial', os.ttyname(theirs), '5000'], same)
         process.kill()
+    faulty = os.path.join(room, 'gcc')
+    over(check, 'wire: a leaking module', [tester, '--command', faulty + " wire 'watchdog outlasts a restart'", '20000',
+                                           '--first'], differs)
+    over(check, 'own clock: adapter in C', [tester, '--own-clock', '--command', adapter + ' clock', '8000'], same)
+    with ThreadPoolExecutor(len(BY_BOUNDS)) as threads:
+        for fault in BY_BOUNDS:
+            threads.submit(over, check, 'own clock: ' + fault, [
+                tester, '--own-clock', '--command', "%s wire '%s' clock" % (faulty, fault), '8000', '--first'], differs)
+    for end in ('module', 'cpu'):
+        over(check, 'the proved end: ' + end, [tester, '--self', end, '300000'], same)
+    over(check, 'no such end', [tester, '--self', 'x'], (2, "can't open x"))
+    late = "sh -c 'exec 2>/dev/null; while read line; do for n in 1 2 3 4 5 6 7 8 9; do printf x; sleep 0.1; done; done'"
+    over(check, 'wire: a line that does not end', [tester, '--deadline', '300', '--command', late, '1000'],
+         (3, 'it wrote no line in time'))
     over(check, 'wire: no device', [tester, '--serial', '/none', '5000'], (2, "can't open /none"))
 
 

@@ -5,10 +5,12 @@ pipe, with the proved module and poller on the other side. Last line: `N passed,
 
 import csv
 import glob
+import gzip
 import io
 import json
 import os
 import pty
+import random
 import re
 import socket
 import struct
@@ -186,6 +188,53 @@ def fault_of_memory():
     return None if most[1] < most[0] + 4096 else 'KiB: %r' % most
 
 
+def check_faulty_words(check):
+    """A command line with a value out of its range is refused before anything is read."""
+    for words in (['--lines', 'x'], ['--lines', '5-2'], ['--type', 'zz'], ['--type', '61'], ['--status', 'Q'], ['--input', '64'],
+                  ['--block', '256'], ['--format', 'nope']):
+        done = fiolog('decode', *words, text='3605\n')
+        check.equal('decode %s' % ' '.join(words), (2, True), (done.status, words[0] in done.err))
+    check.equal('live --udp 65536', 2, fiolog('live', '--udp', '65536').status)
+    check.equal('lines from one on', '3:     > poll block 7\n', fiolog('decode', '-q', '--lines', '3-', text='3605\n3606\n3607\n').out)
+
+
+def check_hostile(check, folder):
+    """What no logger writes is passed over with a reason; no frame is read in it, and the lines below keep their numbers."""
+    good, draw = b'TX 36 05\nRX B6 05 00 00 00 00 00 01\nTX 36 06\n', random.Random(35)
+    for name, hostile in [('a line of 3 MB', b'> ' + b'b6' * 1_500_000 + b'\n'), ('zeros', bytes(200_000) + b'\n'),
+                          ('a line of words', b'tx rx ' * 40_000 + b'3605\n'), ('no UTF-8', b'\x80\xfe TX 36 05\n'),
+                          ('a long row', b'{"data": "' + b' ' * 200_000 + b'3605"}\n')]:
+        path = os.path.join(folder, 'hostile')
+        with open(path, 'wb') as file:
+            file.write(hostile + good)
+        done = fiolog('decode', '-v', path)
+        check.equal('below %s' % name, (0, ['2', '3', '4']), (done.status, re.findall(r'^(\d+):', done.out, re.M)))
+        check.holds('%s is named' % name, 'line 1: ' in done.err, done.err[:300])
+    for seed in range(3):
+        with open(path, 'wb') as file:
+            file.write(draw.randbytes(60_000))
+        done = fiolog('decode', path)
+        check.equal('random octets, %d' % seed, (1, ''), (done.status, done.out))
+    packed = gzip.compress(good * 2000)
+    for name, octets, words in [('gzip', packed, ''), ('a gzip file cut short', packed[:-20], 'is read'),
+                                ('a damaged gzip file', packed[:-60] + bytes(60), 'is read')]:
+        with open(path, 'wb') as file:
+            file.write(octets)
+        done = fiolog('decode', path)
+        check.holds(name, done.out.startswith('1:     > poll block 5\n2:     < block 5') and words in done.err, done.err)
+    done = fiolog('decode', folder)
+    check.equal('a folder', (3, 'fiolog: %s: Is a directory\n' % folder), (done.status, done.err))
+
+
+def check_closed(check):
+    """Streams that are closed or full end the tool with a word, and without a trace."""
+    for words, status in [('>&-', 3), ('> /dev/full', 3), ('<&-', 1), ('| head -n 1', 0), ('2>&-', 0)]:
+        command = '%s -m fiolog decode -q %s' % (sys.executable, words)
+        done = subprocess.run(['sh', '-c', command], input=LOG * 400, stdout=subprocess.PIPE, stderr=subprocess.PIPE,
+                              env=ENVIRONMENT, universal_newlines=True)
+        check.equal('with ' + words, (status, False), (done.returncode, 'Traceback' in done.stderr))
+
+
 def numbers_of(text):
     """The numbers of a summary line."""
     return {name: int(number) for name, number in re.findall(r'([a-z ]+) (\d+)(?:, |$)', text.strip().splitlines()[-1])}
@@ -263,8 +312,10 @@ def main():
         check.skip('all commands of fiolog', 'no libfio2070.so here (make library)')
         check.end()
     use_library()
-    for part in (check_decode, check_words, check_numbers, check_convert, check_check):
+    for part in (check_decode, check_words, check_numbers, check_convert, check_check, check_faulty_words, check_closed):
         part(check)
+    with tempfile.TemporaryDirectory() as folder:
+        check_hostile(check, folder)
     check.fault('answers while the input goes on', fault_of_following)
     check.fault('bounded memory', fault_of_memory)
     check.fault('a process', fault_of_process)

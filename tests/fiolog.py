@@ -17,6 +17,11 @@ LINES = [
     ('3605', '3605'), ('36 05', '3605'), ('  B6 00 00 00 00 00 00 01', 'b600000000000001'), ('0x36, 0x05,', '3605'),
     (r'\x36\x05', '3605'), ('{0x36, 0x05}', '3605'), ('[54, 5]', '3605'), ('36h 05h', '3605'), ('$36 $05', '3605'),
     ('%36%05', '3605'), ('36 5', None), ('3605 baud', None), ('poll 3605', None), ('36 05 06', None), ('30 05', None),
+    ('RX B6 5 01 0C 3 E7 00 00 00 03 E8', None), ('RX b6 5 1 8c 3 e7 0 0 0 3 e8', 'b605018c03e700000003e8'),
+    ('RX 0xB6, 0x05, 0x1, 0x0C, 0x03, 0xE7, 0x00, 0x00, 0x00, 0x03, 0xE8', None), (r"received b'\xb6\x05\x0\0\0\0\0\1'", None),
+    ('dir=rx len=11 data=b605018c03e700000003e8', 'b605018c03e700000003e8'), ('x=%s 3605' % ('1' * 60), '3605'),
+    ('7\t07:15:02\tfiod.exe\tIRP_MJ_WRITE\tSerial0\tSUCCESS\tLength 2: 36 05', '3605'),
+    ('00000010  36 05 6a 6b  |6.jk|', None),
     ('12: 36 05', '3605'), ('0012  TX  36 05', '3605'), ('[12] RX b3 00', 'b300'), ('#7 36 05', None),
     ('TX (2): 36 05', '3605'), ('RX[2] b3 00', 'b300'), ('TX len=2 data=36 05', '3605'), ('TX 2 bytes: 36 05', '3605'),
     ('RX 2 b3 00', 'b300'), ('TX 36 05 (2 bytes)', '3605'), ('TX 36 05 [2]', '3605'),
@@ -96,13 +101,15 @@ def fault_of_damage(name, seed):
         place = draw.randrange(len(lines))
         line = lines[place]
         cut = draw.randrange(len(line) + 1)
-        lines[place] = draw.choice([line[:cut], line[cut:], line[:cut] + '?' + line[cut + 1:], line + line, ''])
+        lines[place] = draw.choice([line[:cut], line[cut:], line[:cut] + '?' + line[cut + 1:], line + line, '',
+                                    line[:cut] + line[cut + 1:], line[:cut] + ' ' + line[cut:]])
     read = Read('\n'.join(lines))
     if read.numbers() != list(range(1, read.lines + 1)):
         return 'lines without an event'
     known = {octets for _, _, octets in frames}
     strange = [event for event in read.frames if event.octets not in known]
-    return 'of %d frames %r' % (len(strange), strange[0]) if len(strange) > 1 else None
+    most = 3 if name.startswith('Saleae') else 1    # where a row has one octet, a lost row may leave a message of any length
+    return 'of %d frames %r' % (len(strange), strange[0]) if len(strange) > most else None
 
 
 def fault_of_noise(seed):

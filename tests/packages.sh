@@ -93,7 +93,9 @@ documents=$place/share/doc/fio2070
 holds 'the program of the archive' shows "$place/bin/fio2070"
 holds 'an example of the archive' runs_example "$place/bin/fio2070" "$documents"
 holds 'the files of the archive' has "$place" share/man/man1/fio2070.1 share/bash-completion/completions/fio2070 \
-    share/zsh/site-functions/_fio2070 share/fish/vendor_completions.d/fio2070.fish
+    share/zsh/site-functions/_fio2070 share/fish/vendor_completions.d/fio2070.fish bin/fio2070-test \
+    share/man/man1/fio2070-test.1 share/fio2070/rust/fio2070/src/lib.rs share/fio2070/python/fio2070/py.typed
+holds 'the tester of the archive' "$place/bin/fio2070-test" --self module 2000
 holds 'the library of the archive' has "$place" lib/libfio2070.a include/fio2070.h include/fio2070.hpp \
     lib/pkgconfig/fio2070.pc
 if has_command pkg-config && has_command cc; then
@@ -117,7 +119,9 @@ else
     holds 'the program of the package' shows "$room/root/usr/bin/fio2070"
     holds 'an example of the package' runs_example "$room/root/usr/bin/fio2070" "$documents"
     holds 'the files of the package' has "$room/root/usr/share" man/man1/fio2070.1.gz doc/fio2070/copyright \
-        bash-completion/completions/fio2070 zsh/vendor-completions/_fio2070 fish/vendor_completions.d/fio2070.fish
+        bash-completion/completions/fio2070 zsh/vendor-completions/_fio2070 fish/vendor_completions.d/fio2070.fish \
+        man/man1/fio2070-test.1.gz
+    holds 'the tester of the package' "$room/root/usr/bin/fio2070-test" --self module 2000
     holds 'the library of the package' has "$room/root/usr" lib/x86_64-linux-gnu/libfio2070.a include/fio2070.h \
         include/fio2070.hpp lib/x86_64-linux-gnu/pkgconfig/fio2070.pc
     holds 'the prefix of the package' grep -qx 'prefix=/usr' \

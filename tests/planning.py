@@ -1,6 +1,7 @@
 #!/usr/bin/env python3
 """Computes the table of docs/PLANNING.md again from its formulas. Computes for the densest traffic of each row, by
-counts alone, which bounds it reaches, and that one scan more loses a transition. Runs the densest traffic by
+counts alone, which bounds it reaches, and that one scan more loses a transition; and in small settings, by a search of
+all states, that the bounds are exact. Runs the densest traffic by
 `simulate`: what arrives at the end of each clean round, how late it is, outages of the length in the table and of one
 scan more, and rounds as far apart as the table says and one scan further. Last line: `N passed, M failed`."""
 
@@ -20,11 +21,19 @@ WAITING = (1024, 8192)
 ALL_ONES = 2 ** 64 - 1
 
 
+def most_exact(inputs, filter_length, per_block, every, lost_answer):
+    """The most that wait and the most scans that one is late, with blocks and filters counted whole."""
+    late = max(j * every - filter_length * (per_block * j // inputs) for j in range(inputs))
+    waiting = max(inputs * -(-(j + 1 + lost_answer) * every // filter_length) - per_block * j
+                  for j in range(filter_length + 1))
+    return waiting, (1 + lost_answer) * every - 1 + late
+
+
 def planned(inputs, filter_length):
     """The row of the table for so many open inputs with filters of so many samples."""
     every = PER_BLOCK * filter_length // inputs
-    kept = [inputs * (every + filter_length - 1) // filter_length, every + filter_length - 2]
-    lost = [inputs * (2 * every + filter_length - 1) // filter_length, 2 * every + filter_length - 2]
+    kept = list(most_exact(inputs, filter_length, PER_BLOCK, every, False))
+    lost = [most_exact(inputs, filter_length, PER_BLOCK, every, True)[0], 2 * every + filter_length - 2]
     outages = [waiting // inputs * filter_length for waiting in WAITING]
     return [inputs, filter_length, every] + kept + lost + outages
 
@@ -90,12 +99,50 @@ def check_bounds(check):
                             overflows(inputs, filter_length, row[2] + 1, waiting, 400_000))
             check.holds('the pace loses none, ' + name, not overflows(inputs, filter_length, row[2], WAITING[0], 4_000))
     waiting, late, waiting_lost, late_lost = [differences.count(0) for differences in below]
-    check.holds('no bound is passed', late == late_lost and min(map(min, below)) == 0, below)
-    words = ('reaches *Late* in %d rows, 22 and 41 ms among them, and *Waiting* in %d, with lost answers in %d; in the '
-             'others it stays up to %d scans and %d entries below'
-             % (late, waiting, waiting_lost, max(below[1] + below[3]), max(below[0] + below[2])))
+    check.equal('rows in which *Waiting* and *Late* are reached', [24] * 3, [waiting, late, waiting_lost])
+    check.holds('no bound is passed', min(map(min, below)) == 0, below)
+    words = ('except *Late, answers lost* in %d rows, where it stays up to %d scans below' % (24 - late_lost, max(below[3])))
     with open(os.path.join(TOP, 'docs', 'PLANNING.md'), encoding='utf-8') as page:
         check.holds('docs/PLANNING.md says: ' + words, words in page.read())
+
+
+def next_states(inputs, filter_length, per_block, every, state):
+    """What a poll, with its answer taken or lost, or a scan makes of a state: for each input how long ago it changed, the
+    ages of what waits, those of a block whose answer was lost, and the scans since the latest clean round. With each the
+    ages of the block taken."""
+    since, ages, kept, scans = state
+    if kept is None:
+        yield (since, ages[per_block:], None, 0), ages[:per_block]
+        yield (since, ages[per_block:], ages[:per_block], scans), ()
+    else:
+        yield (since, ages, None, 0), kept
+    if scans < every:
+        able = sum(age >= filter_length for age in since)
+        older = [min(filter_length, age + 1) for age in since]
+        for count in range(able + 1):
+            changed = tuple(sorted([1] * count + older[count:], reverse=True))
+            yield (changed, tuple(age + 1 for age in ages) + (0,) * count,
+                   None if kept is None else tuple(age + 1 for age in kept), scans + 1), ()
+
+
+def check_search(check):
+    """All states that can be reached in small settings: the most that wait, and how late the latest is, where answers may
+    be lost and where none are."""
+    for inputs, filter_length, per_block in ((1, 3, 3), (2, 2, 3), (2, 3, 3), (3, 2, 4), (2, 4, 3)):
+        every = per_block * filter_length // inputs
+        for lost_answer in (False, True):
+            begin = ((filter_length,) * inputs, (), None, 0)
+            seen, todo, waiting, late = {begin}, [begin], 0, 0
+            while todo:
+                for state, taken in next_states(inputs, filter_length, per_block, every, todo.pop()):
+                    late = max((late,) + taken)
+                    if state not in seen and (lost_answer or state[2] is None):
+                        waiting = max(waiting, len(state[1]))
+                        seen.add(state)
+                        todo.append(state)
+            check.equal('%d inputs, filters of %d, blocks of %d%s: what waits, and the latest'
+                        % (inputs, filter_length, per_block, ', answers lost' * lost_answer),
+                        most_exact(inputs, filter_length, per_block, every, lost_answer), (waiting, late))
 
 
 class Densest:
@@ -214,6 +261,7 @@ def main():
     check = Check()
     check_table(check)
     check_bounds(check)
+    check_search(check)
     check_polling(check)
     check_room(check)
     for inputs in INPUTS:

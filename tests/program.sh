@@ -40,7 +40,8 @@ given 'a word that is no text' '3605' 2 '' "$(printf '\377')"
 given 'help' '3605' 0 'Reads the messages*Usage: fio2070 COMMAND < FILE*Commands:
   show      Reports what the frames on standard input say*
   simulate  Runs a script of events on both ends*
-  check     Reports whether a transcript on standard input keeps*Options:*Exit status:*' --help
+  check     Reports whether a transcript on standard input keeps*
+  record    Reports what the CPU of a transcript on standard input recorded*Options:*Exit status:*' --help
 given 'help on show' '3605' 0 'Reports what the frames on standard input say*Usage: fio2070 show < FILE*
 Reads:   frames, one a line*In a block:*| fio2070 show
   poll block 5' show --help
@@ -50,14 +51,18 @@ Reads:   a script. *LINESYNC goes from 0 to 1*| fio2070 simulate
 given 'help on check' '3605' 0 'Reports whether a transcript on standard input keeps*Usage: fio2070 check < FILE*
 Reads:   a transcript*readable, pair, number*| fio2070 check
   line 3 breaks advance' check --help
-for tool in show simulate check; do
+given 'help on record' '3605' 0 'Reports what the CPU of a transcript*Usage: fio2070 record < FILE*
+Reads:   a transcript*| fio2070 record
+  record 1
+  input 12 state 1 stamp 999 wide 999' record --help
+for tool in show simulate check record; do
     equal "-h of $tool" "$("$top/fio2070" "$tool" --help)" "$("$top/fio2070" "$tool" -h)"
 done
 given 'a file as an argument' '3605' 2 "error: unexpected argument*Usage: fio2070 check < FILE*" check examples/good.transcript
 given 'the version' '3605' 0 'fio2070 [0-9]*' --version
 
 # A folder can be opened and not read.
-for tool in show simulate check; do
+for tool in show simulate check record; do
     text=$("$top/fio2070" "$tool" </)
     ends "a failing read of $tool" "$?" "$text" 3 'fio2070: read fault'
 done

@@ -1,7 +1,9 @@
 #!/usr/bin/env python3
-"""Runs the blocks of README.md that are marked `rust`, each as the body of a test of its own, on the crates of this
-repository. It builds them anew in a folder of its own and proves nothing. Last line: `N passed, M failed`."""
+"""Runs the examples with which the crates' `src/lib.rt` begin, the blocks marked `rust`, each as the body of a test of its
+own with a runtime `rt`. It builds the crates anew in a folder of its own and proves nothing. Last line: `N passed, M
+failed`."""
 
+import glob
 import os
 import re
 import shutil
@@ -29,13 +31,14 @@ mod block_%d {
 
 
 def blocks():
-    """The blocks, each as the lines of its imports and its other lines."""
-    with open(os.path.join(TOP, 'README.md'), encoding='utf-8') as document:
-        found = re.findall(r'^```rust\n(.*?)^```$', document.read(), re.M | re.S)
-    for block in found:
-        lines = block.splitlines()
-        yield ([line for line in lines if line.startswith('use ')],
-               [line for line in lines if not line.startswith('use ')])
+    """The examples: each with the name of its crate, the lines of its imports and its other lines."""
+    for path in sorted(glob.glob(os.path.join(TOP, 'crates', '*', 'src', 'lib.rt'))):
+        with open(path, encoding='utf-8') as source:
+            text = ''.join(line[4:] or '\n' for line in source if line.startswith('//!'))
+        for block in re.findall(r'^```rust\n(.*?)^```$', text, re.M | re.S):
+            lines = block.splitlines()
+            yield (os.path.relpath(path, TOP), [line for line in lines if line.startswith('use ')],
+                   [line for line in lines if not line.startswith('use ')])
 
 
 def write_crate(folder, tests):
@@ -54,7 +57,7 @@ def write_crate(folder, tests):
     with open(os.path.join(folder, 'crates.txt'), 'w', encoding='utf-8') as listed:
         listed.write(''.join(libraries) + 'blocks: %s\n' % names)
     with open(os.path.join(source, 'lib.rt'), 'w', encoding='utf-8') as library:
-        library.write('//! The blocks of README.md.\n#![tactic(auto)]\n\n#[cfg(test)]\nmod tests {%s}\n' % tests)
+        library.write('//! The examples of the crates.\n#![tactic(auto)]\n\n#[cfg(test)]\nmod tests {%s}\n' % tests)
     shutil.copy(os.path.join(TOP, 'HANDLES'), folder)
     return os.path.dirname(source)
 
@@ -63,14 +66,15 @@ def main():
     check = Check()
     found = list(blocks())
     tests = ''.join(TEST % (number, '\n'.join(imports), '\n'.join(lines))
-                    for number, (imports, lines) in enumerate(found, 1))
+                    for number, (_, imports, lines) in enumerate(found, 1))
     with tempfile.TemporaryDirectory() as folder:
         done = subprocess.run(['rt', 'try', '--test'], cwd=write_crate(folder, tests), stdin=subprocess.DEVNULL,
                               stdout=subprocess.PIPE, stderr=subprocess.STDOUT, timeout=900)
     text = done.stdout.decode('utf-8', 'replace')
-    for number in range(1, len(found) + 1):
-        check.holds('block %d of README.md' % number, re.search(r'^test .*block_%d\b.* \.\.\. ok$' % number, text, re.M), text)
-    check.equal('the status of all blocks', 0, done.returncode)
+    for number, (path, _, _) in enumerate(found, 1):
+        check.holds('the example of %s' % path, re.search(r'^test .*block_%d\b.* \.\.\. ok$' % number, text, re.M), text)
+    check.holds('seven crates have an example', len(found) == 7, found)
+    check.equal('the status of all examples', 0, done.returncode)
     check.end()
 
 

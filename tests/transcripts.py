@@ -1,5 +1,5 @@
 #!/usr/bin/env python3
-"""`check` on tables of transcripts, each with the line that the nine rules of docs/FORMATS.md ask for: rules kept and
+"""`check` and `record` on tables of transcripts, each with what docs/FORMATS.md asks for: rules kept and
 broken, two broken by one line, faulty lines, the longest transcripts. A transcript for each rule alone stands in
 examples/ and is run by `tests/examples.sh`. Last line: `N passed, M failed`."""
 
@@ -171,6 +171,28 @@ TWO_RULES = [
 ]
 
 
+# What `record` writes: the record of a good transcript, else what `check` writes.
+RECORDS = [
+    ('', 'record 0'),
+    ('> 3c\n< bc02', 'record 0'),
+    ('> 3605', 'record 0'),
+    ('> 3605\n< b605018c03e700000003e8', 'record 1\ninput 12 state 1 stamp 999 wide 999'),
+    # A stamp above the low 16 bits of the answer's stamp is of the 65,536 steps before.
+    ('> 36ff\n< b6ff0205ffff8600010000010001\n> 3600\n< b600000000010002',
+     'record 2\ninput 5 state 0 stamp 65535 wide 65535\ninput 6 state 1 stamp 1 wide 65537'),
+    # A gap mark stands above the entries of a block with F.
+    ('> 3605\n< b605ff' + '000000' * 254 + '850007' + '0c00000008',
+     'record 256\ngap\n' + 'input 0 state 0 stamp 0 wide 0\n' * 254 + 'input 5 state 1 stamp 7 wide 7'),
+    # What is heard below other commands, and an unanswered poll, add nothing.
+    ('> 3605\n> 3605\n< b605010000010200000001\n> 34\n< b4000000000000000000000000\n> 3606\n< b606018000020000000002',
+     'record 2\ninput 0 state 0 stamp 1 wide 1\ninput 0 state 1 stamp 2 wide 2'),
+    ('> 3605\n< b605018c03e700000003e8\n> 3605', 'line 3 breaks advance'),
+    ('# a remark\n> 3605\n\n< b6060000000003e8\n', 'line 4 breaks number'),
+    ('> 3605\n< b605018c03e700000003e8\n> zz', 'line 3: bad line'),
+    ('\n' * (MOST_OCTETS + 1), 'input too long'),
+]
+
+
 def block(number):
     """A poll and its answer, a block of 255 entries after which more wait."""
     return '> 36%02x\n< b6%02xff%s0800000000\n' % (number, number, FULL)
@@ -223,6 +245,9 @@ for heading, table in TABLES.items():
     for text, expected in table:
         row(check, '%s: %s, %s, %d octets' % (heading, expected, in_short(text), len(text)), 'check', text, expected + '\n',
             0 if expected.startswith('good ') else 1)
+for text, expected in RECORDS:
+    row(check, 'record %s' % in_short(text), 'record', text, expected + '\n',
+        0 if expected.startswith('record ') else 1)
 for number, line, expected in CHANGES:
     row(check, 'line %d changed: %s, %s' % (number, expected, line[:40]), 'check', changed(number, line),
         expected + '\n', 0 if expected.startswith('good ') else 1)

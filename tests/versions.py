@@ -21,6 +21,7 @@ PLACES = [
     ('bindings/rust/fio2070/Cargo.toml', 'name = "fio2070"\nversion = "%s"\n'),
     ('crates/fio_tool/src/command_line.rt', 'VERSION: &str = "%s";\n'),
     ('docs/FORMATS.md', '\nfio2070 %s\n'),
+    ('man/fio2070-test.1', '"fio2070 %s"'),
     ('man/fio2070.1', '"fio2070 %s"'),
 ]
 

@@ -1,6 +1,9 @@
 """The worked examples in Python: `python3 -m unittest test`, with FIO2070_LIBRARY naming the library."""
 
 import doctest
+import os
+import pickle
+import re
 import unittest
 
 import fio2070
@@ -29,6 +32,16 @@ MESSAGES = [
     (encode.watchdog_answer(1), 'ba01'),
     (encode.other_answer(188, b'\2'), 'bc02'),
 ]
+
+
+class Rules(unittest.TestCase):
+    def test_each_breach(self):
+        checker = fio2070.Checker()
+        self.assertIsNone(checker.sent(encode.poll(255)))
+        self.assertEqual(checker.sent(encode.poll(0)), (4, True, 255, 0))
+        self.assertIsNone(checker.heard(BLOCK))
+        self.assertIsNone(checker.sent(encode.poll(6)))
+        self.assertEqual(checker.heard(BLOCK), (3, True, 6, 5))
 
 
 class Messages(unittest.TestCase):
@@ -60,6 +73,34 @@ class Messages(unittest.TestCase):
                      lambda: encode.configure_inputs([ConfigurationItem(128, False, 1, 1)]),
                      lambda: encode.set_outputs(b'', b''), lambda: fio2070.Module(per_block=0)]:
             self.assertRaises(ValueError, call)
+
+    def test_kinds_of_octets(self):
+        wide = memoryview(BLOCK + BLOCK)[::1]
+        for octets in (bytearray(BLOCK), memoryview(BLOCK), wide[:len(BLOCK)], memoryview(bytes(2 * BLOCK))[11:]):
+            self.assertEqual(fio2070.decode_answer(octets), fio2070.decode_answer(BLOCK))
+            self.assertEqual(fio2070.Poller(5).hear(octets).kind, 'taken')
+        every_second = memoryview(bytes.fromhex('36ff05ff'))[::2]
+        self.assertEqual(fio2070.decode_command(every_second).block, 5)
+        self.assertEqual(fio2070.Module().receive(bytearray(b'\x3c')), b'\xbc\2')
+        self.assertEqual(encode.other_command(59, memoryview(b'\1\2')), b'\x3b\1\2')
+        self.assertEqual(encode.set_outputs(bytearray(8), memoryview(bytes(8))), b'\x37' + bytes(16))
+
+    def test_faults_pickle(self):
+        with self.assertRaises(fio2070.Fault) as caught:
+            fio2070.decode_command(b'\x33')
+        copy = pickle.loads(pickle.dumps(caught.exception))
+        self.assertEqual((copy.kind, copy.code, copy.needed, copy.got, str(copy)),
+                         (fio2070.constants.WRONG_LENGTH, 0, 2, 1, 'wrong length needed 2 got 1'))
+
+    def test_constants(self):
+        header = os.path.join(os.path.dirname(os.path.abspath(__file__)), '../../include/fio2070.h')
+        with open(header, encoding='ascii') as text:
+            given = {name: int(number) for name, number in re.findall(
+                r'^(?: +|#define )FIO2070_([A-Z0-9_]+)(?: =)? (\d+)\b', text.read(), re.M)}
+        self.assertGreater(len(given), 30)
+        ours = {name: number for name, number in vars(fio2070.constants).items() if name.isupper()}
+        self.assertEqual(ours, given)
+        self.assertEqual(fio2070.version(), fio2070.constants.VERSION)
 
     def test_documentation(self):
         self.assertEqual(doctest.testmod(fio2070).failed, 0)

@@ -114,6 +114,23 @@ static const char *shrink(struct run *run) {
     return "# It comes only after what ran before: a new process does not show it.\n";
 }
 
+static void write_remarked(struct run *run, const char *remark, FILE *out) {
+    if (remark != NULL) fputs(remark, out);
+    conformance_report(&run->ends, &script, &difference, out);
+}
+
+/* Writes a report, and keeps it where that is asked for. */
+static void write_report(struct run *run, enum rule rule, const char *remark) {
+    struct result *result = run->result;
+    FILE *kept = run->options->kept;
+    if (result->differences > 1 && run->out != NULL) fputs("\n", run->out);
+    if (run->out != NULL) write_remarked(run, remark, run->out);
+    if (kept == NULL) return;
+    result->begins[rule] = ftell(kept);
+    write_remarked(run, remark, kept);
+    result->ends[rule] = ftell(kept);
+}
+
 /* Reports a rule that was not found before; the run then passes over it. Where it was passed over already, the run is
  * lost. */
 static void report(struct run *run, const char *remark, unsigned long event) {
@@ -123,9 +140,7 @@ static void report(struct run *run, const char *remark, unsigned long event) {
         result->shortest[rule] = script.length;
         result->found[rule] = event;
         result->differences++;
-        if (result->differences > 1 && run->out != NULL) fputs("\n", run->out);
-        if (remark != NULL && run->out != NULL) fputs(remark, run->out);
-        if (run->out != NULL) conformance_report(&run->ends, &script, &difference, run->out);
+        write_report(run, rule, remark);
     }
     result->is_lost = !pass_over(&run->ends, rule);
 }

@@ -99,6 +99,7 @@ struct options {
     struct rule_set excepted; /* rules that the end under test need not keep */
     int stops;                /* at the first difference */
     int is_outside;           /* the end under test is no code of this process, so that no new process has a new one */
+    FILE *kept;               /* the reports are written here too, for conformance_junit; NULL where none asks for them */
 };
 
 /* What is under test: one of the two is NULL. */
@@ -107,6 +108,8 @@ struct ends {
     const struct cpu_maker *cpu;
     struct rule_set masked; /* rules in whose fields a difference is passed over */
     struct rule_set left_out; /* rules whose events are not done */
+    int has_own_clock;        /* the module samples by a clock of its own: what depends on it is judged by bounds */
+    unsigned long most_tried; /* events of trials that shrink a script; 0 for 20,000,000 */
 };
 
 /* What a run found. */
@@ -114,6 +117,7 @@ struct result {
     unsigned long events, exercised[RULES]; /* events that exercised each rule */
     unsigned long found[RULES];             /* the event of the run at which a difference in it came, from 1 */
     size_t shortest[RULES];                 /* how many events its script has; 0 where none was found */
+    long begins[RULES], ends[RULES];        /* where its report stands in `kept` */
     unsigned differences;
     int has_failed; /* a call returned CONFORMANCE_FAILED */
     int is_lost;    /* a difference could not be told from those before, and the run ended */
@@ -122,6 +126,10 @@ struct result {
 /* Runs random scripts, writes each rule in which a difference is found with its script, and goes on without what
  * exercises that rule. */
 void conformance_test(const struct ends *ends, const struct options *options, struct result *result, FILE *out);
+
+/* The proved ends as those under test. */
+extern const struct maker CONFORMANCE_PROVED_MODULE;
+extern const struct cpu_maker CONFORMANCE_PROVED_CPU;
 
 /* What `main` of a tester does with its words, and its status: 0 where there is no difference, 1 where there is
  * one, 2 where the words or the script are faulty, 3 where a call failed. `--help` writes the words. */
@@ -181,6 +189,7 @@ struct difference {
     size_t expected_items, got_items; /* that the record gained */
     struct fio2070_record_item expected_record[FIO2070_MOST_RECORD_ITEMS], got_record[FIO2070_MOST_RECORD_ITEMS];
     uint8_t expected_number, got_number; /* of the CPU's end */
+    char observed[120];                  /* what no clock of the module explains; empty where it has none of its own */
 };
 
 /* Empties a script, and forgets the octets of all frames; a script starts with all numbers 0 and NULL. */
@@ -233,8 +242,9 @@ void conformance_report(const struct ends *ends, const struct script *script, co
 /* Writes the table of rules: how many events exercised each, and what became of it. */
 void conformance_coverage(const struct result *result, enum rule_end end, const struct rule_set *excepted, FILE *out);
 
-/* Writes the result as JUnit XML, a test case for each rule. */
-void conformance_junit(const struct result *result, enum rule_end end, const struct rule_set *excepted, FILE *out);
+/* Writes the result as JUnit XML, a test case for each rule; one that differs has its report, which `kept` has. */
+void conformance_junit(const struct result *result, enum rule_end end, const struct rule_set *excepted, FILE *kept,
+                       FILE *out);
 
 #ifdef __cplusplus
 }

@@ -192,6 +192,10 @@ static void write_heard(const struct difference *both, FILE *out) {
 void conformance_write_fields(const struct difference *both, FILE *out) {
     size_t row, shared = both->expected_length < both->got_length ? both->expected_length : both->got_length;
     uint32_t fields = both->fields;
+    if (both->observed[0] != '\0') {
+        fprintf(out, "# field: %s\n", both->observed);
+        fields &= ~(CONFORMANCE_CLOCK_FIELDS | FIELD_BIT(AGAIN) | FIELD_BIT(BODY));
+    }
     if (fields & FIELD_BIT(PRESENCE)) write_lengths("the answer", both, out);
     if (fields & (FIELD_BIT(LENGTH) | FIELD_BIT(BODY) | FIELD_BIT(POLL) | FIELD_BIT(REPEAT))) {
         if (both->expected_length != both->got_length) write_lengths("the length", both, out);

@@ -42,6 +42,7 @@ void conformance_saw_scan(struct history *history, const struct view *before, co
     unsigned long entries = history->entries;
     unsigned input;
     conformance_put(rules, RULE_COUNTER_STEP);
+    put_if(rules, RULE_COUNTER_BITS, before->counter > 0xffff);
     put_if(rules, RULE_COUNTER_AROUND, before->counter == 0xffffffff);
     for (left = changed, input = 0; left != 0; left >>= 1, input++) {
         if (left & 1) saw_change(history, input, (int)(filtered >> input & 1), rules);
@@ -82,6 +83,7 @@ static void saw_fault(const struct fio2070_fault *fault, size_t length, struct r
     static const enum rule refusals[] = {RULE_EMPTY_FRAME, RULE_EMPTY_FRAME, RULE_FRAME_TOO_LONG, RULE_UNKNOWN_TYPE,
                                          RULE_WRONG_LENGTH};
     conformance_put(rules, refusals[fault->kind]);
+    conformance_put(rules, RULE_REFUSED);
     put_if(rules, RULE_CASE_LONG_REFUSED, length > 256);
 }
 
@@ -116,6 +118,7 @@ static void saw_configuration(struct history *history, const struct view *before
     put_if(rules, RULE_CASE_65_ITEMS, count > 64);
     put_if(rules, RULE_CASE_255_ITEMS, count == 255);
     if (status & FIO2070_ERROR) return;
+    put_if(rules, RULE_ITEM_SETS, count > 0);
     put_if(rules, RULE_LAST_ITEM_HOLDS, is_twice);
     put_if(rules, RULE_SAMPLES_ANEW, (named & (history->levels ^ before->filtered)) != 0);
     for (place = 0; place < count; place++) apply(history, &items[place]);

@@ -93,13 +93,20 @@ static uint32_t hidden_fields(const struct link *link, struct difference *differ
 /* The module under test is given the frame that the proved one was given. */
 static int compare_answers(struct link *link, const uint8_t *octets, size_t length, struct difference *difference) {
     const struct maker *maker = link->ends.module;
+    struct span span = {link->ends.has_own_clock ? conformance_now_ms() : 0, 0};
+    uint32_t fields;
     difference->command_length = length;
     if (length > 0) memcpy(difference->command, octets, length);
     if (has_failed(difference, &difference->got_length, FIO2070_LONGEST_FRAME,
                    maker->exchange(maker->context, octets, length, difference->got))) {
         return 1;
     }
-    return differs(link, difference, conformance_answer_fields(difference) | hidden_fields(link, difference));
+    fields = conformance_answer_fields(difference);
+    if (link->ends.has_own_clock) {
+        span.last = conformance_now_ms();
+        fields = conformance_clock_fields(&link->observer, span, maker->per_block, fields, difference);
+    }
+    return differs(link, difference, fields | hidden_fields(link, difference));
 }
 
 /* A frame comes to the module. */
@@ -127,16 +134,41 @@ static void scan(struct link *link, uint64_t inputs) {
     remember(link, &memory);
     fio2070_module_scan(&link->module, inputs);
     conformance_saw_scan(&link->history, &before, &link->module, inputs, &link->exercised);
-    if (maker != NULL && !is_undone(link, &memory)) maker->step(maker->context, inputs);
+    if (maker == NULL || is_undone(link, &memory)) return;
+    maker->step(maker->context, inputs);
+    if (link->ends.has_own_clock) conformance_clock_levels(&link->observer, inputs);
 }
 
 static void sync_line(struct link *link) {
     const struct maker *maker = link->ends.module;
     struct memory memory;
+    struct span span = {0, 0};
+    int is_load;
     remember(link, &memory);
     fio2070_module_line_sync(&link->module);
+    is_load = link->history.is_asked;
     conformance_saw_sync(&link->history, &link->exercised);
-    if (maker != NULL && !is_undone(link, &memory)) maker->line_sync(maker->context);
+    if (maker == NULL || is_undone(link, &memory)) return;
+    if (link->ends.has_own_clock) span.first = conformance_now_ms();
+    maker->line_sync(maker->context);
+    if (!link->ends.has_own_clock || !is_load) return;
+    span.last = conformance_now_ms();
+    conformance_clock_load(&link->observer, fio2070_module_counter(&link->module), span);
+}
+
+/* A module with a clock of its own is reset with all levels 1, which its first sample then finds. */
+static void reset_maker(struct link *link) {
+    const struct maker *maker = link->ends.module;
+    struct span span = {0, 0};
+    if (!link->ends.has_own_clock) {
+        maker->reset(maker->context);
+        return;
+    }
+    maker->step(maker->context, ~(uint64_t)0);
+    span.first = conformance_now_ms();
+    maker->reset(maker->context);
+    span.last = conformance_now_ms();
+    conformance_clock_reset(&link->observer, span);
 }
 
 static void restart(struct link *link) {
@@ -147,7 +179,7 @@ static void restart(struct link *link) {
     remember(link, &memory);
     fio2070_module_restart(&link->module);
     conformance_saw_restart(&link->history, &before, &link->exercised);
-    if (maker != NULL && !is_undone(link, &memory)) maker->reset(maker->context);
+    if (maker != NULL && !is_undone(link, &memory)) reset_maker(link);
 }
 
 /* ---- At the CPU's end ---- */
@@ -251,7 +283,7 @@ void conformance_link_start(struct link *link, const struct ends *ends, const st
     fio2070_module_start(&link->module, script->id, script->per_block);
     conformance_begin(&link->history);
     link->cpu.number = script->number;
-    if (ends->module != NULL) ends->module->reset(ends->module->context);
+    if (ends->module != NULL) reset_maker(link);
     if (ends->cpu != NULL) ends->cpu->reset(ends->cpu->context, script->number);
 }
 

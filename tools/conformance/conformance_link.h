@@ -2,6 +2,7 @@
 #ifndef CONFORMANCE_LINK_H
 #define CONFORMANCE_LINK_H
 
+#include "conformance_clock.h"
 #include "conformance_history.h"
 
 enum { KEPT_ANSWERS = 4 };
@@ -15,6 +16,7 @@ struct link {
     struct ends ends;
     struct fio2070_module module;
     struct history history;
+    struct observer observer; /* of a module with a clock of its own */
     struct fio2070_poller cpu;
     struct cpu_history cpu_history;
     unsigned long sent, answered; /* how many frames in each direction */

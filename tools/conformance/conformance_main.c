@@ -144,23 +144,24 @@ static unsigned write_missing(const struct result *result, enum rule_end end, co
 
 /* Writes the file of --junit. Returns 0 where it can't. */
 static int write_junit(const char *name, const struct result *result, enum rule_end end,
-                       const struct rule_set *excepted) {
+                       const struct options *options) {
     FILE *file = fopen(name, "w");
     if (file == NULL) {
         printf("can't write %s\n", name);
         return 0;
     }
-    conformance_junit(result, end, excepted, file);
+    conformance_junit(result, end, &options->excepted, options->kept, file);
     return fclose(file) == 0;
 }
 
-static int run(const struct ends *ends, const struct words *words) {
+static int run(const struct ends *ends, struct words *words) {
     static struct result result;
     const struct rule_set *excepted = &words->options.excepted;
     unsigned missing;
+    if (words->junit != NULL) words->options.kept = tmpfile();
     conformance_test(ends, &words->options, &result, stdout);
     if (words->shows_coverage) conformance_coverage(&result, end_of(ends), excepted, stdout);
-    if (words->junit != NULL && !write_junit(words->junit, &result, end_of(ends), excepted)) return 2;
+    if (words->junit != NULL && !write_junit(words->junit, &result, end_of(ends), &words->options)) return 2;
     if (result.has_failed) return fail();
     missing = words->options.stops && result.differences > 0 ? 0 : write_missing(&result, end_of(ends), excepted);
     if (result.is_lost) puts("the run ended: the last difference could not be told from those above");

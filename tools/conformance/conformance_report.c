@@ -20,7 +20,7 @@ static void write_frames(const struct difference *both, FILE *out) {
     size_t other = 0;
     while (other < both->expected_length && other < both->got_length && both->expected[other] == both->got[other])
         other++;
-    write_octets("expected", both->expected, both->expected_length, other, out);
+    if (both->observed[0] == '\0') write_octets("expected", both->expected, both->expected_length, other, out);
     write_octets("got", both->got, both->got_length, other, out);
 }
 

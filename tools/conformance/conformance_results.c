@@ -21,28 +21,38 @@ void conformance_coverage(const struct result *result, enum rule_end end, const 
 
 /* ---- JUnit ---- */
 
-static void write_escaped(const char *text, FILE *out) {
-    for (; *text != '\0'; text++) {
-        switch (*text) {
-        case '&': fputs("&amp;", out); break;
-        case '<': fputs("&lt;", out); break;
-        case '>': fputs("&gt;", out); break;
-        case '"': fputs("&quot;", out); break;
-        default: fputc(*text, out); break;
-        }
+static void write_character(int character, FILE *out) {
+    switch (character) {
+    case '&': fputs("&amp;", out); break;
+    case '<': fputs("&lt;", out); break;
+    case '>': fputs("&gt;", out); break;
+    case '"': fputs("&quot;", out); break;
+    default: fputc(character, out); break;
     }
 }
 
-static void write_case(const struct result *result, enum rule rule, const struct rule_set *excepted, FILE *out) {
+static void write_escaped(const char *text, FILE *out) {
+    for (; *text != '\0'; text++) write_character(*text, out);
+}
+
+/* The report of a rule that differs: its script, place, field and source. */
+static void write_kept(const struct result *result, enum rule rule, FILE *kept, FILE *out) {
+    long place = result->begins[rule];
+    if (kept == NULL || fseek(kept, place, SEEK_SET) != 0) return;
+    for (; place < result->ends[rule]; place++) write_character(fgetc(kept), out);
+}
+
+static void write_case(const struct result *result, enum rule rule, const struct rule_set *excepted, FILE *kept,
+                       FILE *out) {
     const struct rule_row *row = &CONFORMANCE_RULE_ROWS[rule];
-    fputs("  <testcase classname=\"", out);
+    fprintf(out, "  <testcase classname=\"%s.", row->source == CASE ? "case" : conformance_source(rule));
     write_escaped(row->section, out);
     fputs("\" name=\"", out);
     write_escaped(row->name, out);
     if (result->shortest[rule] > 0) {
         fprintf(out, "\"><failure message=\"a difference at event %lu, shown by %lu events\">", result->found[rule],
                 (unsigned long)result->shortest[rule]);
-        write_escaped(row->sentence, out);
+        write_kept(result, rule, kept, out);
         fputs("</failure></testcase>\n", out);
     } else if (conformance_has(excepted, rule) || result->exercised[rule] == 0) {
         fprintf(out, "\"><skipped message=\"%s\"/></testcase>\n", state_of(result, rule, excepted));
@@ -51,20 +61,36 @@ static void write_case(const struct result *result, enum rule rule, const struct
     }
 }
 
-void conformance_junit(const struct result *result, enum rule_end end, const struct rule_set *excepted, FILE *out) {
-    unsigned cases = 0, skipped = 0;
+/* How many rules the end has, and how many of them a run says nothing of. */
+static unsigned count_cases(const struct result *result, enum rule_end end, const struct rule_set *excepted,
+                            unsigned *skipped) {
+    unsigned cases = 0;
     int rule;
+    *skipped = 0;
     for (rule = 0; rule < RULES; rule++) {
         if (CONFORMANCE_RULE_ROWS[rule].end != end) continue;
         cases++;
-        skipped +=
-            result->shortest[rule] == 0 && (conformance_has(excepted, (enum rule)rule) || result->exercised[rule] == 0);
+        if (result->shortest[rule] > 0) continue;
+        *skipped += conformance_has(excepted, (enum rule)rule) || result->exercised[rule] == 0;
     }
+    return cases;
+}
+
+void conformance_junit(const struct result *result, enum rule_end end, const struct rule_set *excepted, FILE *kept,
+                       FILE *out) {
+    const char *name = end == AT_MODULE ? "module" : "CPU";
+    int has_error = result->has_failed || result->is_lost, rule;
+    unsigned skipped, cases = count_cases(result, end, excepted, &skipped);
     fputs("<?xml version=\"1.0\" encoding=\"UTF-8\"?>\n", out);
-    fprintf(out, "<testsuite name=\"fio2070 %s\" tests=\"%u\" failures=\"%u\" skipped=\"%u\" errors=\"%d\">\n",
-            end == AT_MODULE ? "module" : "CPU", cases, result->differences, skipped, result->has_failed);
+    fprintf(out, "<testsuite name=\"fio2070 %s\" tests=\"%u\" failures=\"%u\" skipped=\"%u\" errors=\"%d\">\n", name,
+            cases + (unsigned)has_error, result->differences, skipped, has_error);
     for (rule = 0; rule < RULES; rule++) {
-        if (CONFORMANCE_RULE_ROWS[rule].end == end) write_case(result, (enum rule)rule, excepted, out);
+        if (CONFORMANCE_RULE_ROWS[rule].end == end) write_case(result, (enum rule)rule, excepted, kept, out);
+    }
+    if (has_error) {
+        fprintf(out, "  <testcase classname=\"run\" name=\"%s\"><error message=\"the run ended after %lu events\"/>", name,
+                result->events);
+        fputs("</testcase>\n", out);
     }
     fputs("</testsuite>\n", out);
 }

@@ -58,6 +58,8 @@ enum field {
     RULE(AT_MODULE, WRONG_LENGTH, "wrong-length", OWN, 0, "Refusals", \
          "the octets are not as many as the type and the count need") \
     RULE(AT_MODULE, COUNTER_AT_START, "counter-at-start", OWN, 0, "Counter", "It is 0 at the start.") \
+    RULE(AT_MODULE, COUNTER_BITS, "counter-bits", TEES, 0, "Counter", \
+         "The module has a counter of 32 bits, in milliseconds.") \
     RULE(AT_MODULE, COUNTER_STEP, "counter-step", OWN, 0, "Counter", "A scan first steps the counter by one") \
     RULE(AT_MODULE, COUNTER_AROUND, "counter-around", OWN, 0, "Counter", \
          "A scan first steps the counter by one, from 4,294,967,295 to 0") \
@@ -88,6 +90,8 @@ enum field {
          "Where any item of a 51 names an input above 63, nothing changes and the answer has S = 1.") \
     RULE(AT_MODULE, ITEMS_APPLY, "items-apply", OWN, 0, "Configuration", \
          "Else all items apply, in their order, and the answer has S = 0.") \
+    RULE(AT_MODULE, ITEM_SETS, "item-sets", OWN, 0, "Configuration", \
+         "An item that applies sets the input's ignore flag and both filters") \
     RULE(AT_MODULE, LAST_ITEM_HOLDS, "last-item-holds", OWN, 0, "Configuration", \
          "So the last of several items for one input holds.") \
     RULE(AT_MODULE, ENTRY, "entry", TEES, 0, "Waiting entries", \
@@ -143,6 +147,8 @@ enum field {
          "188 has one octet, which the maker of the module chooses.") \
     RULE(AT_MODULE, NO_ANSWER, "no-answer", OWN, FIELD_BIT(PRESENCE), "Other commands", \
          "56, 57 and 59 get no answer and change nothing.") \
+    RULE(AT_MODULE, REFUSED, "refused", OWN, 0, "Other commands", \
+         "Octets that spell no command get no answer and change nothing.") \
     RULE(AT_MODULE, RESTART, "restart", OWN, 0, "Restarts", \
          "A restart leaves the module as it was when it was made") \
     RULE(AT_MODULE, RESTART_LOSES, "restart-loses", OWN, 0, "Restarts", \

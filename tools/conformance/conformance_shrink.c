@@ -13,7 +13,7 @@ struct shrinking {
     const struct ends *ends;
     struct fresh *fresh;
     struct script *script;
-    unsigned long tried;
+    unsigned long tried, most; /* events of trials */
 };
 
 static struct script trial;
@@ -25,14 +25,14 @@ static int take_trial(struct shrinking *shrinking) {
     static struct difference difference;
     size_t length;
     difference.has_failed = 0;
-    if (shrinking->tried > MOST_TRIED) return 0;
+    if (shrinking->tried > shrinking->most) return 0;
     if (shrinking->fresh != NULL) {
         length = conformance_fresh_compare(shrinking->fresh, shrinking->ends, &trial, &difference);
     } else {
         length = conformance_compare(shrinking->ends, &trial, &difference);
     }
     shrinking->tried += length > 0 ? length : trial.length;
-    if (difference.has_failed) shrinking->tried += MOST_TRIED;
+    if (difference.has_failed) shrinking->tried += shrinking->most;
     if (length == 0 || difference.has_failed) return 0;
     trial.length = length;
     conformance_copy(shrinking->script, &trial);
@@ -272,8 +272,9 @@ static int has_octets(const struct event *event) {
 }
 
 void conformance_shrink(const struct ends *ends, struct fresh *fresh, struct script *script) {
-    struct shrinking shrinking = {ends, fresh, script, 0};
+    struct shrinking shrinking = {ends, fresh, script, 0, MOST_TRIED};
     size_t place;
+    if (ends->most_tried > 0) shrinking.most = ends->most_tried;
     while ((ends->cpu != NULL && begin_later(&shrinking)) || drop_events(&shrinking) || change_all_inputs(&shrinking)) {
     }
     for (place = 0; place < script->length; place++) {

@@ -2,6 +2,7 @@
 #ifndef _DEFAULT_SOURCE
 #define _DEFAULT_SOURCE /* for cfmakeraw */
 #endif
+#include "conformance_clock.h"
 #include "conformance_wire.h"
 
 #include <fcntl.h>
@@ -12,6 +13,7 @@
 #include <sys/socket.h>
 #include <sys/wait.h>
 #include <termios.h>
+#include <time.h>
 #include <unistd.h>
 
 enum { LONGEST_LINE = 2 * CONFORMANCE_LONGEST_FRAME + 32 };
@@ -19,8 +21,9 @@ enum { LONGEST_LINE = 2 * CONFORMANCE_LONGEST_FRAME + 32 };
 /* ---- Opening ---- */
 
 static void begin(struct wire *wire, int file) {
-    int deadline_ms = wire->deadline_ms;
+    int deadline_ms = wire->deadline_ms, has_own_clock = wire->has_own_clock;
     memset(wire, 0, sizeof *wire);
+    wire->has_own_clock = has_own_clock;
     wire->deadline_ms = deadline_ms;
     wire->file = file;
     signal(SIGPIPE, SIG_IGN);
@@ -115,12 +118,15 @@ static int take_line(struct wire *wire, char line[LONGEST_LINE]) {
     return 1;
 }
 
+/* The deadline is that of the whole line, so that a device that goes on writing does not hold the run. */
 static int read_line(struct wire *wire, char line[LONGEST_LINE]) {
+    long end = conformance_now_ms() + wire->deadline_ms;
     while (!take_line(wire, line)) {
         struct pollfd ready = {wire->file, POLLIN, 0};
         ssize_t count;
+        long left = end - conformance_now_ms();
         if (wire->kept == sizeof wire->octets) return fail(wire, "its line is too long", "");
-        if (poll(&ready, 1, wire->deadline_ms) <= 0) return fail(wire, "it wrote no line in time", "");
+        if (left <= 0 || poll(&ready, 1, (int)left) <= 0) return fail(wire, "it wrote no line in time", "");
         count = read(wire->file, wire->octets + wire->kept, sizeof wire->octets - wire->kept);
         if (count <= 0) return fail(wire, "it ended", "");
         wire->kept += (size_t)count;
@@ -150,13 +156,22 @@ static void write_octets(char *line, const uint8_t *octets, size_t length) {
     strcpy(line, "\n");
 }
 
-static void step(void *context, uint64_t inputs) {
+static void set_levels(struct wire *wire, uint64_t inputs) {
     char line[LONGEST_LINE] = "inputs ";
     uint8_t octets[8];
     int octet;
     for (octet = 0; octet < 8; octet++, inputs >>= 8) octets[octet] = (uint8_t)inputs;
     write_octets(line + strlen(line), octets, 8);
-    ask_done(context, line);
+    ask_done(wire, line);
+}
+
+static void step(void *context, uint64_t inputs) {
+    static const struct timespec millisecond = {0, 1000000};
+    struct wire *wire = (struct wire *)context;
+    if (!wire->has_own_clock || !wire->has_levels || wire->levels != inputs) set_levels(wire, inputs);
+    wire->has_levels = 1;
+    wire->levels = inputs;
+    if (wire->has_own_clock && !wire->has_failed) nanosleep(&millisecond, NULL);
 }
 
 /* Reads pairs of hexadecimal digits. Returns how many, at most so many; FAILED where the words are anything else. */

@@ -10,6 +10,9 @@ struct wire {
     int deadline_ms; /* for each line that the module's side writes */
     long process;    /* that was started, 0 for none */
     int has_failed;
+    int has_own_clock; /* the levels are set where they change, and a step is a millisecond of waiting */
+    int has_levels;
+    uint64_t levels;
     char fault[80]; /* why */
     size_t kept;    /* octets that came after the last line */
     char octets[4096];

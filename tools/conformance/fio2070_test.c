@@ -5,7 +5,8 @@
 #include <string.h>
 
 static const char HELP[] =
-    "Usage: fio2070-test [--id N] [--per-block N] [--deadline MS] WIRE [WORD..]\n"
+    "Usage: fio2070-test [--id N] [--per-block N] [--deadline MS] [--own-clock] WIRE [WORD..]\n"
+    "       fio2070-test --self module|cpu [WORD..]\n"
     "\n"
     "Holds a module against the proved one, by random scripts. It is asked by lines, each of which it answers with one:\n"
     "  reset          done          as after power on\n"
@@ -21,6 +22,9 @@ static const char HELP[] =
     "  --id N          the octet that it answers to command 60, 2 if not given\n"
     "  --per-block N   the most entries of its blocks, 255 if not given\n"
     "  --deadline MS   for each line of the module, 2000 if not given\n"
+    "  --own-clock     it samples by a clock of its own: inputs sets the levels alone, and what depends on that clock\n"
+    "                  is judged by bounds\n"
+    "  --self END      the proved module, or the proved CPU's end, against itself\n"
     "\n"
     "Each other WORD is the tester's: fio2070-test WIRE --help writes them.\n";
 
@@ -28,12 +32,16 @@ static const char HELP[] =
 struct setup {
     struct wire wire;
     int id, per_block, is_open;
-    const char *opened;
+    const char *opened, *self; /* the end of --self, NULL where there is none */
 };
 
-/* Reads an option and its word. Returns 0 where it is none of these. */
+/* Reads an option and its word. Returns how many words it took, 0 where it is none of these. */
 static int read_option(struct setup *setup, const char *name, const char *word) {
-    if (strcmp(name, "--id") == 0) {
+    if (strcmp(name, "--own-clock") == 0) return setup->wire.has_own_clock = 1;
+    if (strcmp(name, "--self") == 0) {
+        setup->self = setup->opened = word;
+        setup->is_open = strcmp(word, "module") == 0 || strcmp(word, "cpu") == 0;
+    } else if (strcmp(name, "--id") == 0) {
         setup->id = atoi(word);
     } else if (strcmp(name, "--per-block") == 0) {
         setup->per_block = atoi(word);
@@ -48,16 +56,23 @@ static int read_option(struct setup *setup, const char *name, const char *word) 
     } else {
         return 0;
     }
-    return 1;
+    return 2;
 }
 
 static int run(struct setup *setup, int count, char **words) {
     struct maker maker;
     struct ends ends;
     int status;
-    conformance_wire_maker(&setup->wire, (uint8_t)setup->id, (uint8_t)setup->per_block, &maker);
     memset(&ends, 0, sizeof ends);
+    if (setup->self != NULL) {
+        if (*setup->self == 'm') ends.module = &CONFORMANCE_PROVED_MODULE;
+        if (*setup->self == 'c') ends.cpu = &CONFORMANCE_PROVED_CPU;
+        return conformance_words(&ends, 0, count, words);
+    }
+    conformance_wire_maker(&setup->wire, (uint8_t)setup->id, (uint8_t)setup->per_block, &maker);
     ends.module = &maker;
+    ends.has_own_clock = setup->wire.has_own_clock;
+    ends.most_tried = ends.has_own_clock ? 10000 : 500000;
     status = conformance_words(&ends, 1, count, words);
     if (setup->wire.has_failed) printf("%s: %s\n", setup->opened, setup->wire.fault);
     conformance_wire_close(&setup->wire);
@@ -66,12 +81,15 @@ static int run(struct setup *setup, int count, char **words) {
 
 int main(int count, char **words) {
     static struct setup setup;
-    int place = 1;
+    int place = 1, taken = 1;
     setup.id = 2;
     setup.per_block = FIO2070_MOST_ENTRIES;
     setup.wire.deadline_ms = 2000;
     setvbuf(stdout, NULL, _IOLBF, 0);
-    while (setup.opened == NULL && place + 1 < count && read_option(&setup, words[place], words[place + 1])) place += 2;
+    while (setup.opened == NULL && place + 1 < count && taken > 0) {
+        taken = read_option(&setup, words[place], words[place + 1]);
+        place += taken;
+    }
     if (setup.opened == NULL) {
         fputs(HELP, stdout);
         return count == 2 && strcmp(words[1], "--help") == 0 ? 0 : 2;

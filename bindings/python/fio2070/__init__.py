@@ -12,11 +12,13 @@ import ctypes
 from typing import List, NamedTuple, Optional, Sequence, Tuple
 
 from . import _library as c
-from . import encode
-from .records import Answer, Command, ConfigurationItem, Entry, Fault, RecordItem
+from . import constants, encode
+from .encode import Octets
+from .records import Answer, Breach, Command, ConfigurationItem, Entry, Fault, RecordItem
 
-__all__ = ['Answer', 'Command', 'ConfigurationItem', 'Counter', 'Entry', 'Fault', 'Filters', 'Heard', 'Module',
-           'Poller', 'RecordItem', 'decode_answer', 'decode_command', 'encode', 'widen']
+__all__ = ['Answer', 'Breach', 'Checker', 'Command', 'ConfigurationItem', 'Counter', 'Entry', 'Fault', 'Filters',
+           'Heard', 'Module', 'Octets', 'Poller', 'RecordItem', 'constants', 'decode_answer', 'decode_command', 'encode',
+           'version', 'widen']
 
 
 def _text_of(fault: c.CFault) -> str:
@@ -28,8 +30,14 @@ def _fault(fault: c.CFault) -> Fault:
     return Fault(fault.kind, fault.code, fault.needed, fault.got, _text_of(fault))
 
 
-def decode_command(octets: bytes) -> Command:
+def version() -> int:
+    """The version of the library that is loaded, as constants.VERSION has that of this package."""
+    return int(c.library.fio2070_version())
+
+
+def decode_command(octets: Octets) -> Command:
     """The command that the octets spell. Raises Fault where they spell none."""
+    octets = bytes(octets)
     read = c.CCommand()
     fault = c.library.fio2070_decode_command(octets, len(octets), read)
     if fault.kind != 0:
@@ -41,15 +49,17 @@ def decode_command(octets: bytes) -> Command:
                    [ConfigurationItem(one.input, bool(one.ignore), one.leading, one.trailing) for one in items[:count]])
 
 
-def show(octets: bytes) -> str:
+def show(octets: Octets) -> str:
     """What `fio2070 show` writes of a frame, or the words of its fault and a line feed."""
+    octets = bytes(octets)
     text = (c.c_uint8 * c.library.fio2070_show(octets, len(octets), (c.c_uint8 * 1)(), 0))()
     c.library.fio2070_show(octets, len(octets), text, len(text))
     return bytes(text).decode('ascii')
 
 
-def decode_answer(octets: bytes) -> Answer:
+def decode_answer(octets: Octets) -> Answer:
     """The answer that the octets spell. Raises Fault where they spell none."""
+    octets = bytes(octets)
     read = c.CAnswer()
     fault = c.library.fio2070_decode_answer(octets, len(octets), read)
     if fault.kind != 0:
@@ -65,7 +75,7 @@ def widen(answer_stamp: int, stamp: int) -> int:
     """The time in milliseconds, modulo 2^32, of an entry with this stamp in an answer with that one."""
     encode.check_range(2**32, answer_stamp)
     encode.check_range(2**16, stamp)
-    return c.library.fio2070_widen(answer_stamp, stamp)
+    return int(c.library.fio2070_widen(answer_stamp, stamp))
 
 
 class Heard(NamedTuple):
@@ -91,14 +101,15 @@ class Poller:
     @property
     def number(self) -> int:
         """The number of the block that the next poll asks for."""
-        return self._poller.number
+        return int(self._poller.number)
 
     def poll(self) -> bytes:
         """The octets of a poll with the present number."""
         return encode.poll(self.number)
 
-    def hear(self, octets: bytes) -> Heard:
+    def hear(self, octets: Octets) -> Heard:
         """Takes a block with the present number whole; anything else is reported and changes nothing."""
+        octets = bytes(octets)
         heard = c.library.fio2070_poller_hear(self._poller, octets, len(octets), self._items, len(self._items))
         if heard.kind == 0:
             self.record.extend(RecordItem(bool(one.gap), one.input, one.state, one.stamp, one.wide)
@@ -109,6 +120,28 @@ class Poller:
         if heard.kind == 2:
             return Heard('other', code=heard.code)
         return Heard('stale', number=heard.number)
+
+
+class Checker:
+    """A checker of what the CPU's end sends and hears. Below a breach it goes on as one that starts at the next poll."""
+
+    def __init__(self) -> None:
+        self._checker, self._breach = c.CChecker(), c.CBreach()
+        c.library.fio2070_checker_start(self._checker)
+
+    def sent(self, octets: Octets) -> Optional[Breach]:
+        """The breach of a frame that the CPU sent; None where it keeps the rules."""
+        octets = bytes(octets)
+        return self._found(c.library.fio2070_checker_sent(self._checker, octets, len(octets), self._breach))
+
+    def heard(self, octets: Octets) -> Optional[Breach]:
+        """The breach of a frame that the CPU heard; None where it keeps the rules."""
+        octets = bytes(octets)
+        return self._found(c.library.fio2070_checker_heard(self._checker, octets, len(octets), self._breach))
+
+    def _found(self, rule: int) -> Optional[Breach]:
+        found = self._breach
+        return Breach(rule, bool(found.has_due), found.due, found.got) if rule else None
 
 
 class Counter:
@@ -133,7 +166,7 @@ class Counter:
 
     def now(self) -> int:
         """The milliseconds counted, modulo 2^32."""
-        return c.library.fio2070_counter_now(self._counter)
+        return int(c.library.fio2070_counter_now(self._counter))
 
 
 class Filters:
@@ -155,17 +188,17 @@ class Filters:
     def scan(self, raw: int) -> int:
         """Samples each input. A one for each input that is not ignored and whose filtered state changed."""
         encode.check_range(2**64, raw)
-        return c.library.fio2070_filters_scan(self._filters, raw)
+        return int(c.library.fio2070_filters_scan(self._filters, raw))
 
     @property
     def filtered(self) -> int:
         """The filtered states, also of ignored inputs."""
-        return c.library.fio2070_filters_filtered(self._filters)
+        return int(c.library.fio2070_filters_filtered(self._filters))
 
     @property
     def raw(self) -> int:
         """The levels of the last scan, all 1 before any."""
-        return c.library.fio2070_filters_raw(self._filters)
+        return int(c.library.fio2070_filters_raw(self._filters))
 
 
 class Module:
@@ -196,8 +229,9 @@ class Module:
         encode.check_range(256, mask)
         c.library.fio2070_module_raise(self._module, mask)
 
-    def receive(self, octets: bytes) -> Optional[bytes]:
+    def receive(self, octets: Octets) -> Optional[bytes]:
         """The answer to a frame; None where there is none."""
+        octets = bytes(octets)
         out = (ctypes.c_uint8 * c.LONGEST_FRAME)()
         count = c.library.fio2070_module_receive(self._module, octets, len(octets), out)
         return bytes(out[:count]) if count else None
@@ -211,19 +245,19 @@ class Module:
     @property
     def watchdog_ms(self) -> Optional[int]:
         """The timeout of the watchdog in milliseconds, 10 to 100; None before the first command 58."""
-        return c.library.fio2070_module_watchdog_ms(self._module) or None
+        return int(c.library.fio2070_module_watchdog_ms(self._module)) or None
 
     @property
     def counter(self) -> int:
         """The milliseconds counted, modulo 2^32."""
-        return c.library.fio2070_module_counter(self._module)
+        return int(c.library.fio2070_module_counter(self._module))
 
     @property
     def filtered(self) -> int:
         """The filtered states, also of ignored inputs."""
-        return c.library.fio2070_module_filtered(self._module)
+        return int(c.library.fio2070_module_filtered(self._module))
 
     @property
     def waiting(self) -> int:
         """How many entries wait for a poll."""
-        return c.library.fio2070_module_waiting(self._module)
+        return int(c.library.fio2070_module_waiting(self._module))

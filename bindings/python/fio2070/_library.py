@@ -3,24 +3,23 @@
 import ctypes
 import os
 from ctypes import POINTER, c_size_t, c_uint8, c_uint16, c_uint32, c_uint64
+from typing import Any, Dict, List
 
-LONGEST_FRAME = 773
-MOST_ENTRIES = 255
-MOST_RECORD_ITEMS = 256
-LONGEST_FAULT_TEXT = 65
+from .constants import LONGEST_FAULT_TEXT, LONGEST_FRAME, MOST_ENTRIES, MOST_RECORD_ITEMS
 
 
 def _load() -> ctypes.CDLL:
     """The library that FIO2070_LIBRARY names, or the one beside this file, or at the top of the repository that this
     file is in, or the installed one."""
     here = os.path.dirname(os.path.abspath(__file__))
-    places = [os.path.join(here, *above, 'libfio2070.so') for above in ([], ['..', '..', '..'])]
+    places = [os.path.join(here, 'libfio2070.so'), os.path.join(here, '..', '..', '..', 'libfio2070.so')]
     named = [os.environ['FIO2070_LIBRARY']] if os.environ.get('FIO2070_LIBRARY') else []
     return ctypes.CDLL((named + list(filter(os.path.exists, places)) + ['libfio2070.so'])[0])
 
 
 class CFault(ctypes.Structure):
-    _fields_ = [('kind', c_uint8), ('code', c_uint8), ('needed', c_uint16), ('got', c_size_t)]
+    _fields_ = [('kind', c_uint8), ('code', c_uint8), ('needed', c_uint16), ('reserved', c_uint8 * 4),
+                ('got', c_uint64)]
 
 
 class CEntry(ctypes.Structure):
@@ -33,13 +32,14 @@ class CItem(ctypes.Structure):
 
 class CCommand(ctypes.Structure):
     _fields_ = [('code', c_uint8), ('clear', c_uint8), ('block', c_uint8), ('timeout', c_uint8), ('count', c_uint8),
-                ('body', c_uint16), ('load', c_uint32), ('levels', c_uint8 * 8), ('controls', c_uint8 * 8)]
+                ('reserved', c_uint8), ('body', c_uint16), ('load', c_uint32), ('levels', c_uint8 * 8),
+                ('controls', c_uint8 * 8)]
 
 
 class CAnswer(ctypes.Structure):
     _fields_ = [('code', c_uint8), ('flags', c_uint8), ('receive_errors', c_uint8), ('transmit_errors', c_uint8),
-                ('status', c_uint8), ('block', c_uint8), ('count', c_uint8), ('body', c_uint16), ('stamp', c_uint32),
-                ('inputs', c_uint64)]
+                ('status', c_uint8), ('block', c_uint8), ('count', c_uint8), ('reserved', c_uint8 * 3),
+                ('body', c_uint16), ('stamp', c_uint32), ('inputs', c_uint64)]
 
 
 class CPoller(ctypes.Structure):
@@ -47,24 +47,35 @@ class CPoller(ctypes.Structure):
 
 
 class CRecordItem(ctypes.Structure):
-    _fields_ = [('gap', c_uint8), ('input', c_uint8), ('state', c_uint8), ('stamp', c_uint16), ('wide', c_uint32)]
+    _fields_ = [('gap', c_uint8), ('input', c_uint8), ('state', c_uint8), ('reserved', c_uint8 * 3),
+                ('stamp', c_uint16), ('wide', c_uint32)]
 
 
 class CHeard(ctypes.Structure):
     _fields_ = [('kind', c_uint8), ('code', c_uint8), ('number', c_uint8), ('status', c_uint8), ('entries', c_uint8),
-                ('items', c_uint16), ('fault', CFault)]
+                ('reserved', c_uint8), ('items', c_uint16), ('fault', CFault)]
 
 
 class CConfigured(ctypes.Structure):
-    _fields_ = [('kind', c_uint8), ('place', c_size_t)]
+    _fields_ = [('kind', c_uint8), ('reserved', c_uint8 * 7), ('place', c_uint64)]
 
 
 class CCounter(ctypes.Structure):
     _fields_ = [('value', c_uint32), ('load', c_uint32), ('is_asked', c_uint8), ('reserved', c_uint8 * 3)]
 
 
+class CChecker(ctypes.Structure):
+    _fields_ = [('has_awaited', c_uint8), ('awaited', c_uint8), ('absent_named', c_uint8), ('has_polled', c_uint8),
+                ('polled', c_uint8), ('answered', c_uint8), ('advanced', c_uint8), ('more', c_uint8),
+                ('skips', c_uint8)]
+
+
+class CBreach(ctypes.Structure):
+    _fields_ = [('rule', c_uint8), ('has_due', c_uint8), ('due', c_uint8), ('got', c_uint8)]
+
+
 class CFilters(ctypes.Structure):
-    _fields_ = [('lanes', c_uint8 * 192), ('words', c_uint64 * 3)]
+    _fields_ = [('words', c_uint64 * 27)]
 
 
 class COutputs(ctypes.Structure):
@@ -73,13 +84,13 @@ class COutputs(ctypes.Structure):
 
 class CModule(ctypes.Structure):
     """The octets of struct fio2070_module, as aligned as that is."""
-    _fields_ = [('words', c_uint64 * (4112 // 8))]
+    _fields_ = [('words', c_uint64 * 514)]
 
 
 library = _load()
 
 
-def _declare(name: str, result, *arguments) -> None:
+def _declare(name: str, result: Any, *arguments: Any) -> None:
     function = getattr(library, 'fio2070_' + name)
     function.restype = result
     function.argtypes = arguments
@@ -94,18 +105,23 @@ _declare('command_items', c_size_t, *_OCTETS, POINTER(CItem), c_size_t)
 _declare('show', c_size_t, *_OCTETS, *_OUT)
 _declare('decode_answer', CFault, *_OCTETS, POINTER(CAnswer))
 _declare('block_entries', c_size_t, *_OCTETS, POINTER(CEntry), c_size_t)
+_declare('version', c_uint32)
 _declare('widen', c_uint32, c_uint32, c_uint16)
-for _name, _arguments in {
+_ENCODERS: Dict[str, List[Any]] = {
         'status': [c_uint8], 'load_counter': [c_uint32], 'configure_inputs': [POINTER(CItem), c_size_t],
-        'raw_inputs': [], 'filtered_inputs': [], 'poll': [c_uint8], 'set_outputs': _OCTETS[:1] * 2,
+        'raw_inputs': [], 'filtered_inputs': [], 'poll': [c_uint8], 'set_outputs': [_OCTETS[0], _OCTETS[0]],
         'watchdog': [c_uint8], 'identify': [], 'other_command': [c_uint8, *_OCTETS],
         'status_answer': [c_uint8, c_uint8, c_uint8, c_uint32], 'load_counter_answer': [c_uint8],
         'configure_inputs_answer': [c_uint8], 'raw_inputs_answer': [c_uint64, c_uint32],
         'filtered_inputs_answer': [c_uint64, c_uint32],
         'block_answer': [c_uint8, POINTER(CEntry), c_size_t, c_uint8, c_uint32],
-        'watchdog_answer': [c_uint8], 'other_answer': [c_uint8, *_OCTETS]}.items():
+        'watchdog_answer': [c_uint8], 'other_answer': [c_uint8, *_OCTETS]}
+for _name, _arguments in _ENCODERS.items():
     _declare('encode_' + _name, c_size_t, *_arguments, *_OUT)
 _declare('poller_hear', CHeard, POINTER(CPoller), *_OCTETS, POINTER(CRecordItem), c_size_t)
+_declare('checker_start', None, POINTER(CChecker))
+_declare('checker_sent', c_uint8, POINTER(CChecker), *_OCTETS, POINTER(CBreach))
+_declare('checker_heard', c_uint8, POINTER(CChecker), *_OCTETS, POINTER(CBreach))
 _declare('counter_start', None, POINTER(CCounter))
 _declare('counter_tick', None, POINTER(CCounter))
 _declare('counter_ask_load', None, POINTER(CCounter), c_uint32)

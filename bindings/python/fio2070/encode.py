@@ -1,10 +1,13 @@
 """Commands and answers as octets. Each raises ValueError where a number is out of its range."""
 
 import ctypes
-from typing import Sequence
+from typing import Any, Sequence, Union
 
 from . import _library as c
 from .records import ConfigurationItem, Entry
+
+# What a call takes as octets.
+Octets = Union[bytes, bytearray, memoryview]
 
 
 def check_range(bound: int, *numbers: int) -> None:
@@ -14,7 +17,7 @@ def check_range(bound: int, *numbers: int) -> None:
             raise ValueError('%d is not from 0 to %d' % (number, bound - 1))
 
 
-def _write(name: str, *arguments) -> bytes:
+def _write(name: str, *arguments: Any) -> bytes:
     out = (ctypes.c_uint8 * c.LONGEST_FRAME)()
     count = getattr(c.library, 'fio2070_encode_' + name)(*arguments, out, len(out))
     if count == 0:
@@ -22,11 +25,12 @@ def _write(name: str, *arguments) -> bytes:
     return bytes(out[:count])
 
 
-def items_of(items: Sequence[ConfigurationItem]):
+def items_of(items: Sequence[ConfigurationItem]) -> Any:
     """The items as the library reads them."""
     for one in items:
         check_range(256, one.input, one.leading, one.trailing)
-    return (c.CItem * max(len(items), 1))(*[(one.input, int(one.ignore), one.leading, one.trailing) for one in items])
+    return (c.CItem * max(len(items), 1))(
+        *[c.CItem(one.input, int(one.ignore), one.leading, one.trailing) for one in items])
 
 
 def status(clear: int) -> bytes:
@@ -62,11 +66,12 @@ def poll(block: int) -> bytes:
     return _write('poll', block)
 
 
-def set_outputs(levels: bytes, controls: bytes) -> bytes:
+def set_outputs(levels: Octets, controls: Octets) -> bytes:
     """55: eight octets each."""
+    levels, controls = bytes(levels), bytes(controls)
     if len(levels) != 8 or len(controls) != 8:
         raise ValueError('the outputs are eight octets each')
-    return _write('set_outputs', bytes(levels), bytes(controls))
+    return _write('set_outputs', levels, controls)
 
 
 def watchdog(timeout: int) -> bytes:
@@ -80,9 +85,10 @@ def identify() -> bytes:
     return _write('identify')
 
 
-def other_command(code: int, body: bytes) -> bytes:
+def other_command(code: int, body: Octets) -> bytes:
     """56, 57 or 59, with at most 772 octets after the type."""
     check_range(256, code)
+    body = bytes(body)
     return _write('other_command', code, body, len(body))
 
 
@@ -126,7 +132,7 @@ def block_answer(block: int, entries: Sequence[Entry], status: int, stamp: int) 
     for one in entries:
         check_range(256, one.input, one.state)
         check_range(2**16, one.stamp)
-    read = (c.CEntry * max(len(entries), 1))(*[tuple(one) for one in entries])
+    read = (c.CEntry * max(len(entries), 1))(*[c.CEntry(*one) for one in entries])
     return _write('block_answer', block, read, len(entries), status, stamp)
 
 
@@ -136,7 +142,8 @@ def watchdog_answer(status: int) -> bytes:
     return _write('watchdog_answer', status)
 
 
-def other_answer(code: int, body: bytes) -> bytes:
+def other_answer(code: int, body: Octets) -> bytes:
     """183, 184, 185, 187 or 188, with at most 772 octets after the type."""
     check_range(256, code)
+    body = bytes(body)
     return _write('other_answer', code, body, len(body))

@@ -1,6 +1,6 @@
 """Messages and their parts. A field that a type does not have is 0 or empty."""
 
-from typing import List, NamedTuple
+from typing import List, NamedTuple, Tuple, Type
 
 
 class Fault(ValueError):
@@ -9,6 +9,9 @@ class Fault(ValueError):
     def __init__(self, kind: int, code: int, needed: int, got: int, text: str) -> None:
         super().__init__(text)
         self.kind, self.code, self.needed, self.got = kind, code, needed, got
+
+    def __reduce__(self) -> Tuple[Type['Fault'], Tuple[int, int, int, int, str]]:
+        return Fault, (self.kind, self.code, self.needed, self.got, str(self))
 
 
 class Entry(NamedTuple):
@@ -33,6 +36,15 @@ class RecordItem(NamedTuple):
     state: int
     stamp: int
     wide: int
+
+
+class Breach(NamedTuple):
+    """The first rule that a frame breaks: 1 readable, 2 pair, 3 number, 4 advance, 5 same, 6 sequence, 7 limits, 8 rest,
+    9 refusal. Where `has_due`, the number or the type that was due, and the one that came."""
+    rule: int
+    has_due: bool
+    due: int
+    got: int
 
 
 class Command(NamedTuple):

@@ -141,7 +141,7 @@ def _raw_cpu(maker: CpuMaker, calls: _Calls) -> _CpuMaker:
     def hear(octets, length, out):
         items = maker.hear(ctypes.string_at(octets, length))[:c.MOST_RECORD_ITEMS]
         for place, item in enumerate(items):
-            out[place] = c.CRecordItem(*item)
+            out[place] = c.CRecordItem(**RecordItem(*item)._asdict())
         return len(items)
 
     return _CpuMaker(None, _RESET(calls.guarded(maker.reset)), _POLL(calls.guarded(poll, _FAILED)),
@@ -150,12 +150,12 @@ def _raw_cpu(maker: CpuMaker, calls: _Calls) -> _CpuMaker:
 
 class _Ends(ctypes.Structure):
     _fields_ = [('module', POINTER(_Maker)), ('cpu', POINTER(_CpuMaker)), ('masked', c_uint64 * 2),
-                ('left_out', c_uint64 * 2)]
+                ('left_out', c_uint64 * 2), ('has_own_clock', c_int), ('most_tried', c_ulong)]
 
 
 class _Options(ctypes.Structure):
     _fields_ = [('events', c_ulong), ('seed', c_uint64), ('mix', POINTER(Mix)), ('cpu_mix', POINTER(CpuMix)),
-                ('excepted', c_uint64 * 2), ('stops', c_int), ('is_outside', c_int)]
+                ('excepted', c_uint64 * 2), ('stops', c_int), ('is_outside', c_int), ('kept', c_void_p)]
 
 
 def _options(seed: int, events: int, excepted: Sequence[str], goes_on: bool) -> _Options:

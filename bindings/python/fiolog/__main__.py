@@ -42,8 +42,19 @@ def arguments(words):
     return parser, parser.parse_args(words)
 
 
+def open_streams():
+    """Puts an empty file in place of a stream that was closed; without standard output nothing is done."""
+    for name, mode in (('stdin', 'r'), ('stderr', 'w')):
+        if getattr(sys, name) is None:
+            setattr(sys, name, open(os.devnull, mode))
+    if sys.stdout is None:
+        say('standard output is closed')
+        sys.exit(3)
+
+
 def main(words=None):
     """Runs a subcommand. Status 0: good; 1: a fault is reported; 2: the command line is invalid; 3: a read failed."""
+    open_streams()
     parser, option = arguments(sys.argv[1:] if words is None else words)
     if getattr(option, 'pattern', None):
         try:
@@ -62,7 +73,7 @@ def main(words=None):
     except KeyboardInterrupt:
         return 130
     except OSError as fault:
-        say(str(fault))
+        say('%s: %s' % (fault.filename, fault.strerror) if fault.filename and fault.strerror else str(fault))
         return 3
 
 

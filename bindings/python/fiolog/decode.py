@@ -10,25 +10,27 @@ import time
 from . import log, terminal
 from .events import DAMAGED, FRAME
 from .judge import is_answer
-from .message import BLOCK, LETTERS, POLL, message_of, part_words
+from .message import BLOCK, LETTERS, message_of, part_words
+from .options import line_range, message_type, number_in, status_letters
 
 # Times from here on are of a date.
 DATED = 1e8
 COLUMNS = ['file', 'line', 'time', 'direction', 'octets', 'type', 'says', 'input', 'state', 'stamp', 'wide']
-TYPES = {'poll': POLL, 'block': BLOCK}
 
 
 def add_arguments(parser):
     log.add_arguments(parser)
     form = parser.add_mutually_exclusive_group()
-    form.add_argument('--json', action='store_true', help='one object a line')
+    form.add_argument('--json', action='store_true',
+                      help='one object a line: file, line, time (seconds or null), direction (> or <) and octets; then fault, or '
+                           'type, says, the numbers of that message by name, and entries or items')
     form.add_argument('--csv', action='store_true', help='a table; an entry a row')
-    parser.add_argument('--input', type=int, metavar='N', help='only messages with this input, and of them its lines')
-    parser.add_argument('--type', action='append', metavar='N', help='only this type: 49 to 60, 177 to 188, poll, block')
-    parser.add_argument('--block', type=int, metavar='N', help='only polls and blocks with this number')
-    parser.add_argument('--status', metavar='LETTERS', help='only blocks with one of these bits: C, F, E, G')
+    parser.add_argument('--input', type=number_in(0, 63), metavar='N', help='only messages with this input, and of them its lines')
+    parser.add_argument('--type', type=message_type, action='append', metavar='N', help='only this type: 49 to 60, 177 to 188, poll, block')
+    parser.add_argument('--block', type=number_in(0, 255), metavar='N', help='only polls and blocks with this number')
+    parser.add_argument('--status', type=status_letters, metavar='LETTERS', help='only blocks with one of these bits: C, F, E, G')
     parser.add_argument('--direction', choices=('sent', 'heard'), help='only what the CPU sent or heard')
-    parser.add_argument('--lines', metavar='A-B', help='only these lines')
+    parser.add_argument('--lines', type=line_range, metavar='A-B', help='only these lines')
     parser.add_argument('--color', choices=('auto', 'always', 'never'), default='auto', help='colours (on a terminal)')
 
 
@@ -57,10 +59,10 @@ class Filter:
 
     def __init__(self, option):
         self.option = option
-        self.types = {TYPES.get(one) or int(one) for one in option.type or ()}
-        self.bits = sum(LETTERS[letter] for letter in set((option.status or '').upper()))
-        first, _, last = (option.lines or '').partition('-')
-        self.lines = range(int(first or 1), int(last or first) + 1) if option.lines else None
+        self.types = set(option.type or ())
+        self.bits = sum(LETTERS[letter] for letter in set(option.status or ''))
+        first, last = option.lines or (1, None)
+        self.lines = range(first, sys.maxsize if last is None else last + 1) if option.lines else None
         self.is_open = not any((self.types, self.bits, self.lines, option.direction, option.block is not None,
                                 option.input is not None))
 

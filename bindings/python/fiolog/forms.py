@@ -8,6 +8,8 @@ with open(os.path.join(os.path.dirname(os.path.abspath(__file__)), 'forms.json')
     TABLE = json.load(_file)
 
 FLAGS = re.IGNORECASE | re.ASCII
+# No word for a direction is longer.
+LONGEST_WORD = 40
 _PART = re.compile(r'\{([a-z]+)\}')
 
 
@@ -67,5 +69,6 @@ def direction_of(words):
 
 def direction_in(text):
     """The direction that the words of a text name, where they name one alone."""
-    found = {direction_of(word) for word in re.findall(r'[A-Za-z][A-Za-z0-9/]*?(?=[^A-Za-z/]|$)', text)} - {''}
+    words = set(re.findall(r'[A-Za-z][A-Za-z0-9/]*?(?=[^A-Za-z/]|$)', text))
+    found = {direction_of(word) for word in words if len(word) <= LONGEST_WORD} - {''}
     return found.pop() if len(found) == 1 else ''

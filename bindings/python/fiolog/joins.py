@@ -3,7 +3,7 @@
 import re
 
 from . import judge
-from .notations import HEX_LIST
+from .notations import HEX_LIST, from_digits
 
 # The longest frame with SDLC around it takes fewer octets, and an array of it fewer lines.
 MOST_OCTETS = 4096
@@ -96,4 +96,4 @@ def is_wrapped(reading):
 def bare(text):
     """The octets of a line that has nothing but digits; None where it has more."""
     text = text.strip()
-    return text if HEX_LIST.fullmatch(text) else None
+    return text if HEX_LIST.fullmatch(text) and from_digits(text) else None

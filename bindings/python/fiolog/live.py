@@ -18,6 +18,7 @@ from .decode import as_text
 from .events import DAMAGED, FRAME, Line
 from .judge import is_answer, words_of
 from .message import message_of
+from .options import number_in
 from .pcapng import Writer
 from .reader import Reader
 
@@ -33,7 +34,7 @@ def add_arguments(parser):
     source = parser.add_mutually_exclusive_group(required=True)
     source.add_argument('--exec', metavar='COMMAND', help='a process that writes lines `> HEX` and `< HEX`')
     source.add_argument('--serial', metavar='DEVICE', help='octet-stuffed HDLC with frame check')
-    source.add_argument('--udp', type=int, metavar='PORT', help='a frame a datagram')
+    source.add_argument('--udp', type=number_in(0, 65535), metavar='PORT', help='a frame a datagram')
     source.add_argument('--fifo', metavar='FILE', help='a pipe or file with lines of a log')
     parser.add_argument('--rate', type=int, default=153600, metavar='BAUD', help='of the serial port (153600)')
     parser.add_argument('--host', default='127.0.0.1', help='the address to hear datagrams at (127.0.0.1)')

@@ -6,7 +6,7 @@ from collections import Counter
 
 from . import fitting, source
 from .events import FRAME, PASSED
-from .reader import Reader
+from .reader import FORMS, Reader
 from .terminal import Progress, say
 
 # How many reasons of passed lines the summary names.
@@ -16,7 +16,7 @@ MOST_REASONS = 3
 def add_arguments(parser):
     """The options of all that read logs."""
     parser.add_argument('files', nargs='*', default=['-'], metavar='FILE', help='logs; - is standard input, the default')
-    parser.add_argument('--format', default='auto', metavar='NAME',
+    parser.add_argument('--format', choices=FORMS, default='auto', metavar='NAME',
                         help='auto (the default), frames, transcript, log, csv or json')
     parser.add_argument('--pattern', metavar='REGEX', help='an expression with the groups octets and perhaps time and dir')
     parser.add_argument('--sdlc', action='store_true', help='each frame has address, control and frame check')

@@ -14,8 +14,15 @@ _ESCAPE = re.compile(r'\\(?:x([0-9a-fA-F]{1,2})|([0-7]{1,3})|(.))', re.DOTALL)
 _ESCAPED = {'n': '\n', 'r': '\r', 't': '\t', 'a': '\a', 'b': '\b', 'f': '\f', 'v': '\v', 'e': '\x1b'}
 
 
+def is_uneven(words):
+    """Whether one word of digits has a single one, and another a zero before its digit: then a digit is lost."""
+    return any(len(word) == 1 for word in words) and any(word[0] == '0' for word in words if len(word) > 1)
+
+
 def from_digits(text):
-    """The octets of a list of hexadecimal words."""
+    """The octets of a list of hexadecimal words; none where one has lost a digit."""
+    if is_uneven(_MARK.split(text)):
+        return b''
     return bytes.fromhex(''.join('0' + one if len(one) == 1 else one for one in _MARK.split(text)))
 
 
@@ -83,10 +90,9 @@ def readings(text):
         return
     inner = _inside(text)
     digits = _digits(text) or _digits(inner)
-    if digits:
-        yield 'hex', from_digits(digits)
-    elif HEX['single'].fullmatch(inner):
-        yield 'digits', from_digits(inner)
+    octets = from_digits(digits or inner) if digits or HEX['single'].fullmatch(inner) else b''
+    if octets:
+        yield 'hex' if digits else 'digits', octets
     column = with_column(text)
     if column is not None:
         yield 'column', column
@@ -97,7 +103,10 @@ def readings(text):
 
 
 def from_literal(text):
-    """The octets of a string literal of C, Python or a shell; None where a character is above 255."""
+    """The octets of a string literal of C, Python or a shell; None where a character is above 255 or lost a digit."""
+    if is_uneven([escape[1] for escape in _ESCAPE.finditer(text) if escape[1]]):
+        return None
+
     def character(escape):
         if escape[1]:
             return chr(int(escape[1], 16))
@@ -112,7 +121,7 @@ def delimited(text):
     """Octets in quotes, braces or brackets anywhere in a line: where they begin, and each way to read them."""
     for quoted in _QUOTED.finditer(text):
         inner = quoted['text'].strip()
-        if not quoted['prefix'] and HEX_LIST.fullmatch(inner) and '\\' not in inner:
+        if not quoted['prefix'] and HEX_LIST.fullmatch(inner) and '\\' not in inner and from_digits(inner):
             yield quoted.start(), from_digits(inner)
         literal = from_literal(quoted['text']) if quoted['prefix'] or '\\' in quoted['text'] else None
         if literal:
@@ -128,5 +137,5 @@ def delimited(text):
             numbers = [int(word, 16) if word[:2] in ('0x', '0X') else int(word) for word in words]
             if max(numbers) < 256:
                 yield listed.start(), bytes(numbers)
-        if HEX_LIST.fullmatch(inner):
+        if HEX_LIST.fullmatch(inner) and from_digits(inner):
             yield listed.start(), from_digits(inner)

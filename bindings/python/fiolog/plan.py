@@ -5,22 +5,12 @@ import json
 import sys
 
 from . import terminal
+from .options import number_in
 
 LIMITS = {'standard': (255, 1024), 'largest': (255, 8192)}
 COMPUTED = 'computed, not proved'
 MOST_ROUNDS = 10_000
 MOST_INPUTS, MOST_FILTER, MOST_SCANS = 64, 255, 1 << 31
-
-
-def number_in(low, high):
-    """A number of the command line, from low to high."""
-    def read(text):
-        number = int(text)
-        if not low <= number <= high:
-            raise ValueError(text)
-        return number
-    read.__name__ = 'number from %d to %d' % (low, high)
-    return read
 
 
 def add_arguments(parser):
@@ -38,6 +28,14 @@ def add_arguments(parser):
 def logged_in(inputs, filter_length, scans):
     """The most transitions in so many scans: all inputs change at the first, then whenever a filter lets them."""
     return inputs * -(-scans // filter_length)
+
+
+def most_exact(inputs, filter_length, per_block, every, behind):
+    """The most that wait and the most scans that one is late, with blocks and filters counted whole, where the blocks are so
+    many scans behind at most."""
+    waiting = max(inputs * -(-(j * every + behind) // filter_length) - per_block * j for j in range(filter_length + 1))
+    late = max(j * every - filter_length * (per_block * j // inputs) for j in range(inputs))
+    return waiting, behind - 1 + late
 
 
 def paces(inputs, filter_length, per_block, waiting, left):
@@ -63,13 +61,17 @@ def row(option):
     if option.lost:
         yield ('begin a round every, so that %d lost in a row lose nothing' % option.lost, '%d ms' % apart,
                '`enough` of `IsPolledInTime`')
-    yield 'entries that wait, at most', inputs * (every + length - 1) // length, '`few_wait` of `KeepsUp`'
-    yield 'late, at most', '%d ms' % (every + length - 2), '`never_late` of `Delivers`'
-    yield ('entries that wait, at most, answers lost', inputs * (2 * every + length - 1) // length,
-           '`rounds_keep_up` of `Delivers`')
+    waits, late = most_exact(inputs, length, per_block, every, every)
+    yield 'entries that wait, at most', waits, '`few_wait` of `KeepsUpExactly`'
+    yield 'late, at most', '%d ms' % late, '`young` of `KeepsUpExactly`'
+    yield ('entries that wait, at most, answers lost', most_exact(inputs, length, per_block, every, 2 * every)[0],
+           '`few_wait` of `KeepsUpExactly`')
     yield 'late, at most, answers lost', '%d ms' % (2 * every + length - 2), '`never_late` of `Delivers`'
     longest = waiting // inputs * length
     yield 'outage without loss, at most', '%d ms' % longest, '`room` of `IsOutage`; `outage` of `Delivers`'
+    within = waiting * length // inputs - (length - 1)
+    if within >= every:
+        yield 'outage within the pace, at most', '%d ms' % within, '`possible` of `outages_within_a_pace`'
     if option.every is not None:
         fits = 'nothing is lost' if option.every <= every else 'some may be lost in the densest traffic'
         yield 'a poll every %d ms' % option.every, fits, ('`enough` of `IsPolledInTime`' if option.every <= every

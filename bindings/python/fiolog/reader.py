@@ -15,7 +15,11 @@ from .grammar import BLANKS, Reading, head_of, heading, in_marks, in_pieces
 from .notations import from_digits
 
 MOST_WAITING = 256
+# So many lines above the first frame may be a heading.
+MOST_HEADINGS = 20
 MOST_NOISE = 4096
+# A frame of 773 octets as a row with much around it is shorter; of a longer line the beginning is named.
+LONGEST_ROW, LONGEST_NAMED = 1 << 16, 100
 # A form is usual where it has at least one frame for so many of the most usual one.
 RARE = 16
 # The project's own texts: a frame a line, perhaps behind `> ` or `< `.
@@ -23,6 +27,8 @@ OWN = {((), 'hex'), (('direction',), 'hex')}
 FORMS = ('auto', 'frames', 'transcript', 'log', 'csv', 'json')
 _OWN_LINE = {'frames': re.compile(r'()((?:[0-9a-fA-F]{2})+)'), 'transcript': re.compile(r'([<>]) ((?:[0-9a-fA-F]{2})+)')}
 _DIGITS = re.compile('[0-9]')
+_OFFSET = re.compile(r'0000[0-9A-Fa-f]{3,4}')
+_LOST_DIGIT = re.compile(r'(?:[0-9A-Fa-f]{2}|0x[0-9A-Fa-f]{1,2})[ \t,]+(?:0x)?[0-9A-Fa-f][ \t,]+(?:0x)?[0-9A-Fa-f]{2}')
 _HAS_OCTETS = re.compile(r'(?<![0-9A-Za-z])(?:0x)?[0-9A-Fa-f]{2}|\\x|[bB]["\']')
 
 
@@ -107,6 +113,10 @@ class Reader:
     # ---- one line ----
 
     def _read(self, number, text):
+        if len(text) > LONGEST_ROW:
+            text = text[:LONGEST_NAMED]
+            self.queue.append(Line(number, PASSED, text, note='longer than a line with a frame can be'))
+            return
         text = text.strip(BLANKS + '\n\ufeff') if not text[:1].isspace() else text.rstrip(BLANKS + '\n')
         stripped = text.strip()
         open_join = self._open_join()
@@ -253,9 +263,9 @@ class Reader:
         number, text = waiting.lines[0]
         messages = {fit.message for fit in waiting.fits if fit.message}
         if at_end and not self.shapes:
-            if len(messages) == 1:
+            if len(messages) == 1 and not self._is_noise():
                 return self._frame(waiting, [fit for fit in waiting.fits if fit.message])
-            own = [fit for fit in waiting.fits if fit.reading.shape in OWN and not messages]
+            own = [fit for fit in waiting.fits if fit.reading.shape in OWN and not messages and not self._is_noise()]
             if own and self.framing.mode not in ORDERED:
                 return Line(number, DAMAGED, text, own[0].reading.octets, None, own[0].reading.direction, own[0].note)
         if len(messages) > 1:
@@ -266,10 +276,17 @@ class Reader:
             note = max(waiting.fits, key=lambda fit: len(fit.reading.prefix)).note
         return Line(number, PASSED, text, note=note)
 
+    def _is_noise(self):
+        """Whether more lines were passed over than wait: then one that can be a frame is so by chance."""
+        passed = sum(isinstance(one, Line) and one.kind == PASSED for one in self.queue) + self.kinds[PASSED]
+        return passed > MOST_HEADINGS and passed > sum(isinstance(one, _Waiting) for one in self.queue)
+
     @staticmethod
     def _reason(text):
         if re.search(r'(?:^|[ \t])[0-9A-Fa-f]$', text) and re.search(r'[0-9A-Fa-f]{2}[ \t]+[0-9A-Fa-f]$', text):
             return 'the last octet has one digit: the line may be cut'
+        if _LOST_DIGIT.search(text):
+            return 'an octet has one digit, and others have two'
         if heading(text):
             return 'a heading'
         return 'no form of line that is known' if _HAS_OCTETS.search(text) else 'no octets'
@@ -328,7 +345,7 @@ class Reader:
                      and 0 in joins.offsets(reading.offset)), None)
         column = next((reading for reading in found if reading.offset is not None and reading.notation == 'column'
                        and 0 in joins.offsets(reading.offset)), None)
-        if self.has_dumps and not dump and any(reading.offset is not None for reading in found):
+        if not dump and any(self._is_offset(reading) for reading in found):
             self.queue.append(Line(number, PASSED, text.strip(), note='an offset that continues no dump'))
             return True
         if dump:
@@ -343,6 +360,10 @@ class Reader:
                 self.queue.append(_Waiting(number, text, join=joins.Wrap(reading), time=self._time_above()))
                 return True
         return False
+
+    def _is_offset(self, reading):
+        """Whether a number before octets is the offset of a dump."""
+        return reading.offset is not None and (self.has_dumps or bool(_OFFSET.fullmatch(reading.offset)))
 
     def _may_wrap(self, reading):
         """Whether a line can be the first of several: it says more than octets, or is of a known form."""

@@ -1,12 +1,17 @@
-"""Lines of files and of standard input, as they come."""
+"""Lines of files and of standard input, as they come; those of a file that gzip packed too."""
 
 import codecs
+import errno
 import os
 import sys
+import zlib
+
+from .terminal import say
 
 CHUNK = 1 << 16
-# A line that is longer is cut: no log has such, and memory stays bounded.
-LONGEST = 1 << 20
+GZIP = b'\x1f\x8b\x08'
+# Of a line that is longer the first octets are kept, and it is no frame: memory stays bounded.
+LONGEST = 1 << 17
 _MARKS = ((codecs.BOM_UTF8, 'utf-8'), (codecs.BOM_UTF16_LE, 'utf-16-le'), (codecs.BOM_UTF16_BE, 'utf-16-be'))
 
 
@@ -17,9 +22,10 @@ def _text(octets):
 
 def _decoded(chunks):
     """UTF-16 as UTF-8; a byte order mark is dropped."""
-    first = b''
-    for first in chunks:
-        break
+    first = next(chunks, b'')
+    if first.startswith(GZIP):
+        chunks = _unpacked(first, chunks)
+        first = next(chunks, b'')
     for mark, name in _MARKS:
         if first.startswith(mark):
             decoder = codecs.getincrementaldecoder(name)('replace')
@@ -29,6 +35,23 @@ def _decoded(chunks):
             return
     yield first
     yield from chunks
+
+
+def _unpacked(first, chunks):
+    """The octets that gzip packed, piece by piece; what is there of a stream that ends early or is damaged."""
+    stream, packed = zlib.decompressobj(zlib.MAX_WBITS | 16), first
+    try:
+        while packed or (packed := next(chunks, b'')):
+            if stream.eof:
+                stream = zlib.decompressobj(zlib.MAX_WBITS | 16)
+            piece = stream.decompress(packed, CHUNK)
+            packed = stream.unused_data if stream.eof else stream.unconsumed_tail
+            if piece:
+                yield piece
+        if not stream.eof:
+            say('the file packed by gzip ends early: what is there is read')
+    except zlib.error as fault:
+        say('the file packed by gzip is damaged: what comes before is read (%s)' % fault)
 
 
 def _chunks(descriptor, seen, idle):
@@ -51,12 +74,13 @@ def lines_of(descriptor, seen=lambda count: None, idle=lambda: None):
         for line in lines:
             yield _text(line)
         if len(left) > LONGEST:
-            yield _text(left)
-            left = b''
+            left = left[:LONGEST + 1]
     if left:
         yield _text(left)
 
 
 def opened(name):
-    """The file descriptor of a file, or of standard input for `-`."""
+    """The file descriptor of a file, or of standard input for `-`. A folder is an OSError."""
+    if name != '-' and os.path.isdir(name):
+        raise IsADirectoryError(errno.EISDIR, os.strerror(errno.EISDIR), name)
     return sys.stdin.fileno() if name == '-' else os.open(name, os.O_RDONLY)

@@ -3,3 +3,4 @@ pub mod Found
 pub mod Needs
 pub mod Overwriting
 pub mod Replies
+pub mod Checkers

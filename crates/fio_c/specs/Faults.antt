@@ -1,5 +1,5 @@
 -- Faults as C sees them, and what reading octets does.
-use Rattle.std.specs.Prelude.{◌≡◌, ◌≤◌, ℕ, ◌==◌, List, [], Option, Some, None, Result, Ok, Err, if◌then◌else◌}
+use Rattle.std.specs.Prelude.{◌≡◌, ◌≤◌, ℕ, ◌==◌, List, [], Option, Some, None, Result, Ok, Err, if◌then◌else◌, replicate}
 use Rattle.fio_message.specs.declared.limits.TheConstants.{FRAME_OCTETS}
 use Rattle.fio_message.specs.declared.faults.DecodeError.{DecodeError}
 use Rattle.fio_message.specs.declared.faults.DecodeError.TheVariants.{Empty, TooLong, UnknownType, WrongLength}
@@ -11,7 +11,7 @@ use Rattle.fio_c.specs.declared.faults.Fault.{Fault}
 
 -- octets that are a message have none
 abbrev pub no_fault : Fault
-no_fault = record { kind = 0; code = 0; needed = 0; got = 0 }
+no_fault = record { kind = 0; code = 0; needed = 0; reserved = replicate 4 0; got = 0 }
 
 -- a fault of a decoder: its place in the order of the faults, and its numbers
 abbrev pub fault_of : DecodeError → Fault

@@ -1,5 +1,5 @@
 -- Messages and their parts as C sees them: numbers side by side, those that a message lacks 0.
-use Rattle.std.specs.Prelude.{ℕ, ◌==◌, ◌&&◌, nat_le, nat_lt, Bool, not, List, [], ◌∷◌, length, map, Option, Some, None, if◌then◌else◌}
+use Rattle.std.specs.Prelude.{ℕ, ◌==◌, ◌&&◌, nat_le, nat_lt, Bool, not, List, [], ◌∷◌, length, map, Option, Some, None, if◌then◌else◌, replicate}
 use Rattle.std.specs.List.{list_all, position}
 use Rattle.fio_message.specs.Bits.{bit_of}
 use Rattle.fio_message.specs.Blocks.{Block as BlockOf}
@@ -21,6 +21,7 @@ use Rattle.fio_c.specs.declared.blocks.Entry.{Entry}
 use Rattle.fio_c.specs.declared.commands.ConfigurationItem.{ConfigurationItem}
 use Rattle.fio_c.specs.declared.commands.Command.{Command}
 use Rattle.fio_c.specs.declared.answers.Answer.{Answer}
+use Rattle.fio_c.specs.declared.filters.Configured.{Configured}
 
 -- a block without its entries, but with their number
 abbrev pub flat_header : BlockOf → BlockHeader
@@ -28,6 +29,7 @@ flat_header block = record {
   number = block.number;
   status = block.status;
   count = length block.entries;
+  reserved = 0;
   stamp = block.stamp;
 }
 
@@ -60,6 +62,7 @@ command_of_type code = record {
   block = 0;
   timeout = 0;
   count = 0;
+  reserved = 0;
   body = 0;
   load = 0;
   levels = no_octets;
@@ -115,6 +118,10 @@ are_items items =
 abbrev pub first_absent : List ConfigurationItem → Option ℕ
 first_absent items = position (λ item. nat_le INPUTS item.input) items
 
+-- what became of a configuration: its kind, and the place of an item
+abbrev pub outcome : ℕ → ℕ → Configured
+outcome kind place = record { kind = kind; reserved = replicate 7 0; place = place }
+
 -- which command of this type has a body only
 abbrev pub kind_of_command : ℕ → Option OtherCommand
 kind_of_command code =
@@ -132,6 +139,7 @@ answer_of_type code = record {
   status = 0;
   block = 0;
   count = 0;
+  reserved = replicate 3 0;
   body = 0;
   stamp = 0;
   inputs = 0;

@@ -1,5 +1,5 @@
 -- What the poller of a caller in C makes of octets.
-use Rattle.std.specs.Prelude.{◌≡◌, ℕ, ◌<◌, ◌≤◌, List, [], ◌++◌, length, map, drop, Option}
+use Rattle.std.specs.Prelude.{◌≡◌, ℕ, ◌<◌, ◌≤◌, List, [], ◌++◌, length, map, drop, Option, replicate}
 use Rattle.fio_message.specs.Bits.{bit_of}
 use Rattle.fio_message.specs.Blocks.{Block}
 use Rattle.fio_message.specs.Decoding.{decoded_answer, block_in}
@@ -14,9 +14,16 @@ use Rattle.fio_c.specs.declared.poller.RecordItem.{RecordItem}
 
 -- an item of the record as C sees it
 abbrev pub flat_record_item : Item → RecordItem
-flat_record_item items.Gap = record { gap = 1; input = 0; state = 0; stamp = 0; wide = 0 }
+flat_record_item items.Gap = record { gap = 1; input = 0; state = 0; reserved = replicate 3 0; stamp = 0; wide = 0 }
 flat_record_item (items.Entry input level stamp wide) =
-    record { gap = 0; input = input; state = bit_of level; stamp = stamp; wide = wide }
+    record {
+      gap = 0;
+      input = input;
+      state = bit_of level;
+      reserved = replicate 3 0;
+      stamp = stamp;
+      wide = wide;
+    }
 
 -- nothing was heard of octets but that they add so many items
 abbrev pub heard_nothing : ℕ → Heard
@@ -26,6 +33,7 @@ heard_nothing count = record {
   number = 0;
   status = 0;
   entries = 0;
+  reserved = 0;
   items = count;
   fault = no_fault;
 }

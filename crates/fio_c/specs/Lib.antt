@@ -2,5 +2,6 @@ pub mod Faults
 pub mod Written
 pub mod Flat
 pub mod Hearing
+pub mod Checkers
 pub mod Module
 pub mod Version

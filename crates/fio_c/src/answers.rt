@@ -25,6 +25,8 @@ pub struct Answer {
     pub block: u8,
     /// Type 182: how many entries there are. `fio2070_block_entries` copies them.
     pub count: u8,
+    /// 0 in each octet that the library writes.
+    pub reserved: [u8; 3],
     /// Types 183, 184, 185, 187 and 188: how many octets follow the type. They are not read
     /// further.
     pub body: u16,
@@ -46,6 +48,7 @@ const fn answer_of_type(code: u8) -> Answer
         status: 0,
         block: 0,
         count: 0,
+        reserved: [0; 3],
         body: 0,
         stamp: 0,
         inputs: 0,

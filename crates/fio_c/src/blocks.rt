@@ -17,10 +17,13 @@ use fio_message::{BlockView, read_block};
 pub struct BlockHeader {
     /// The block number.
     pub number: u8,
-    /// The status, with C, F, E and G in bits 3 to 0 (places own profile).
+    /// The status, with C, F, E and G in bits 3 to 0 (places own profile), and other bits as they
+    /// come.
     pub status: u8,
-    /// How many entries the block has.
+    /// How many entries the block has, from 0 to 255.
     pub count: u8,
+    /// 0 where the library writes it.
+    pub reserved: u8,
     /// The module's millisecond counter when the block was made.
     pub stamp: u32,
 }
@@ -31,7 +34,8 @@ pub struct BlockHeader {
 pub struct Entry {
     /// The input that changed, from 0 to 127.
     pub input: u8,
-    /// The filtered state after the transition, 0 or 1.
+    /// The filtered state after the transition, 0 or 1. Calls that are given an entry take any number
+    /// but 0 as 1.
     pub state: u8,
     /// The low 16 bits of the module's millisecond counter at the transition.
     pub stamp: u16,
@@ -45,6 +49,7 @@ fn header_of(view: &BlockView) -> BlockHeader
         number: view.block(),
         status: view.status(),
         count: view.len() as u8,
+        reserved: 0,
         stamp: view.stamp(),
     }
 }

@@ -22,9 +22,11 @@ pub struct Command {
     pub timeout: u8,
     /// Type 51: how many items there are. `fio2070_command_items` copies them.
     pub count: u8,
+    /// 0 where the library writes it.
+    pub reserved: u8,
     /// Types 56, 57 and 59: how many octets follow the type. They are not read further.
     pub body: u16,
-    /// Type 50: the number to load.
+    /// Type 50: the number to load, in milliseconds.
     pub load: u32,
     /// Type 55: the data octets.
     pub levels: [u8; 8],
@@ -41,9 +43,9 @@ pub struct ConfigurationItem {
     /// 1 where the input's transitions are left out of the blocks, else 0. Calls that are given an
     /// item take any number but 0 as 1.
     pub ignore: u8,
-    /// The leading filter, in samples; 0 acts as 1.
+    /// The leading filter: so many samples of 0 in a row change the state from 1 to 0; 0 acts as 1.
     pub leading: u8,
-    /// The trailing filter, in samples; 0 acts as 1.
+    /// The trailing filter: so many samples of 1 in a row change the state from 0 to 1; 0 acts as 1.
     pub trailing: u8,
 }
 
@@ -57,6 +59,7 @@ const fn command_of_type(code: u8) -> Command
         block: 0,
         timeout: 0,
         count: 0,
+        reserved: 0,
         body: 0,
         load: 0,
         levels: [0; 8],

@@ -20,8 +20,10 @@ pub struct Fault {
     pub code: u8,
     /// How many octets are needed, for kind 4: at most 773.
     pub needed: u16,
+    /// 0 in each octet that the library writes.
+    pub reserved: [u8; 4],
     /// How many octets there are, for kinds 2 and 4.
-    pub got: usize,
+    pub got: u64,
 }
 
 /// Octets that are a message have no fault.
@@ -29,6 +31,7 @@ pub(crate) const NO_FAULT: Fault = Fault {
     kind: 0,
     code: 0,
     needed: 0,
+    reserved: [0; 4],
     got: 0,
 };
 
@@ -44,7 +47,7 @@ pub(crate) fn fault_from(error: DecodeError) -> Fault
         },
         DecodeError::TooLong { got } => Fault {
             kind: 2,
-            got,
+            got: got as u64,
             ..NO_FAULT
         },
         DecodeError::UnknownType { code } => Fault {
@@ -55,7 +58,7 @@ pub(crate) fn fault_from(error: DecodeError) -> Fault
         DecodeError::WrongLength { needed, got } => Fault {
             kind: 4,
             needed: needed as u16,
-            got,
+            got: got as u64,
             ..NO_FAULT
         },
     }
@@ -67,11 +70,13 @@ fn error_in(fault: &Fault) -> Option<DecodeError>
 {
     match fault.kind {
         1 => Some(DecodeError::Empty),
-        2 => Some(DecodeError::TooLong { got: fault.got }),
+        2 => Some(DecodeError::TooLong {
+            got: fault.got as usize,
+        }),
         3 => Some(DecodeError::UnknownType { code: fault.code }),
         4 => Some(DecodeError::WrongLength {
             needed: usize::from(fault.needed),
-            got: fault.got,
+            got: fault.got as usize,
         }),
         _ => None,
     }

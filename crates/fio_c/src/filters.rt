@@ -4,7 +4,7 @@ ghost use Rattle.fio_message.specs.declared.limits.TheConstants.{CONFIGURATION_I
 ghost use Rattle.fio_message.specs.Bits.{is_set};
 ghost use Rattle.fio_input.specs.FilterHistory.{FilterEvent, Configure, Scan, is_reported, input_state, raw_levels};
 ghost use Rattle.fio_input.specs.Filters.{AreFiltersAfter, filters_at_start};
-ghost use Rattle.fio_c.specs.Flat.{read_items, first_absent};
+ghost use Rattle.fio_c.specs.Flat.{read_items, first_absent, outcome};
 
 use crate::command_frames::read_items;
 use crate::commands::ConfigurationItem;
@@ -57,8 +57,10 @@ pub extern "C" fn fio2070_filters_raw(filters: &Filters) -> u64
 pub struct Configured {
     /// 0 applied; 1 an item names an input above 63; 2 more than 255 items.
     pub kind: u8,
+    /// 0 in each octet that the library writes.
+    pub reserved: [u8; 7],
     /// The place of the first item that names an input above 63, counted from 0, for kind 1.
-    pub place: usize,
+    pub place: u64,
 }
 
 /// Applies the items in their order, or none if one names an input above 63 or there are more than
@@ -70,26 +72,37 @@ pub extern "C" fn fio2070_filters_configure(
     items: &[ConfigurationItem],
 ) -> Configured
     ensures applied { length items.now ≤ CONFIGURATION_ITEMS → first_absent items.now ≡ None
-        → (result ≡ record { kind = 0; place = 0 })
+        → (result ≡ outcome 0 0)
         × ((history : List FilterEvent) → AreFiltersAfter filters.old history
         → AreFiltersAfter filters.new (Configure (read_items items.now) ∷ history)) }
     ensures absent { (place : ℕ) → length items.now ≤ CONFIGURATION_ITEMS → first_absent items.now ≡ Some place
-        → (result ≡ record { kind = 1; place = place }) × (filters.new ≡ filters.old) }
+        → (result ≡ outcome 1 place) × (filters.new ≡ filters.old) }
     ensures many { CONFIGURATION_ITEMS < length items.now
-        → (result ≡ record { kind = 2; place = 0 }) × (filters.new ≡ filters.old) }
+        → (result ≡ outcome 2 0) × (filters.new ≡ filters.old) }
 {
     if items.len() > CONFIGURATION_ITEMS {
-        return Configured { kind: 2, place: 0 };
+        return outcome(2, 0);
     }
     if let Some(place) = first_absent(items) {
-        return Configured { kind: 1, place };
+        return outcome(1, place as u64);
     }
     match read_items(items) {
         Some(read) => {
             let _applied = filters.configure(read.as_slice());
-            Configured { kind: 0, place: 0 }
+            outcome(0, 0)
         }
         None => unreachable!(),
+    }
+}
+
+/// What became of a configuration, by its kind and place.
+const fn outcome(kind: u8, place: u64) -> Configured
+    ensures { result ≡ outcome kind place }
+{
+    Configured {
+        kind,
+        reserved: [0; 7],
+        place,
     }
 }
 

@@ -24,6 +24,7 @@
 mod answer_frames;
 mod answers;
 mod blocks;
+mod checker;
 mod command_frames;
 mod commands;
 mod counter;

@@ -32,9 +32,11 @@ pub struct RecordItem {
     pub input: u8,
     /// The filtered state after the transition, 0 or 1.
     pub state: u8,
+    /// 0 in each octet that the library writes.
+    pub reserved: [u8; 3],
     /// The low 16 bits of the module's millisecond counter at the transition.
     pub stamp: u16,
-    /// The time in milliseconds, in 32 bits (own profile).
+    /// The time in milliseconds, in 32 bits, as `fio2070_widen` has it (own profile).
     pub wide: u32,
 }
 
@@ -53,6 +55,8 @@ pub struct Heard {
     pub status: u8,
     /// How many entries a block has that was taken.
     pub entries: u8,
+    /// 0 where the library writes it.
+    pub reserved: u8,
     /// How many items were written, or would have been with room for them: at most 256.
     pub items: u16,
     /// Why the octets are no answer.
@@ -64,6 +68,7 @@ const GAP: RecordItem = RecordItem {
     gap: 1,
     input: 0,
     state: 0,
+    reserved: [0; 3],
     stamp: 0,
     wide: 0,
 };
@@ -75,6 +80,7 @@ const HEARD_NOTHING: Heard = Heard {
     number: 0,
     status: 0,
     entries: 0,
+    reserved: 0,
     items: 0,
     fault: NO_FAULT,
 };
@@ -208,6 +214,7 @@ fn item_of(stamp: u32, entry: Entry) -> RecordItem
         gap: 0,
         input: entry.input.get(),
         state: u8::from(entry.level),
+        reserved: [0; 3],
         stamp: entry.stamp,
         wide: widen(stamp, entry.stamp),
     }

@@ -3,3 +3,4 @@ pub mod Places
 pub mod KeptFacts
 pub mod Verdicts
 pub mod BreachesSoFar
+pub mod Checkers

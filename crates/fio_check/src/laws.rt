@@ -1,10 +1,12 @@
 //! Laws of the definitions that the contracts cite: a function states one in its contract, and does
 //! nothing.
-ghost use Rattle.std.specs.Prelude.{ℕ, List};
+ghost use Rattle.std.specs.Prelude.{◌≡◌, ℕ, List};
+ghost use Rattle.fio_check.specs.Checkers.{GoesOn, verdict_of_checker};
 ghost use Rattle.fio_check.specs.Facts.{is_answering, number_polled, status_of_block};
 ghost use Rattle.fio_check.specs.Laws.{HasOneVerdict, IsTheLatest, KeepsFacts};
 ghost use Rattle.fio_check.specs.Lines.{TranscriptLine};
 ghost use Rattle.fio_check.specs.Observations.{observation_at};
+ghost use Rattle.fio_check.specs.Verdicts.{verdict_on};
 
 /// The latest poll above a line is the latest that is sent above it, and so are the latest block
 /// answer and the latest of both.
@@ -25,4 +27,15 @@ pub fn facts_are_kept()
 /// A transcript has exactly one verdict, that of `check_trace`.
 pub fn verdicts_are_one()
     ensures { (lines : List TranscriptLine) → HasOneVerdict lines }
+{}
+
+/// From the start on, through the first breach, a checker finds what `check_trace` finds: the verdict
+/// by its first breach is the verdict on the transcript.
+pub fn checkers_find_the_first_breach()
+    ensures { (lines : List TranscriptLine) → verdict_of_checker lines ≡ verdict_on lines }
+{}
+
+/// Below a breach a checker goes on as one does that starts at the next poll.
+pub fn checkers_go_on()
+    ensures { (lines : List TranscriptLine) → GoesOn lines }
 {}

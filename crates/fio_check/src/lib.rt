@@ -3,14 +3,28 @@
 //!
 //! What the crates above use: `check_trace` gives the one verdict on a list of lines; `rule_broken`
 //! gives the first rule that a line breaks by what stands above it, and `Facts::add` keeps what the
-//! rules read of the lines above.
+//! rules read of the lines above. `Checker` takes a frame at a time, and goes on below a breach.
 //!
 //! The definitions stand in `specs/`, in this order: the lines (`Lines`), what a line says to the
 //! rules (`Observations`), the latest that is said above a place (`Places`), what stands above a line
-//! (`Facts`), the rules (`Rules`), the verdict (`Verdicts`). Their laws (`Laws`) are the contracts of
+//! (`Facts`), the rules (`Rules`), the verdict (`Verdicts`), the checker
+//! (`Checkers`). Their laws (`Laws`) are the contracts of
 //! the module `laws`.
+//!
+//! # Examples
+//!
+//! ```rust
+//! use fio_check::{Facts, Observation, Rule, rule_broken};
+//!
+//! let mut above = Facts::default();
+//! above.add(Observation::of(true, &[0x36, 5]));
+//! let next = Observation::of(true, &[0x36, 6]);
+//! assert_eq!(rt; above.number_due(), Some(5));
+//! assert_eq!(rt; rule_broken(&above, next), Some(Rule::Advance));
+//! ```
 #![tactic(auto)]
 
+mod checker;
 mod facts;
 pub mod laws;
 mod line;
@@ -18,6 +32,7 @@ mod observation;
 mod rules;
 mod verdict;
 
+pub use checker::{Breach, Checker, Due};
 pub use facts::Facts;
 pub use line::Line;
 pub use observation::Observation;

@@ -7,6 +7,18 @@
 //!
 //! The definitions stand in `specs/`, in this order: the end as contracts see it (`Poller`), what a
 //! block is in the record (`Record`), and what the CPU makes of octets (`Hearing`).
+//!
+//! # Examples
+//!
+//! ```rust
+//! use fio_cpu::{Heard, Item, Poller};
+//!
+//! let mut poller = Poller::new(rt.alloc(), 5);
+//! let answer = [0xb6, 5, 1, 0x8c, 3, 0xe7, 0, 0, 0, 3, 0xe8];
+//! assert_eq!(rt; poller.hear(&answer)?, Heard::Block { entries: 1, status: 0 });
+//! assert_eq!(rt; poller.hear(&answer)?, Heard::Stale { block: 5 });
+//! assert!(rt; matches!(poller.items(), [Item::Entry { wide: 999, .. }]));
+//! ```
 #![tactic(auto)]
 
 mod poller;

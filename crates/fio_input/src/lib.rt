@@ -14,6 +14,20 @@
 //! answer is promised for every history that the value has been through.
 //!
 //! Nothing here takes memory.
+//!
+//! # Examples
+//!
+//! ```rust
+//! use fio_input::Filters;
+//! use fio_message::{InputItem, InputNumber};
+//!
+//! // Input 12 is to be reported, with both filters 2: the second sample of 0 makes a transition.
+//! let mut filters = Filters::new();
+//! let input = InputNumber::new(12).expect(&rt, "a number below 128");
+//! filters.configure(&[InputItem { input, ignore: false, leading: 2, trailing: 2 }])?;
+//! assert_eq!(rt; filters.scan(!(1 << 12)), 0);
+//! assert_eq!(rt; filters.scan(!(1 << 12)), 1 << 12);
+//! ```
 #![tactic(auto)]
 
 mod counter;

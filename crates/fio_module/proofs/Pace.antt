@@ -23,7 +23,7 @@ pub none_before : (later life : Life) → NoneIsApplied (filter_events (later ++
 none_before later life none =
     each-back _ (filter_events later) (filter_events life) (subst NoneIsApplied (filter_events-append later life) none)
 
-none_since : (later life : Life) → NoneIsApplied (filter_events (later ++ life)) → NoneIsApplied (filter_events later)
+pub none_since : (later life : Life) → NoneIsApplied (filter_events (later ++ life)) → NoneIsApplied (filter_events later)
 none_since later life none =
     each-front _ (filter_events later) (filter_events life) (subst NoneIsApplied (filter_events-append later life) none)
 
@@ -240,7 +240,7 @@ module _ (settings : Settings) (filter scans most : ℕ) (life : Life)
   IsNear later = scans_behind scans later life ≤ most
 
   -- so from a time at which nothing waits
-  paced : (later : Life) → newest_end settings life ≡ length (log_of life) → NoneIsApplied (filter_events later)
+  pub paced : (later : Life) → newest_end settings life ≡ length (log_of life) → NoneIsApplied (filter_events later)
       → AtEachTime IsNear later → IsPaced settings scans life later
   paced [] ends none near =
       let none_full : settings.per_block * 0 ≡ 0 = grind arith in

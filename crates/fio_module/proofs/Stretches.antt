@@ -1,5 +1,5 @@
 -- What a stretch of a life does, in which blocks are made.
-use Rattle.std.proofs.Common.{◌≡◌, ℕ, zero, suc, ◌+◌, ◌-◌, ◌<◌, ◌≤◌, Bool, true, false, List, [], ◌∷◌, ◌++◌, length, take, drop, refl, ap, sym, ◌∙◌, arith, append_assoc, append-nil, length-take}
+use Rattle.std.proofs.Common.{◌≡◌, ℕ, zero, suc, ◌+◌, ◌-◌, ◌<◌, ◌≤◌, max, Bool, true, false, List, [], ◌∷◌, ◌++◌, length, take, drop, refl, ap, sym, ◌∙◌, arith, append_assoc, append-nil, length-take}
 use Rattle.std.specs.List.{AllByRecursion, flat_map}
 use Rattle.std.proofs.Math.Seq.{take-add}
 use Rattle.std.proofs.lemmas.List.{take-append-le, drop-append-le}
@@ -94,31 +94,35 @@ module _ (settings : Settings) (scans : ℕ) (life before : Life) where
   abbrev count : Life → ℕ
   count stretch = length (blocks_of settings ((stretch ++ before) ++ life))
 
+  abbrev scanned_in : Life → ℕ
+  scanned_in stretch = scans_in (filter_events stretch)
+
   after_poll : (number : ℕ) (stretch : Life) (new : Bool) → is_new (latest_poll ((stretch ++ before) ++ life)) number ≡ new
-      → scans_behind scans before life ≤ scans
-      → (length (blocks_of settings (before ++ life)) < count stretch → scans_behind scans (stretch ++ before) life ≤ scans_in (filter_events stretch))
+      → (length (blocks_of settings (before ++ life)) < count stretch
+      → scans_behind scans (stretch ++ before) life ≤ max (scans_behind scans before life + scanned_in stretch - scans) (scanned_in stretch))
       → length (blocks_of settings (before ++ life)) < count (Commanded (Poll number) ∷ stretch)
-      → scans_behind scans (Commanded (Poll number) ∷ (stretch ++ before)) life ≤ scans_in (filter_events stretch)
-  after_poll number stretch true is near rest more =
+      → scans_behind scans (Commanded (Poll number) ∷ (stretch ++ before)) life
+      ≤ max (scans_behind scans before life + scanned_in stretch - scans) (scanned_in stretch)
+  after_poll number stretch true is rest more =
       let less = behind_new scans (stretch ++ before) life number is in
       let most = behind_more scans life before stretch in
       omega arith
-  after_poll number stretch false is near rest more =
+  after_poll number stretch false is rest more =
       let same = behind_old scans (stretch ++ before) life number is in
       let blocks = ap length (blocks_old settings ((stretch ++ before) ++ life) number is) in
       let few = rest (omega arith) in
       omega arith
 
-  -- after a stretch in which a block was made, the blocks are no more behind than the scans in it
-  pub after_block : (stretch : Life) → scans_behind scans before life ≤ scans
-      → length (blocks_of settings (before ++ life)) < count stretch
-      → scans_behind scans (stretch ++ before) life ≤ scans_in (filter_events stretch)
-  after_block [] near more = absurd (omega arith)
-  after_block (Scanned raw ∷ stretch) near more = let rest = after_block stretch near more in omega arith
-  after_block (Commanded (Poll number) ∷ stretch) near more =
-      after_poll number stretch (is_new (latest_poll ((stretch ++ before) ++ life)) number) refl near (after_block stretch near) more
-  after_block (Commanded (ConfigureInputs items) ∷ stretch) near more = after_block stretch near more
-  after_block (other ∷ stretch) near more = after_block stretch near more
+  -- after a stretch in which a block was made, the blocks are no more behind than its scans, or as many
+  -- less as a block makes up for than they were with them
+  pub after_block : (stretch : Life) → length (blocks_of settings (before ++ life)) < count stretch
+      → scans_behind scans (stretch ++ before) life ≤ max (scans_behind scans before life + scanned_in stretch - scans) (scanned_in stretch)
+  after_block [] more = absurd (omega arith)
+  after_block (Scanned raw ∷ stretch) more = let rest = after_block stretch more in omega arith
+  after_block (Commanded (Poll number) ∷ stretch) more =
+      after_poll number stretch (is_new (latest_poll ((stretch ++ before) ++ life)) number) refl (after_block stretch) more
+  after_block (Commanded (ConfigureInputs items) ∷ stretch) more = after_block stretch more
+  after_block (other ∷ stretch) more = after_block stretch more
 
 -- a stretch in which a block was made takes a whole block, or all that had been logged before it
 module _ (settings : Settings) (life : Life) (bound : ℕ) (logged : bound ≤ length (log_of life))

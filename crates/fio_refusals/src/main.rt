@@ -159,13 +159,16 @@ fn report_tools(rows: &mut Rows<'_>, alloc: Global) {
     rows.report("show_text", tools::text(alloc, Tool::Show));
     rows.report("simulate_text", tools::text(alloc, Tool::Simulate));
     rows.report("check_text", tools::text(alloc, Tool::Check));
+    rows.report("record_text", tools::text(alloc, Tool::Record));
     rows.report_begun("show", tools::streams(alloc, Tool::Show));
     rows.report_begun("simulate", tools::streams(alloc, Tool::Simulate));
     rows.report_begun("check", tools::streams(alloc, Tool::Check));
+    rows.report_begun("record", tools::streams(alloc, Tool::Record));
     rows.report_begun("run_program show", tools::program(alloc, Tool::Show));
     rows.report_begun(
         "run_program simulate",
         tools::program(alloc, Tool::Simulate),
     );
     rows.report_begun("run_program check", tools::program(alloc, Tool::Check));
+    rows.report_begun("run_program record", tools::program(alloc, Tool::Record));
 }

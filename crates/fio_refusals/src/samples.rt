@@ -111,6 +111,9 @@ pub(crate) const TRANSCRIPT: &[u8] = b"> 3605\n\
 /// What `check` writes of it.
 pub(crate) const VERDICT: &[u8] = b"good 5 frames\n";
 
+/// What `record` writes of it.
+pub(crate) const RECORD: &[u8] = b"record 1\ninput 12 state 1 stamp 999 wide 999\n";
+
 /// Scripts whose second line is faulty, and its fault.
 pub(crate) const FAULTY_SCRIPTS: [(&[u8], ScriptError); 5] = [
     (

@@ -1,9 +1,9 @@
-//! The three tools, over texts, over a reader and a writer, and as the program runs them.
+//! The four tools, over texts, over a reader and a writer, and as the program runs them.
 use crate::answers::Answer;
-use crate::samples::{FRAMES, LOST_ANSWER, LOST_ANSWER_REPORT, SHOWN, TRANSCRIPT, VERDICT};
+use crate::samples::{FRAMES, LOST_ANSWER, LOST_ANSWER_REPORT, SHOWN, RECORD, TRANSCRIPT, VERDICT};
 use fio_message::Memory;
 use fio_tool::{
-    Ending, Tool, ToolFault, check, check_text, run_program, show, show_text, simulate,
+    Ending, Tool, ToolFault, check, check_text, record, record_text, run_program, show, show_text, simulate,
     simulate_text,
 };
 use std::alloc::Global;
@@ -17,6 +17,7 @@ fn sample(tool: Tool) -> (&'static [u8], &'static [u8]) {
         Tool::Show => (FRAMES, SHOWN),
         Tool::Simulate => (LOST_ANSWER, LOST_ANSWER_REPORT),
         Tool::Check => (TRANSCRIPT, VERDICT),
+        Tool::Record => (TRANSCRIPT, RECORD),
     }
 }
 
@@ -27,6 +28,7 @@ pub(crate) fn text(alloc: Global, tool: Tool) -> Answer {
         Tool::Show => show_text(alloc, input),
         Tool::Simulate => simulate_text(alloc, input),
         Tool::Check => check_text(alloc, input),
+        Tool::Record => record_text(alloc, input),
     };
     match answered {
         Ok(report) => Answer::right_if(report.good && report.text.as_slice() == expected),
@@ -45,6 +47,7 @@ fn stream(alloc: Global, tool: Tool, written: &mut Vec<u8>) -> Answer {
         Tool::Show => show(alloc, &mut input, written),
         Tool::Simulate => simulate(alloc, &mut input, written),
         Tool::Check => check(alloc, &mut input, written),
+        Tool::Record => record(alloc, &mut input, written),
     };
     match ending {
         Ok(Ending::Good) => Answer::right_if(written.as_slice() == expected),
@@ -73,5 +76,6 @@ fn word_of(tool: Tool) -> &'static str {
         Tool::Show => "show",
         Tool::Simulate => "simulate",
         Tool::Check => "check",
+        Tool::Record => "record",
     }
 }

@@ -48,7 +48,7 @@ lines_within text = let a = length-lines_of text in let b = length-numbered 1 (l
 -- ---- the lines that are left
 
 -- the first of the lines that are left, and the lines below it
-first-left : (line : TranscriptLine) (left : Result (List TranscriptLine) TraceError) (below : List TranscriptLine) → with_first (line ∷ []) left ≡ Ok below
+pub first-left : (line : TranscriptLine) (left : Result (List TranscriptLine) TraceError) (below : List TranscriptLine) → with_first (line ∷ []) left ≡ Ok below
     → (rest : List TranscriptLine) × (left ≡ Ok rest) × (below ≡ line ∷ rest)
 first-left line (Ok rest) below is = (rest, refl, cc)
 first-left line (Err e) below is = absurd (cc)

@@ -15,7 +15,7 @@ use Rattle.clap.proofs.OnLiterals.{clap_on_literals}
 use Rattle.fio_tool.specs.CommandLine.{program, with_tool, command_line, chosen_name, NamesTool}
 use Rattle.fio_tool.specs.CommandLine.{name_of, tools}
 use Rattle.fio_tool.specs.declared.tools.Tool.{Tool}
-use Rattle.fio_tool.specs.declared.tools.Tool.TheVariants.{Show, Simulate, Check}
+use Rattle.fio_tool.specs.declared.tools.Tool.TheVariants.{Show, Simulate, Check, Record}
 
 -- clap's function of the words holds for this command line
 pub command_line-is_simple : is_simple command_line ≡ true
@@ -105,12 +105,13 @@ chosen-tool words (Some name) None chosen known unknown =
 chosen-tool words name (Some t) chosen known unknown = sym (chosen ∙ known)
 
 -- a name that none of the tools up to the last has is no tool's
-pub none_named : (name : Text) (count : ℕ) → 3 ≤ count
+pub none_named : (name : Text) (count : ℕ) → 4 ≤ count
     → ((place : ℕ) → place < count → name_of (get_or tools place Show) ≡ name → ⊥)
     → (tool : Tool) → name_of tool ≡ name → ⊥
 none_named name count all none Show = none 0 (omega (arith, all))
 none_named name count all none Simulate = none 1 (omega (arith, all))
 none_named name count all none Check = none 2 (omega (arith, all))
+none_named name count all none Record = none 3 (omega (arith, all))
 
 -- a tool's name behind the program's names that tool
 pub names_tool : (first : Text) (tool : Tool) → NamesTool (first ∷ name_of tool ∷ []) tool
@@ -118,6 +119,7 @@ unfolding clap_on_literals
 names_tool first Show = record { faultless = refl; named = refl }
 names_tool first Simulate = record { faultless = refl; named = refl }
 names_tool first Check = record { faultless = refl; named = refl }
+names_tool first Record = record { faultless = refl; named = refl }
 
 -- ---- words name one tool at most
 
@@ -125,12 +127,19 @@ same_name : (tool other : Tool) → name_of tool ≡ name_of other → tool ≡ 
 same_name Show Show same = refl
 same_name Show Simulate same = absurd (cc)
 same_name Show Check same = absurd (cc)
+same_name Show Record same = absurd (cc)
 same_name Simulate Show same = absurd (cc)
 same_name Simulate Simulate same = refl
 same_name Simulate Check same = absurd (cc)
+same_name Simulate Record same = absurd (cc)
 same_name Check Show same = absurd (cc)
 same_name Check Simulate same = absurd (cc)
 same_name Check Check same = refl
+same_name Check Record same = absurd (cc)
+same_name Record Show same = absurd (cc)
+same_name Record Simulate same = absurd (cc)
+same_name Record Check same = absurd (cc)
+same_name Record Record same = refl
 
 pub only_tool : (words : List Text) (tool other : Tool) → Some (name_of tool) ≡ chosen_name words → NamesTool words other
     → tool ≡ other

@@ -9,7 +9,7 @@ use Rattle.fio_message.specs.Reading.{command_at, answer_at}
 use Rattle.fio_tool.specs.Transcript.{observation_of_frame}
 use Rattle.fio_check.specs.declared.observation.Observation.TheVariants.{Unreadable}
 
-too_long-none : {V : Type 0} (length_of : List ℕ → Option ℕ) (read : ℕ → List ℕ → V) (octets : List ℕ) → 773 < length octets
+pub too_long-none : {V : Type 0} (length_of : List ℕ → Option ℕ) (read : ℕ → List ℕ → V) (octets : List ℕ) → 773 < length octets
     → message_in length_of read octets ≡ None
 unfolding message_in
 too_long-none length_of read [] long = refl

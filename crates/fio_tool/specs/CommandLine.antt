@@ -3,17 +3,18 @@ use Rattle.std.specs.Prelude.{◌≡◌, ℕ, List, [], ◌∷◌, Option, Some,
 use Rattle.clap.specs.Faults.{fault_of}
 use Rattle.clap.specs.Simple.{App, new_app, new_shape, on_top, with_subcommand, subcommand_of}
 use Rattle.fio_tool.specs.declared.tools.Tool.{Tool}
-use Rattle.fio_tool.specs.declared.tools.Tool.TheVariants.{Show, Simulate, Check}
+use Rattle.fio_tool.specs.declared.tools.Tool.TheVariants.{Show, Simulate, Check, Record}
 
 -- the tools, in the order in which help lists them
 abbrev pub tools : List Tool
-tools = Show ∷ Simulate ∷ Check ∷ []
+tools = Show ∷ Simulate ∷ Check ∷ Record ∷ []
 
 -- the name of a tool's subcommand
 abbrev pub name_of : Tool → List ℕ
 name_of Show = codes "show"
 name_of Simulate = codes "simulate"
 name_of Check = codes "check"
+name_of Record = codes "record"
 
 -- the program's name, with a version and without a subcommand for help
 abbrev pub program : App

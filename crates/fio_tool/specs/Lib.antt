@@ -1,11 +1,12 @@
 -- Begin with `Program`: the text and the exit status for each tool and input. Below it stand, in this
--- order: the command line; the three texts, each above what it is made of; the laws of transcripts;
+-- order: the command line; the four texts, each above what it is made of; the laws of transcripts;
 -- and what is read and written.
 pub mod Program
 pub mod CommandLine
 pub mod Show
 pub mod Simulate
 pub mod Check
+pub mod Record
 pub mod Transcript
 pub mod TranscriptLaws
 pub mod InputFaults

@@ -9,25 +9,28 @@ use Rattle.fio_message.specs.Texts.{memory_text}
 use Rattle.fio_tool.specs.Show.{show_text, is_show_good}
 use Rattle.fio_tool.specs.Simulate.{simulate_text, is_simulate_good}
 use Rattle.fio_tool.specs.Check.{check_text, is_check_good}
+use Rattle.fio_tool.specs.Record.{record_text, is_record_good}
 use Rattle.fio_tool.specs.Streams.{TakesInput}
 use Rattle.fio_tool.specs.declared.endings.Ending.{Ending}
 use Rattle.fio_tool.specs.declared.endings.Ending.TheVariants.{Good, Bad}
 use Rattle.fio_tool.specs.declared.endings.ToolFault.{ToolFault}
 use Rattle.fio_tool.specs.declared.endings.ToolFault.TheVariants.{Read, Write, Memory}
 use Rattle.fio_tool.specs.declared.tools.Tool.{Tool}
-use Rattle.fio_tool.specs.declared.tools.Tool.TheVariants.{Show, Simulate, Check}
+use Rattle.fio_tool.specs.declared.tools.Tool.TheVariants.{Show, Simulate, Check, Record}
 
 -- the text that a tool writes for an input
 abbrev pub program_text : Tool → List ℕ → List ℕ
 program_text Show input = show_text input
 program_text Simulate input = simulate_text input
 program_text Check input = check_text input
+program_text Record input = record_text input
 
 -- whether it reports no fault
 abbrev pub is_program_good : Tool → List ℕ → Bool
 is_program_good Show input = is_show_good input
 is_program_good Simulate input = is_simulate_good input
 is_program_good Check input = is_check_good input
+is_program_good Record input = is_record_good input
 
 -- the ending of a tool that found no fault, or one
 abbrev pub ending_of : Bool → Ending

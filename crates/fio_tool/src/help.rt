@@ -100,3 +100,22 @@ Exit status:
 Example:
   $ printf '> 3605\\n< b6050000000003e8\\n> 3605\\n' | fio2070 check
   line 3 breaks advance";
+
+/// What `record` reads and writes, its statuses, an example.
+pub(crate) const RECORD: &str = "\
+Reads:   a transcript, as fio2070 check does.
+Writes:  what the CPU of the transcript recorded: `record N`, and then its N items, `gap`
+         where an overflow pushed entries out, and each entry with its stamp and its wide
+         time. Where a line breaks a rule or is no frame, what fio2070 check writes, and
+         no record. For the rules see fio2070 check --help, for stamp and wide
+         fio2070 show --help.
+
+Exit status:
+  0  the transcript keeps the rules
+  1  it breaks one, a line is no frame, or the input has more than 1048576 octets
+  3  a read or a write failed, or memory ran out
+
+Example:
+  $ printf '> 3605\\n< b605018c03e700000003e8\\n' | fio2070 record
+  record 1
+  input 12 state 1 stamp 999 wide 999";

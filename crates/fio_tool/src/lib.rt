@@ -8,11 +8,22 @@
 //! tool has done so, and it is never 2.
 //!
 //! The definitions stand in `specs/`. `Program` comes first: the text that each tool writes for an
-//! input, and the exit status; below it the command line (`CommandLine`). The three texts are `Show`
-//! above the lines of each frame (`FrameLines` of `fio_show`); `Simulate`; and `Check`
-//! above the lines of a transcript (`Transcript`), whose rules and verdict are those of `fio_check`.
+//! input, and the exit status; below it the command line (`CommandLine`). The four texts are `Show`
+//! above the lines of each frame (`FrameLines` of `fio_show`); `Simulate`; `Check`
+//! above the lines of a transcript (`Transcript`), whose rules and verdict are those of `fio_check`; and
+//! `Record`, what the CPU of a transcript recorded.
 //! What is reported of an input with a fault is in `InputFaults`, what is read and written in `Streams`. The
 //! laws are the contracts of the modules `laws` and `transcript_laws`.
+//!
+//! # Examples
+//!
+//! ```rust
+//! use fio_tool::{Rule, Verdict, check_trace, read_trace};
+//!
+//! let lines = read_trace(rt.alloc(), b"> 3605\n> 3606\n")?;
+//! let verdict = check_trace(&lines);
+//! assert_eq!(rt; verdict, Verdict::Broken { number: 2, rule: Rule::Advance });
+//! ```
 #![tactic(auto)]
 
 mod command_line;
@@ -30,6 +41,6 @@ pub use command_line::choose;
 pub use endings::{Ending, ToolFault};
 pub use fio_check::{Line, Rule, Verdict, check_trace};
 pub use program::run_program;
-pub use text::{check_text, show_text, simulate_text};
-pub use tools::{Tool, check, show, simulate};
+pub use text::{check_text, record_text, show_text, simulate_text};
+pub use tools::{Tool, check, record, show, simulate};
 pub use transcript::{TraceError, read_trace};

@@ -3,12 +3,14 @@ ghost use Rattle.std.specs.Prelude.{◌≡◌, IfOk, false};
 ghost use Rattle.fio_tool.specs.InputFaults.{is_too_long, too_long_text};
 
 mod check;
+mod record;
 mod show;
 mod simulate;
 
 pub use check::check_text;
 use fio_message::Memory;
 use fio_world::Report;
+pub use record::record_text;
 pub use show::show_text;
 pub use simulate::simulate_text;
 use std::alloc::Global;

@@ -8,7 +8,7 @@ ghost use Rattle.fio_tool.specs.declared.streams.TheConstants.{MOST_READ};
 use crate::endings::{Ending, ToolFault};
 use crate::help;
 use crate::streams::{read_input, write_report};
-use crate::text::{check_text, show_text, simulate_text};
+use crate::text::{check_text, record_text, show_text, simulate_text};
 use fio_message::Memory;
 use fio_world::Report;
 use std::alloc::Global;
@@ -23,6 +23,8 @@ pub enum Tool {
     Simulate,
     /// To report whether a transcript keeps the rules.
     Check,
+    /// To report what the CPU of a transcript recorded.
+    Record,
 }
 
 /// What the command line says of a tool.
@@ -42,7 +44,7 @@ impl Tool {
     ghost use Rattle.fio_tool.specs.CommandLine.{name_of};
 
     /// The tools, in the order in which help lists them.
-    pub(crate) const ALL: [Tool; 3] = [Tool::Show, Tool::Simulate, Tool::Check];
+    pub(crate) const ALL: [Tool; 4] = [Tool::Show, Tool::Simulate, Tool::Check, Tool::Record];
 
     /// What the command line says of the tool.
     pub(crate) fn words(self) -> Words
@@ -67,6 +69,12 @@ impl Tool {
                 usage: "fio2070 check < FILE",
                 after_help: help::CHECK,
             },
+            Tool::Record => Words {
+                name: "record",
+                about: "Reports what the CPU of a transcript on standard input recorded",
+                usage: "fio2070 record < FILE",
+                after_help: help::RECORD,
+            },
         }
     }
 
@@ -79,6 +87,7 @@ impl Tool {
             Tool::Show => show_text(alloc, input),
             Tool::Simulate => simulate_text(alloc, input),
             Tool::Check => check_text(alloc, input),
+            Tool::Record => record_text(alloc, input),
         }
     }
 }
@@ -173,4 +182,27 @@ pub fn check<R: Read, W: Write>(
         → Keeps (W.contents writer.old) (W.contents writer.new)) }
 {
     run_tool(alloc, Tool::Check, reader, writer)
+}
+
+/// Writes the record that the CPU of the transcript in the input has: the text of `record_text`. The
+/// input is read whole, up to one octet more than it may have; its text is made whole, and then written
+/// and flushed.
+///
+/// # Errors
+/// `Read`, `Write` and `Memory` as `ToolFault` says. On `Read` and `Memory` nothing has been
+/// written.
+pub fn record<R: Read, W: Write>(
+    alloc: Global,
+    reader: &mut R,
+    writer: &mut W,
+) -> Result<Ending, ToolFault>
+    ensures ok { IfOk result (λ ending. (input : List ℕ)
+        × HasReported Tool.Record input (R.remaining reader.old) (R.remaining reader.new)
+        (W.contents writer.old) (W.contents writer.new)
+        × (ending ≡ program_ending Tool.Record input)) }
+    ensures taken { TakesAtMost MOST_READ (R.remaining reader.old) (R.remaining reader.new) }
+    ensures unwritten { IfErr result (λ fault. fault ≢ ToolFault.Write
+        → Keeps (W.contents writer.old) (W.contents writer.new)) }
+{
+    run_tool(alloc, Tool::Record, reader, writer)
 }

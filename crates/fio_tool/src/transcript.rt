@@ -2,6 +2,8 @@
 
 mod lines;
 mod one_pass;
+mod recording;
 
 pub use lines::{TraceError, read_trace};
 pub(crate) use one_pass::check_lines;
+pub(crate) use recording::cpu_of;

@@ -1,5 +1,6 @@
 -- What the record lacks at any time.
 use Rattle.std.proofs.Common.{◌≡◌, ℕ, zero, suc, ◌+◌, ◌-◌, ◌≤◌, Bool, true, false, List, [], ◌∷◌, ◌++◌, length, take, drop, Some, slice_get, refl, ap, sym, subst, ◌∙◌, arith, inl, inr, append_assoc, append-nil}
+use Rattle.std.specs.List.{AllByRecursion}
 use Rattle.std.proofs.lemmas.Bool.{cases_lt}
 use Rattle.std.proofs.lemmas.List.{take-append-le}
 use Rattle.fio_message.specs.declared.commands.Command.TheVariants.{Poll, ConfigureInputs}
@@ -88,6 +89,48 @@ end_taken-later settings machine now stretch is within more =
     (blocks_follow settings (life_of now.history)) more in
     omega arith
 
+-- what had not been taken at the end of a clean round, and was young then, and what was logged since then, is young
+module _ (settings : Settings) (first filter behind between : ℕ) (last now : Machine) (some : 1 ≤ filter)
+    (all_taken : last.round ≡ length (blocks_in settings last))
+    (young : AllByRecursion (IsYoung behind filter (life_of last.history)) (drop (end_taken settings last) (log_of (life_of last.history))))
+    (t : LeadsInTime settings first between last now) where
+  pub young_since : (place : ℕ) (transition : Transition) → end_taken settings last ≤ place
+      → slice_get (log_of (life_of now.history)) place ≡ Some transition
+      → IsYoung (between + behind) filter (life_of now.history) transition
+  young_since place transition high is =
+      let g = grows settings first last now t.events t.no_restart t.leads in
+      let before = life_of last.history in
+      let here : slice_get (log_of (g.stretch ++ before)) place ≡ Some transition =
+      subst (λ l. slice_get (log_of l) place ≡ Some transition) g.life is in
+      let counts : scans_of (life_of now.history) ≡ scans_of (g.stretch ++ before) = ap scans_of g.life in
+      let few : scans_in (filter_events g.stretch) ≤ between = omega (arith, g.few, t.few) in
+      elim (cases_lt place (length (log_of before))) as (λ _. IsYoung (between + behind) filter (life_of now.history) transition) [
+        | inl old ↦
+            let more = later_log g.stretch before in
+            let was = get_in_front (log_of before) more.0 place transition old
+            (subst (λ ts. slice_get ts place ≡ Some transition) more.1 here) in
+            let recent = each-at (IsYoung behind filter before) (drop (end_taken settings last) (log_of before)) (place - end_taken settings last)
+            transition young (get_from_drop (end_taken settings last) (log_of before) place transition high was) in
+            omega (arith, scans_of-append g.stretch before)
+        | inr new ↦
+            let w = was_logged g.stretch before place transition new here in
+            let parts : scans_in (filter_events g.stretch) ≡ scans_in (filter_events w.after) + scans_in (filter_events w.upto) =
+            ap (λ l. scans_in (filter_events l)) w.split ∙ scans_in-append w.after w.upto in
+            elim (cases_lt 0 (scans_in (filter_events w.upto))) as (λ _. IsYoung (between + behind) filter (life_of now.history) transition) [
+              | inl once ↦ omega (arith, w.age)
+              | inr never ↦ absurd (omega (arith, w.logged, no_scan w.upto before (omega arith)))
+            ]
+      ]
+
+  -- so is all that the record lacks
+  pub lacks_only_young_since : LacksOnlyYoung (between + behind) filter settings now
+  lacks_only_young_since =
+      let g = grows settings first last now t.events t.no_restart t.leads in
+      let rises = end_taken-later settings last now g.stretch g.life (omega (arith, all_taken)) g.round in
+      let log = log_of (life_of now.history) in
+      each-from_get (IsYoung (between + behind) filter (life_of now.history)) (drop (end_taken settings now) log)
+      (λ k transition is. young_since (end_taken settings now + k) transition (omega arith) (get_in_drop (end_taken settings now) log k transition is))
+
 module _ (settings : Settings) (range : AreInRange settings) (first filter : ℕ) (untaken : Bool) (scans : ℕ) (machine : Machine)
     (b : IsBetween settings first machine) (begins : List Machine) (last now : Machine) (later : Life)
     (p : IsPolledInTime settings first filter untaken scans machine begins last later)
@@ -100,45 +143,19 @@ module _ (settings : Settings) (range : AreInRange settings) (first filter : ℕ
       arrives settings range first filter untaken scans machine b p.all_taken p.nothing_waits p.some p.filters p.enough
       begins last later p.rounds p.since p.not_applied
 
+  all_taken_last : last.round ≡ length (blocks_in settings last)
+  all_taken_last =
+      (has_chain settings range first filter untaken scans machine b p.all_taken p.nothing_waits p.some p.filters p.enough begins last p.rounds).reached.all_taken
+
   -- what had not been taken at the end of the latest clean round, and what was logged since then, is young
   pub young_at : (place : ℕ) (transition : Transition) → end_taken settings last ≤ place
       → slice_get (log_of (life_of now.history)) place ≡ Some transition
       → IsYoung (scans + behind) filter (life_of now.history) transition
-  young_at place transition high is =
-      let g = grows settings first last now t.events t.no_restart t.leads in
-      let before = life_of last.history in
-      let some = p.some in
-      let here : slice_get (log_of (g.stretch ++ before)) place ≡ Some transition =
-      subst (λ l. slice_get (log_of l) place ≡ Some transition) g.life is in
-      let counts : scans_of (life_of now.history) ≡ scans_of (g.stretch ++ before) = ap scans_of g.life in
-      let few : scans_in (filter_events g.stretch) ≤ scans = omega (arith, g.few, t.few) in
-      elim (cases_lt place (length (log_of before))) as (λ _. IsYoung (scans + behind) filter (life_of now.history) transition) [
-        | inl old ↦
-            let more = later_log g.stretch before in
-            let was = get_in_front (log_of before) more.0 place transition old
-            (subst (λ ts. slice_get ts place ≡ Some transition) more.1 here) in
-            let young = each-at (IsYoung behind filter before) (drop (end_taken settings last) (log_of before)) (place - end_taken settings last)
-            transition arrived_last.young (get_from_drop (end_taken settings last) (log_of before) place transition high was) in
-            omega (arith, scans_of-append g.stretch before)
-        | inr new ↦
-            let w = was_logged g.stretch before place transition new here in
-            let parts : scans_in (filter_events g.stretch) ≡ scans_in (filter_events w.after) + scans_in (filter_events w.upto) =
-            ap (λ l. scans_in (filter_events l)) w.split ∙ scans_in-append w.after w.upto in
-            elim (cases_lt 0 (scans_in (filter_events w.upto))) as (λ _. IsYoung (scans + behind) filter (life_of now.history) transition) [
-              | inl once ↦ omega (arith, w.age)
-              | inr never ↦ absurd (omega (arith, w.logged, no_scan w.upto before (omega arith)))
-            ]
-      ]
+  young_at = young_since settings first filter behind scans last now p.some all_taken_last arrived_last.young t
 
   -- so is all that the record lacks
   pub lacks_only_young : LacksOnlyYoung (scans + behind) filter settings now
-  lacks_only_young =
-      let g = grows settings first last now t.events t.no_restart t.leads in
-      let chain = has_chain settings range first filter untaken scans machine b p.all_taken p.nothing_waits p.some p.filters p.enough begins last p.rounds in
-      let rises = end_taken-later settings last now g.stretch g.life (omega (arith, chain.reached.all_taken)) g.round in
-      let log = log_of (life_of now.history) in
-      each-from_get (IsYoung (scans + behind) filter (life_of now.history)) (drop (end_taken settings now) log)
-      (λ k transition is. young_at (end_taken settings now + k) transition (omega arith) (get_in_drop (end_taken settings now) log k transition is))
+  lacks_only_young = lacks_only_young_since settings first filter behind scans last now p.some all_taken_last arrived_last.young t
 
 -- where a link is polled in time it is never late
 pub never_late : (settings : Settings) → AreInRange settings → (first : ℕ) (machine : Machine) → IsBetween settings first machine

@@ -184,8 +184,8 @@ now_behind settings first true scans machine done begin last later all_taken r s
     let blocks_before = ap (λ l. length (blocks_of settings l)) r.since in
     let blocks_now = ap (λ l. length (blocks_of settings l)) whole in
     let one_more = s.makes.one_more in
-    let few = after_block settings scans life later stretch r.now (omega arith) in
-    omega (arith, s.few)
+    let few = after_block settings scans life later stretch (omega arith) in
+    omega (arith, r.now, s.few)
 now_behind settings first false scans machine done begin last later all_taken r s =
     let life = life_of machine.history in
     let here = s.before ++ later in

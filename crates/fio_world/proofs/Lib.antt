@@ -29,10 +29,13 @@ pub mod CleanRoundsInTime
 pub mod Arrivals
 pub mod InAllRounds
 pub mod AnyTime
+pub mod LossyLinks
+pub mod LostRounds
 pub mod Gained
 pub mod NewLevels
 pub mod MovedScans
 pub mod WholeRecords
+pub mod GapMarks
 pub mod Promises
 pub mod StandardLinks
 pub mod Examples

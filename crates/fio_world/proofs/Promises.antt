@@ -29,8 +29,10 @@ use Rattle.fio_world.proofs.Arrivals.{got_entries}
 use Rattle.fio_world.proofs.InAllRounds.{arrives, keeps_up}
 use Rattle.fio_world.proofs.CleanRoundsInTime.{has_stretch}
 use Rattle.fio_world.proofs.AnyTime.{never_late}
+use Rattle.fio_world.proofs.LossyLinks.{all_arrives}
 use Rattle.fio_world.proofs.NewLevels.{new_levels_are_recorded}
-use Rattle.fio_world.proofs.WholeRecords.{whole_unless_full, gaps_name_times, whole_where_polled_often, whole_after_outage}
+use Rattle.fio_world.proofs.WholeRecords.{whole_unless_full, whole_where_polled_often, whole_where_polled_for_each, whole_after_outage}
+use Rattle.fio_world.proofs.GapMarks.{gaps_name_times}
 use Rattle.fio_world.proofs.Times.{BlockTimely, blocks_timely, blocks_timed}
 
 -- the same with its gap mark
@@ -116,8 +118,9 @@ module _ (settings : Settings) (range : AreInRange settings) (first : ℕ) (mach
         takes_all = clean_round_takes_all settings range first machine between;
         catches_up = clean_rounds_catch_up settings range first machine between;
         unless_full = whole_unless_full settings machine pieces;
-        gaps = gaps_name_times settings machine pieces;
+        gaps = gaps_name_times settings machine taken_items;
         polled_often = whole_where_polled_often settings range machine pieces;
+        polled_for_each = whole_where_polled_for_each settings range machine pieces;
         outage = whole_after_outage settings machine pieces;
         rounds_make_blocks = λ scans begin last taken t leads.
             (has_stretch settings range first scans machine begin last between taken t leads).makes;
@@ -129,6 +132,7 @@ module _ (settings : Settings) (range : AreInRange settings) (first : ℕ) (mach
             begins last later p.rounds p.since p.not_applied;
         never_late = never_late settings range first machine between;
         new_levels = new_levels_are_recorded settings range first machine between;
+        kept_up_with = all_arrives settings range first machine between;
       }
 
   -- all that is promised without restarts

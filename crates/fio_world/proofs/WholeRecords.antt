@@ -1,20 +1,21 @@
 -- The record is whole where no block says that entries were lost.
-use Rattle.std.proofs.Common.{◌≡◌, ℕ, zero, suc, ◌+◌, ◌-◌, ◌≤◌, false, List, [], ◌∷◌, length, take, drop, map, Some, slice_get, refl, ap, sym, subst, ◌∙◌, arith}
-use Rattle.std.specs.Prelude.{Contains, option_map}
+use Rattle.std.proofs.Common.{◌≡◌, ℕ, suc, ◌+◌, ◌-◌, ◌≤◌, false, List, [], ◌∷◌, length, take, drop, map, refl, ap, sym, subst, ◌∙◌, arith}
+use Rattle.std.specs.Prelude.{Contains}
 use Rattle.std.specs.List.{AllByRecursion}
-use Rattle.std.proofs.lemmas.Option.{slice_get-map, slice_get_read}
+use Rattle.std.proofs.lemmas.Option.{slice_get_read}
 use Rattle.fio_module.specs.Settings.{Settings, AreInRange}
 use Rattle.fio_module.specs.Life.{Life, life_of}
 use Rattle.fio_module.specs.Log.{entry_of, log_of}
 use Rattle.fio_module.specs.Blocks.{MadeBlock, blocks_of}
-use Rattle.fio_module.specs.Delivery.{NeverTooMany, NoBlockLost, WasMade, HadTooMany}
-use Rattle.fio_module.proofs.Losses.{nothing_is_lost, losses_name_times}
+use Rattle.fio_module.specs.Delivery.{NeverTooMany, NoBlockLost}
+use Rattle.fio_module.proofs.Losses.{nothing_is_lost}
 use Rattle.fio_module.proofs.Polling.{polled_often_stays_few}
 use Rattle.fio_module.proofs.Outages.{outage_stays_few}
+use Rattle.fio_module.proofs.FiltersThatDiffer.{polled_for_each_loses_none}
 use Rattle.fio_world.specs.Link.{Machine}
 use Rattle.fio_world.specs.Pieces.{Piece, Gap, Got, piece_of, ArePieces}
 use Rattle.fio_world.specs.Headline.{end_taken}
-use Rattle.fio_world.specs.Delivery.{IsWholeUnlessFull, GapsNameTimes, IsWholeWherePolledOften, IsWholeAfterOutage}
+use Rattle.fio_world.specs.Delivery.{IsWholeUnlessFull, IsWholeWherePolledOften, IsWholeWherePolledForEach, IsWholeAfterOutage}
 use Rattle.fio_world.proofs.MadeBlocks.{each-at}
 use Rattle.fio_world.proofs.PieceLaws.{drop_found}
 
@@ -63,33 +64,19 @@ whole_unless_full settings machine pieces few =
     (part_of_log settings life 0 (map piece_of machine.items) to (nothing_is_lost settings life few) pieces).1
     ∙ ap (λ n. map Got (take n (map entry_of (log_of life)))) all
 
--- a gap mark among pieces is from a block that says that entries were lost
-gap_is_loss : (settings : Settings) (life : Life) (from : ℕ) (pieces : List Piece) (to place : ℕ)
-    → ArePieces settings life from pieces to → slice_get pieces place ≡ Some Gap → HadTooMany settings life
-gap_is_loss settings life from [] to place p is = absurd (cc is)
-gap_is_loss settings life from (Got entry ∷ pieces) to zero p is = absurd (cc is)
-gap_is_loss settings life from (Got entry ∷ pieces) to (suc place) p is =
-    gap_is_loss settings life (from + 1) pieces to place p.1 is
-gap_is_loss settings life from (Gap ∷ pieces) to zero p is =
-    let loss = p.1 in
-    let made = each-contained (WasMade settings life) (blocks_of settings life) loss.block (losses_name_times settings life) loss.is_made in
-    record { later = made.later; earlier = made.earlier; at = made.at; more = made.overflowed loss.said }
-gap_is_loss settings life from (Gap ∷ pieces) to (suc place) p is =
-    gap_is_loss settings life p.0 pieces to place p.2 is
-
--- a gap mark in the record names a time
-pub gaps_name_times : (settings : Settings) (machine : Machine) → RecordIsPieces settings machine
-    → GapsNameTimes settings machine
-gaps_name_times settings machine pieces place is =
-    gap_is_loss settings (life_of machine.history) 0 (map piece_of machine.items) _ place pieces
-    (slice_get-map piece_of machine.items place ∙ ap (option_map piece_of) is)
-
 -- where the module is polled often
 pub whole_where_polled_often : (settings : Settings) → AreInRange settings → (machine : Machine)
     → RecordIsPieces settings machine → IsWholeWherePolledOften settings machine
 whole_where_polled_often settings range machine pieces filter scans life later is few often =
     whole_unless_full settings machine pieces
     (subst (NeverTooMany settings) (sym is) (polled_often_stays_few settings filter scans life later range often few))
+
+-- where it is polled often for each input
+pub whole_where_polled_for_each : (settings : Settings) → AreInRange settings → (machine : Machine)
+    → RecordIsPieces settings machine → IsWholeWherePolledForEach settings machine
+whole_where_polled_for_each settings range machine pieces scans life later is few often =
+    whole_unless_full settings machine pieces
+    (subst (NeverTooMany settings) (sym is) ((polled_for_each_loses_none settings scans life later range often).stays few))
 
 -- after an outage
 pub whole_after_outage : (settings : Settings) (machine : Machine)

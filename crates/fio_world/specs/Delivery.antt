@@ -1,12 +1,15 @@
 -- What arrives: clean rounds deliver blocks, nothing is lost unless the buffer was full, and it never
 -- is where the module is polled often.
-use Rattle.std.specs.Prelude.{◌≡◌, ℕ, zero, suc, ◌+◌, ◌*◌, ◌≤◌, List, [], ◌∷◌, ◌++◌, map, length, take, slice_get, Some}
+use Rattle.std.specs.Prelude.{◌≡◌, ℕ, zero, suc, ◌+◌, ◌*◌, ◌<◌, ◌≤◌, true, List, [], ◌∷◌, ◌++◌, map, length, take, slice_get, Some}
+use Rattle.std.specs.List.{flat_map}
+use Rattle.fio_message.specs.declared.commands.Command.TheVariants as commands
 use Rattle.fio_message.specs.Blocks.{Block}
 use Rattle.fio_module.specs.Settings.{Settings}
-use Rattle.fio_module.specs.Life.{Life, life_of}
+use Rattle.fio_module.specs.Life.{Life, Commanded, life_of}
 use Rattle.fio_module.specs.Log.{entry_of, log_of}
-use Rattle.fio_module.specs.Blocks.{MadeBlock, waiting_of}
-use Rattle.fio_module.specs.Delivery.{NeverTooMany, HadTooMany, IsPolledOften, IsOutage}
+use Rattle.fio_module.specs.Blocks.{MadeBlock, latest_poll, is_new, blocks_of, next_block, newest_end, waiting_of}
+use Rattle.fio_module.specs.Delivery.{NeverTooMany, IsPolledOften, IsOutage}
+use Rattle.fio_module.specs.FiltersThatDiffer.{IsPolledForEach}
 use Rattle.fio_cpu.specs.declared.record.Item.TheVariants as items
 use Rattle.fio_cpu.specs.Record.{recorded}
 use Rattle.fio_world.specs.declared.event.Event.{Event}
@@ -15,7 +18,7 @@ use Rattle.fio_world.specs.Link.{Machine, Leads}
 use Rattle.fio_world.specs.Frames.{HasBlock}
 use Rattle.fio_world.specs.Claims.{blocks_in}
 use Rattle.fio_world.specs.Rounds.{CarriesBlock}
-use Rattle.fio_world.specs.Pieces.{Got, piece_of}
+use Rattle.fio_world.specs.Pieces.{Got, piece_of, pieces_of}
 use Rattle.fio_world.specs.Headline.{end_taken}
 
 -- a clean round of a machine: the CPU polls, the module receives the frame just sent, and the CPU
@@ -86,10 +89,25 @@ abbrev pub IsWholeUnlessFull : Settings → Machine → Type 0
 IsWholeUnlessFull settings machine =
     NeverTooMany settings (life_of machine.history) → RecordIsWhole settings machine
 
--- conversely, a gap mark says that once more did
+-- A gap mark at a place of the record has its own block: a new poll made it, the record before the mark
+-- is what all blocks before it are, and it says that entries were lost. When it was made, more stood
+-- beyond the end of the newest block than may wait.
+pub record MarksLossAt (settings : Settings) (machine : Machine) (place : ℕ) : Type 0 where
+  pub later : Life
+  pub number : ℕ
+  -- what had happened to the module when it received the poll
+  pub earlier : Life
+  pub at : life_of machine.history ≡ later ++ Commanded (commands.Poll number) ∷ earlier
+  pub new : is_new (latest_poll earlier) number ≡ true
+  pub before :
+      take place (map piece_of machine.items) ≡ flat_map pieces_of (blocks_of settings earlier)
+  pub said : (next_block settings earlier).lost ≡ true
+  pub more : newest_end settings earlier + settings.waiting < length (log_of earlier)
+
+-- conversely, each gap mark has such a block, and its own time
 abbrev pub GapsNameTimes : Settings → Machine → Type 0
 GapsNameTimes settings machine = (place : ℕ) →
-    slice_get machine.items place ≡ Some items.Gap → HadTooMany settings (life_of machine.history)
+    slice_get machine.items place ≡ Some items.Gap → MarksLossAt settings machine place
 
 -- Poll often enough, and nothing is lost, ever: the record is whole where the module is polled often
 -- from a time of its life on at which nothing waits.
@@ -97,6 +115,12 @@ abbrev pub IsWholeWherePolledOften : Settings → Machine → Type 0
 IsWholeWherePolledOften settings machine = (filter scans : ℕ) (life later : Life) →
     life_of machine.history ≡ later ++ life → NeverTooMany settings life →
     IsPolledOften settings filter scans life later → RecordIsWhole settings machine
+
+-- so it is where the module is polled often for each input, with its own filters
+abbrev pub IsWholeWherePolledForEach : Settings → Machine → Type 0
+IsWholeWherePolledForEach settings machine = (scans : ℕ) (life later : Life) →
+    life_of machine.history ≡ later ++ life → NeverTooMany settings life →
+    IsPolledForEach settings scans life later → RecordIsWhole settings machine
 
 -- so is it after an outage that the buffer has room for
 abbrev pub IsWholeAfterOutage : Settings → Machine → Type 0

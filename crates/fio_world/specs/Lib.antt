@@ -25,6 +25,8 @@ pub mod Delivery
 pub mod InTime
 pub mod AnyTime
 pub mod NewLevels
+pub mod LossyLinks
+pub mod LostRounds
 pub mod Sound
 -- what contracts see of a world
 pub mod EndToEnd

@@ -9,11 +9,13 @@ ghost use Rattle.fio_world.specs.Headline.{Headline};
 ghost use Rattle.fio_world.specs.Rounds.{PollsOf, PollsReceivedHaveRounds, NewestPollMadeNewestBlock, BlockAnswersOf, AnswersCarryBlocks};
 ghost use Rattle.fio_world.specs.Rising.{IsRising};
 ghost use Rattle.fio_world.specs.Sound.{HoldsOfRuns, HoldsWithoutRestart, IsSoundRun, LeadToOneMachine};
-ghost use Rattle.fio_world.specs.Delivery.{CleanRoundTakesBlock, CleanRoundTakesAll, CleanRoundsCatchUp, IsWholeUnlessFull, GapsNameTimes, IsWholeWherePolledOften, IsWholeAfterOutage};
+ghost use Rattle.fio_world.specs.Delivery.{CleanRoundTakesBlock, CleanRoundTakesAll, CleanRoundsCatchUp, IsWholeUnlessFull, GapsNameTimes, IsWholeWherePolledOften, IsWholeWherePolledForEach, IsWholeAfterOutage};
 ghost use Rattle.fio_world.specs.InTime.{RoundsMakeBlocks, RoundsKeepUp, AllArrivesInTime, ScansMoveOut};
 ghost use Rattle.std.specs.Prelude.{false};
 ghost use Rattle.fio_world.specs.AnyTime.{IsNeverLate, StandardLinkIsNeverLater};
 ghost use Rattle.fio_world.specs.NewLevels.{NewLevelsAreRecorded, StandardLinkRecordsNewLevels};
+ghost use Rattle.fio_world.specs.LossyLinks.{AllArrivesWhereKeptUpWith, OutagesArePossible, RoundsCatchUp, StandardLimitsHaveRoom};
+ghost use Rattle.fio_world.specs.LostRounds.{LostRoundsArePossible};
 ghost use Rattle.std.specs.List.{AllByRecursion};
 ghost use Rattle.fio_world.specs.Collected.{Collects};
 ghost use Rattle.fio_world.specs.Scripts.{Scenario};
@@ -93,7 +95,8 @@ pub fn clean_rounds_catch_up()
 
 /// Without restarts nothing is lost unless the buffer was full: where never more transitions stood
 /// beyond the newest block than may wait, the record is the front of the transition log, whole; and
-/// a gap mark says that once more did.
+/// each gap mark has its own block, before which the record is what all blocks before it are, and when
+/// that block was made more did.
 pub fn nothing_is_lost()
     ensures whole { HoldsWithoutRestart (λ settings first machine.
         IsWholeUnlessFull settings machine) }
@@ -102,11 +105,13 @@ pub fn nothing_is_lost()
 {}
 
 /// Without restarts: where the module is polled often enough, from a time on at which nothing waits,
-/// the record is the front of the transition log, whole; and so it is after an outage for which the
-/// buffer has room.
+/// the record is the front of the transition log, whole, also where each input counts with its own
+/// filters; and so it is after an outage for which the buffer has room.
 pub fn polled_often_is_whole()
     ensures polled_often { HoldsWithoutRestart (λ settings first machine.
         IsWholeWherePolledOften settings machine) }
+    ensures for_each { HoldsWithoutRestart (λ settings first machine.
+        IsWholeWherePolledForEach settings machine) }
     ensures outage { HoldsWithoutRestart (λ settings first machine.
         IsWholeAfterOutage settings machine) }
 {}
@@ -156,6 +161,28 @@ pub fn new_levels_are_recorded()
 pub fn standard_links_record_new_levels()
     ensures no_answer_lost { StandardLinkRecordsNewLevels 19 false 22 }
     ensures answers_lost { StandardLinkRecordsNewLevels 19 true 41 }
+{}
+
+/// Where clean rounds each make up for s scans, with k s at most `per_block` * f, and the blocks are never
+/// more than m behind, with k (m + f - 1) at most w f for w that may wait: the record gains each transition
+/// once, in order, with its time, and no gap mark; and lacks none that is more than m + f - 2 scans old.
+pub fn all_arrives_where_kept_up_with()
+    ensures { HoldsWithoutRestart AllArrivesWhereKeptUpWith }
+{}
+
+/// Links keep up within a pace of s scans, and after an outage of m scans in it; and rounds that come more
+/// often than s scans catch up by the difference. Under the standard limits, with up to 64 open inputs and
+/// filters of at least 5, s may be 19 and m 76.
+pub fn outages_within_a_pace()
+    ensures possible { OutagesArePossible }
+    ensures caught_up { RoundsCatchUp }
+    ensures standard { StandardLimitsHaveRoom 19 76 }
+{}
+
+/// A round begins at least every n scans, and each clean one makes up for s. Where of each c + 1 rounds in a
+/// row at most l are lost, with c n at most (c - l) s, the blocks are never more than (l + 1) n behind.
+pub fn lost_rounds()
+    ensures { LostRoundsArePossible }
 {}
 
 /// Scans that come while a poll or its answer is under way lead where they lead before the poll is

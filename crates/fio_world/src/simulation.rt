@@ -11,6 +11,7 @@ ghost use Rattle.fio_world.specs.Worlds.{Shows};
 
 mod lines;
 
+pub use self::lines::push_items;
 use self::lines::{push_ending, push_heard, push_quiet, push_refusal, push_sent};
 use crate::outcome::WorldError;
 use crate::script::{Script, ScriptError, read_header_and_steps};

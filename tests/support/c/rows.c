@@ -1,5 +1,5 @@
 /* The worked examples, call by call. The last line is `N passed, M failed`. */
-#include "layout.h"
+#include "fio2070.h"
 
 #include <stdio.h>
 #include <string.h>
@@ -26,7 +26,7 @@ static const uint8_t SHORTEST[] = {0xb6, 5, 0, 0, 0, 0, 3, 0xe8};
 static uint8_t long_octets[774];
 
 static void reads_blocks(void) {
-    struct fio2070_block_header header = {9, 9, 9, 9};
+    struct fio2070_block_header header = {9, 9, 9, 9, 9};
     struct fio2070_entry entries[2] = {{7, 7, 7}, {7, 7, 7}};
     uint8_t two[sizeof BLOCK];
     CHECK(same_fault(fio2070_read_block(SHORTEST, sizeof SHORTEST, &header), FIO2070_NO_FAULT, 0, 0, 0));
@@ -78,8 +78,9 @@ static int has_words(struct fio2070_fault fault, const char *words) {
 }
 
 static void says_faults(void) {
-    static const struct fio2070_fault none = {0, 0, 0, 0}, empty = {1, 0, 0, 0}, too_long = {2, 0, 0, 774};
-    static const struct fio2070_fault unknown = {3, 48, 0, 0}, wrong = {4, 0, 14, 11};
+    static const struct fio2070_fault none = {0, 0, 0, {0}, 0}, empty = {1, 0, 0, {0}, 0};
+    static const struct fio2070_fault too_long = {2, 0, 0, {0}, 774};
+    static const struct fio2070_fault unknown = {3, 48, 0, {0}, 0}, wrong = {4, 0, 14, {7, 7, 7, 7}, 11};
     CHECK(has_words(none, ""));
     CHECK(has_words(empty, "empty"));
     CHECK(has_words(too_long, "too long got 774"));
@@ -237,6 +238,31 @@ static void hears(void) {
     CHECK(heard.kind == FIO2070_UNREADABLE && same_fault(heard.fault, FIO2070_WRONG_LENGTH, 0, 11, 10));
 }
 
+/* ---- The rules of a transcript ---- */
+
+static int is_breach(struct fio2070_breach breach, int rule, int has_due, int due, int got) {
+    return breach.rule == rule && breach.has_due == has_due && breach.due == due && breach.got == got;
+}
+
+static void checks(void) {
+    static const uint8_t empty[] = {182, 1, 0, 0, 0, 0, 0, 5};
+    struct fio2070_checker checker;
+    struct fio2070_breach breach;
+    memset(&checker, 0xa5, sizeof checker);
+    fio2070_checker_start(&checker);
+    CHECK(fio2070_checker_sent(&checker, (const uint8_t *)"\x36\xff", 2, &breach) == 0);
+    CHECK(is_breach(breach, 0, 0, 0, 0));
+    CHECK(fio2070_checker_sent(&checker, (const uint8_t *)"\x36\0", 2, &breach) == FIO2070_ADVANCE);
+    CHECK(is_breach(breach, FIO2070_ADVANCE, 1, 255, 0));
+    CHECK(fio2070_checker_heard(&checker, empty, sizeof empty, &breach) == 0);
+    CHECK(fio2070_checker_sent(&checker, (const uint8_t *)"\x36\2", 2, &breach) == 0);
+    CHECK(fio2070_checker_heard(&checker, empty, sizeof empty, &breach) == FIO2070_NUMBER);
+    CHECK(is_breach(breach, FIO2070_NUMBER, 1, 2, 1));
+    CHECK(fio2070_checker_sent(&checker, (const uint8_t *)"\x36\2", 2, &breach) == 0);
+    CHECK(fio2070_checker_heard(&checker, (const uint8_t *)"\xb3\0", 2, &breach) == FIO2070_PAIR);
+    CHECK(is_breach(breach, FIO2070_PAIR, 1, 182, 179));
+}
+
 /* ---- Parts of a module ---- */
 
 static void counts(void) {
@@ -369,6 +395,7 @@ int main(void) {
     reads_commands();
     reads_answers();
     hears();
+    checks();
     counts();
     filters();
     is_a_module();

@@ -37,6 +37,14 @@ static void counters(void) {
     check(same(&one, &other, sizeof one), "counter");
 }
 
+static void checkers(void) {
+    struct fio2070_checker one, other;
+    fill(&one, &other, sizeof one);
+    fio2070_checker_start(&one);
+    fio2070_checker_start(&other);
+    check(same(&one, &other, sizeof one), "checker");
+}
+
 static void filters(void) {
     static struct fio2070_filters one, other;
     fill(&one, &other, sizeof one);
@@ -55,6 +63,7 @@ static void modules(void) {
 
 int main(void) {
     counters();
+    checkers();
     filters();
     modules();
     printf("%d passed, %d failed\n", passed, failed);

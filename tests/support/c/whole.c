@@ -20,10 +20,10 @@ static void check(int holds, const char *what, unsigned place) {
 
 static int same_fault(const struct fio2070_fault *is, const struct fio2070_fault *expected) {
     return is->kind == expected->kind && is->code == expected->code && is->needed == expected->needed &&
-           is->got == expected->got;
+           is->got == expected->got && memcmp(is->reserved, expected->reserved, sizeof is->reserved) == 0;
 }
 
-static const struct fio2070_fault no_fault = {0, 0, 0, 0};
+static const struct fio2070_fault no_fault = {0, 0, 0, {0}, 0};
 
 /* ---- Commands ---- */
 
@@ -146,25 +146,25 @@ struct heard_row {
 
 /* The present number is 5, and there is room for two items. */
 static const struct heard_row heard[] = {
-    {8, "\xb6\5\0\x0b\0\0\3\xe8", FIO2070_TAKEN, 0, 0, 0x0b, 0, 0, {0, 0, 0, 0}, 6},
-    {11, "\xb6\5\1\x8c\3\xe7\x0c\0\0\3\xe8", FIO2070_TAKEN, 0, 0, 0x0c, 1, 2, {0, 0, 0, 0}, 6},
-    {14, "\xb6\5\2\x8c\3\xe7\x0d\3\xe8\4\0\0\3\xe8", FIO2070_NO_ROOM, 0, 0, 0, 0, 3, {0, 0, 0, 0}, 5},
-    {8, "\xb6\4\0\x0f\0\0\3\xe8", FIO2070_STALE, 0, 4, 0, 0, 0, {0, 0, 0, 0}, 5},
-    {11, "\xb6\7\1\x8c\3\xe7\x0f\0\0\3\xe8", FIO2070_STALE, 0, 7, 0, 0, 0, {0, 0, 0, 0}, 5},
-    {0, "", FIO2070_UNREADABLE, 0, 0, 0, 0, 0, {FIO2070_EMPTY, 0, 0, 0}, 5},
-    {2, "\x36\5", FIO2070_UNREADABLE, 0, 0, 0, 0, 0, {FIO2070_UNKNOWN_TYPE, 54, 0, 0}, 5},
-    {9, "\xb6\5\1\x8c\3\xe7\0\0\0", FIO2070_UNREADABLE, 0, 0, 0, 0, 0, {FIO2070_WRONG_LENGTH, 0, 11, 9}, 5},
-    {8, "\xb1\x80\2\3\1\2\3\4", FIO2070_OTHER, 177, 0, 0, 0, 0, {0, 0, 0, 0}, 5},
-    {2, "\xb2\xfe", FIO2070_OTHER, 178, 0, 0, 0, 0, {0, 0, 0, 0}, 5},
-    {2, "\xb3\1", FIO2070_OTHER, 179, 0, 0, 0, 0, {0, 0, 0, 0}, 5},
-    {13, "\xb4\1\2\3\4\5\6\7\x08\1\2\3\4", FIO2070_OTHER, 180, 0, 0, 0, 0, {0, 0, 0, 0}, 5},
-    {13, "\xb5\1\2\3\4\5\6\7\x08\1\2\3\4", FIO2070_OTHER, 181, 0, 0, 0, 0, {0, 0, 0, 0}, 5},
-    {6, "\xb7\0\0\0\0\5", FIO2070_OTHER, 183, 0, 0, 0, 0, {0, 0, 0, 0}, 5},
-    {3, "\xb8\1\2", FIO2070_OTHER, 184, 0, 0, 0, 0, {0, 0, 0, 0}, 5},
-    {2, "\xb9\1", FIO2070_OTHER, 185, 0, 0, 0, 0, {0, 0, 0, 0}, 5},
-    {2, "\xba\1", FIO2070_OTHER, 186, 0, 0, 0, 0, {0, 0, 0, 0}, 5},
-    {4, "\xbb\1\2\3", FIO2070_OTHER, 187, 0, 0, 0, 0, {0, 0, 0, 0}, 5},
-    {2, "\xbc\2", FIO2070_OTHER, 188, 0, 0, 0, 0, {0, 0, 0, 0}, 5},
+    {8, "\xb6\5\0\x0b\0\0\3\xe8", FIO2070_TAKEN, 0, 0, 0x0b, 0, 0, {0, 0, 0, {0}, 0}, 6},
+    {11, "\xb6\5\1\x8c\3\xe7\x0c\0\0\3\xe8", FIO2070_TAKEN, 0, 0, 0x0c, 1, 2, {0, 0, 0, {0}, 0}, 6},
+    {14, "\xb6\5\2\x8c\3\xe7\x0d\3\xe8\4\0\0\3\xe8", FIO2070_NO_ROOM, 0, 0, 0, 0, 3, {0, 0, 0, {0}, 0}, 5},
+    {8, "\xb6\4\0\x0f\0\0\3\xe8", FIO2070_STALE, 0, 4, 0, 0, 0, {0, 0, 0, {0}, 0}, 5},
+    {11, "\xb6\7\1\x8c\3\xe7\x0f\0\0\3\xe8", FIO2070_STALE, 0, 7, 0, 0, 0, {0, 0, 0, {0}, 0}, 5},
+    {0, "", FIO2070_UNREADABLE, 0, 0, 0, 0, 0, {FIO2070_EMPTY, 0, 0, {0}, 0}, 5},
+    {2, "\x36\5", FIO2070_UNREADABLE, 0, 0, 0, 0, 0, {FIO2070_UNKNOWN_TYPE, 54, 0, {0}, 0}, 5},
+    {9, "\xb6\5\1\x8c\3\xe7\0\0\0", FIO2070_UNREADABLE, 0, 0, 0, 0, 0, {FIO2070_WRONG_LENGTH, 0, 11, {0}, 9}, 5},
+    {8, "\xb1\x80\2\3\1\2\3\4", FIO2070_OTHER, 177, 0, 0, 0, 0, {0, 0, 0, {0}, 0}, 5},
+    {2, "\xb2\xfe", FIO2070_OTHER, 178, 0, 0, 0, 0, {0, 0, 0, {0}, 0}, 5},
+    {2, "\xb3\1", FIO2070_OTHER, 179, 0, 0, 0, 0, {0, 0, 0, {0}, 0}, 5},
+    {13, "\xb4\1\2\3\4\5\6\7\x08\1\2\3\4", FIO2070_OTHER, 180, 0, 0, 0, 0, {0, 0, 0, {0}, 0}, 5},
+    {13, "\xb5\1\2\3\4\5\6\7\x08\1\2\3\4", FIO2070_OTHER, 181, 0, 0, 0, 0, {0, 0, 0, {0}, 0}, 5},
+    {6, "\xb7\0\0\0\0\5", FIO2070_OTHER, 183, 0, 0, 0, 0, {0, 0, 0, {0}, 0}, 5},
+    {3, "\xb8\1\2", FIO2070_OTHER, 184, 0, 0, 0, 0, {0, 0, 0, {0}, 0}, 5},
+    {2, "\xb9\1", FIO2070_OTHER, 185, 0, 0, 0, 0, {0, 0, 0, {0}, 0}, 5},
+    {2, "\xba\1", FIO2070_OTHER, 186, 0, 0, 0, 0, {0, 0, 0, {0}, 0}, 5},
+    {4, "\xbb\1\2\3", FIO2070_OTHER, 187, 0, 0, 0, 0, {0, 0, 0, {0}, 0}, 5},
+    {2, "\xbc\2", FIO2070_OTHER, 188, 0, 0, 0, 0, {0, 0, 0, {0}, 0}, 5},
 };
 
 static void hears(void) {
@@ -172,7 +172,7 @@ static void hears(void) {
     for (place = 0; place < ROWS(heard); place++) {
         const struct heard_row *row = &heard[place];
         struct fio2070_poller poller = {5};
-        struct fio2070_record_item items[2] = {{9, 9, 9, 9, 9}, {9, 9, 9, 9, 9}};
+        struct fio2070_record_item items[2] = {{9, 9, 9, {9, 9, 9}, 9, 9}, {9, 9, 9, {9, 9, 9}, 9, 9}};
         struct fio2070_heard is =
             fio2070_poller_hear(&poller, (const uint8_t *)row->octets, row->length, items, 2);
         check(is.kind == row->kind && is.code == row->code && is.number == row->number && is.status == row->status &&
@@ -185,9 +185,10 @@ static void hears(void) {
 /* A block with F set adds a gap mark, whose other fields are 0, and then its entry. */
 static void records(void) {
     struct fio2070_poller poller = {5};
-    struct fio2070_record_item items[2] = {{9, 9, 9, 9, 9}, {9, 9, 9, 9, 9}};
+    struct fio2070_record_item items[2] = {{9, 9, 9, {9, 9, 9}, 9, 9}, {9, 9, 9, {9, 9, 9}, 9, 9}};
     const uint8_t octets[] = {0xb6, 5, 1, 0x8c, 3, 0xe9, 4, 0, 2, 3, 0xe8};
     check(fio2070_poller_hear(&poller, octets, sizeof octets, items, 2).items == 2, "items", 0);
+    check(memcmp(items[0].reserved, "\0\0", 3) == 0 && memcmp(items[1].reserved, "\0\0", 3) == 0, "items", 3);
     check(items[0].gap == 1 && items[0].input == 0 && items[0].state == 0 && items[0].stamp == 0 && items[0].wide == 0,
           "items", 1);
     check(items[1].gap == 0 && items[1].input == 12 && items[1].state == 1 && items[1].stamp == 0x3e9 &&
@@ -204,20 +205,20 @@ struct words_row {
 
 /* The numbers that a kind does not have say nothing. */
 static const struct words_row words[] = {
-    {{FIO2070_NO_FAULT, 0, 0, 0}, ""},
-    {{FIO2070_NO_FAULT, 48, 14, 11}, ""},
-    {{FIO2070_EMPTY, 0, 0, 0}, "empty"},
-    {{FIO2070_EMPTY, 48, 14, 11}, "empty"},
-    {{FIO2070_TOO_LONG, 0, 0, 774}, "too long got 774"},
-    {{FIO2070_TOO_LONG, 48, 14, 11}, "too long got 11"},
-    {{FIO2070_UNKNOWN_TYPE, 48, 0, 0}, "unknown type 48"},
-    {{FIO2070_UNKNOWN_TYPE, 48, 14, 11}, "unknown type 48"},
-    {{FIO2070_WRONG_LENGTH, 0, 14, 11}, "wrong length needed 14 got 11"},
-    {{FIO2070_WRONG_LENGTH, 48, 14, 11}, "wrong length needed 14 got 11"},
-    {{FIO2070_WRONG_LENGTH, 0, 65535, 4294967295u}, "wrong length needed 65535 got 4294967295"},
-    {{5, 0, 0, 0}, ""},
-    {{5, 48, 14, 11}, ""},
-    {{255, 48, 14, 11}, ""},
+    {{FIO2070_NO_FAULT, 0, 0, {0}, 0}, ""},
+    {{FIO2070_NO_FAULT, 48, 14, {0}, 11}, ""},
+    {{FIO2070_EMPTY, 0, 0, {0}, 0}, "empty"},
+    {{FIO2070_EMPTY, 48, 14, {0}, 11}, "empty"},
+    {{FIO2070_TOO_LONG, 0, 0, {0}, 774}, "too long got 774"},
+    {{FIO2070_TOO_LONG, 48, 14, {0}, 11}, "too long got 11"},
+    {{FIO2070_UNKNOWN_TYPE, 48, 0, {0}, 0}, "unknown type 48"},
+    {{FIO2070_UNKNOWN_TYPE, 48, 14, {0}, 11}, "unknown type 48"},
+    {{FIO2070_WRONG_LENGTH, 0, 14, {0}, 11}, "wrong length needed 14 got 11"},
+    {{FIO2070_WRONG_LENGTH, 48, 14, {0}, 11}, "wrong length needed 14 got 11"},
+    {{FIO2070_WRONG_LENGTH, 0, 65535, {0}, 4294967295u}, "wrong length needed 65535 got 4294967295"},
+    {{5, 0, 0, {0}, 0}, ""},
+    {{5, 48, 14, {0}, 11}, ""},
+    {{255, 48, 14, {0}, 11}, ""},
 };
 
 static void says_faults(void) {

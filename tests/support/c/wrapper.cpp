@@ -54,6 +54,26 @@ static void reads_and_writes() {
     CHECK(octets(*fio2070::encode::other_answer(188, List({2}))) == List({0xbc, 2}));
 }
 
+static void has_values() {
+    CHECK(fio2070::encode::poll(5) == fio2070::encode::poll(5) && fio2070::encode::poll(5) != fio2070::encode::poll(6));
+    CHECK(fio2070::encode::configure_inputs({{12, 0, 5, 3}, {3, 1, 0, 0}})->size() == 8);
+    CHECK(octets(*fio2070::encode::block_answer(5, {{12, 1, 999}}, 0, 1000)) == BLOCK);
+    CHECK(fio2070::decode_command({0x36, 5}).value().block == 5);
+    CHECK(fio2070::block_entries(BLOCK) == std::vector<fio2070::Entry>({{12, 1, 999}}));
+    std::string text;
+    try {
+        (void)fio2070::decode_command({0x33}).value();
+    } catch (const fio2070::FaultError &error) {
+        text = error.what();
+        CHECK(error.fault().kind() == FIO2070_WRONG_LENGTH);
+    }
+    CHECK(text == "wrong length needed 2 got 1");
+    fio2070::Poller poller(5);
+    CHECK(poller.hear(BLOCK).is_taken());
+    CHECK(poller.drain() == std::vector<fio2070::RecordItem>({{0, 12, 1, 999, 999}}));
+    CHECK(poller.record().empty() && poller.number() == 6);
+}
+
 static void polls_a_module() {
     CHECK(!fio2070::Module::start(2, 0));
     auto module = fio2070::Module::start(2);
@@ -105,6 +125,7 @@ static void has_parts() {
 
 int main() {
     reads_and_writes();
+    has_values();
     polls_a_module();
     has_parts();
     std::printf("%d passed, %d failed\n", passed, failed);

@@ -25,9 +25,14 @@ function firstMatches(text, pattern) {
   return found;
 }
 
-// The octets of a list of hexadecimal words.
+// Whether one word of digits has a single one, and another a zero before its digit: then a digit is lost.
+const isUneven = (words) => words.some((word) => word.length === 1) && words.some((word) => word.length > 1 && word[0] === '0');
+
+// The octets of a list of hexadecimal words; none where one has lost a digit.
 export function fromDigits(text) {
-  return fromHex(text.split(MARK).map((digits) => digits.length === 1 ? '0' + digits : digits).join(''));
+  const words = text.split(MARK);
+  if (isUneven(words)) return new Uint8Array(0);
+  return fromHex(words.map((digits) => digits.length === 1 ? '0' + digits : digits).join(''));
 }
 
 const fromNumbers = (numbers) => numbers.length > 0 && numbers.every((it) => it < 256) ? Uint8Array.from(numbers) : null;
@@ -87,8 +92,8 @@ export function readings(patterns, text) {
   }
   const inner = inside(text);
   const digits = listIn(patterns, text) || listIn(patterns, inner);
-  if (digits) found.push(['hex', fromDigits(digits)]);
-  else if (patterns.single.test(inner)) found.push(['digits', fromDigits(inner)]);
+  const octets = digits || patterns.single.test(inner) ? fromDigits(digits || inner) : [];
+  if (octets.length > 0) found.push([digits ? 'hex' : 'digits', octets]);
   if (column) found.push(['column', column]);
   if (patterns.decimal.test(text) || patterns.decimal.test(inner)) {
     const numbers = fromNumbers(inner.match(/\d+/g).map(Number));
@@ -97,8 +102,9 @@ export function readings(patterns, text) {
   return found;
 }
 
-// The octets of a string literal of C, Python or a shell; null where a character is above 255.
+// The octets of a string literal of C, Python or a shell; null where a character is above 255 or lost a digit.
 function fromLiteral(text) {
+  if (isUneven(Array.from(text.matchAll(ESCAPE), (escape) => escape[1] || ''))) return null;
   const plain = text.replace(ESCAPE, (_, hex, octal, letter) => {
     if (hex) return String.fromCharCode(parseInt(hex, 16));
     return octal ? String.fromCharCode(parseInt(octal, 8) & 255) : ESCAPED[letter] ?? letter;

@@ -72,8 +72,8 @@ export class PlanView {
     const rows = [
       ['start a round at least every', plan.startEvery + ' ms', 'k n ≤ b f: enough of IsPolledInTime' + (lost ? ', r + 1 times as often' : '')],
       ...plan.isInTime ? [
-        ['entries that wait, at most', withCommas(plan.waits), lost ? 'rounds_keep_up of Delivers' : 'few_wait of KeepsUp'],
-        ['a transition is in a block at most', plan.late + ' ms late', 'never_late of Delivers'],
+        ['entries that wait, at most', withCommas(plan.waits), 'few_wait of KeepsUpExactly'],
+        ['a transition is in a block at most', plan.late + ' ms late', lost ? 'never_late of Delivers' : 'young of KeepsUpExactly'],
       ] : [],
       ['the longest outage, where nothing waits', withCommas(plan.longestOutage) + ' ms',
         plan.hasRoom ? 'room of IsOutage, outage of Delivers' : `k (1 + (n - 1) / f) ≤ ${waiting} does not hold: not proved`],

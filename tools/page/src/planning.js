@@ -7,6 +7,15 @@ const down = (number, divisor) => Math.floor(number / divisor);
 // The longest pace: a clean round at least every so many scans.
 export const longestPace = (inputs, filter) => down(MOST_ENTRIES_OF_A_BLOCK * filter, inputs);
 
+const largest = (count, number) => Math.max(...Array.from({ length: count }, (_, j) => number(j)));
+
+// The most that wait, and the most scans that one is late, with blocks and filters counted whole: rounds so far apart, and
+// blocks so many scans behind.
+const mostWait = (inputs, filter, apart, behind) =>
+  largest(filter + 1, (j) => inputs * upTo(j * apart + behind, filter) - MOST_ENTRIES_OF_A_BLOCK * j);
+const latest = (inputs, filter, apart, behind) =>
+  behind - 1 + largest(inputs, (j) => j * apart - filter * down(MOST_ENTRIES_OF_A_BLOCK * j, inputs));
+
 // What follows for `inputs` open inputs with filters of at least `filter`, rounds `pace` scans apart of which `lost` in a
 // row are lost, `waiting` entries that may wait, and an outage of so many scans.
 export function planOf({ inputs, filter, pace, lost, waiting, outage }) {
@@ -18,8 +27,8 @@ export function planOf({ inputs, filter, pace, lost, waiting, outage }) {
     longest,
     isInTime: apart <= longest,
     startEvery: down(longest, lost + 1),
-    waits: down(inputs * (rounds + filter - 1), filter),
-    late: rounds + filter - 2,
+    waits: mostWait(inputs, filter, apart, rounds),
+    late: lost > 0 ? rounds + filter - 2 : latest(inputs, filter, apart, rounds),
     longestOutage: filter * down(waiting, inputs),
     hasRoom: inputs * (filter + longest - 1) <= waiting * filter,
     after,
@@ -33,7 +42,7 @@ export function rowOf(inputs, filter) {
   const pace = longestPace(inputs, filter);
   const with1024 = planOf({ inputs, filter, pace, lost: 0, waiting: 1024, outage: 0 });
   const with8192 = planOf({ inputs, filter, pace, lost: 0, waiting: 8192, outage: 0 });
-  const lostAnswers = { waits: down(inputs * (2 * pace + filter - 1), filter), late: 2 * pace + filter - 2 };
+  const lostAnswers = { waits: mostWait(inputs, filter, pace, 2 * pace), late: 2 * pace + filter - 2 };
   return [inputs, filter, pace, with1024.waits, with1024.late, lostAnswers.waits, lostAnswers.late,
     with1024.longestOutage, with8192.longestOutage];
 }

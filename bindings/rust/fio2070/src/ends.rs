@@ -1,8 +1,8 @@
 //! Both ends of the link, and the filters.
 
 use crate::raw::{
-    self, ConfigurationItem, Fault, Outputs, RawCounter, RawFilters, RawModule, RawPoller,
-    RecordItem,
+    self, Breach, ConfigurationItem, Fault, Outputs, RawChecker, RawCounter, RawFilters, RawModule,
+    RawPoller, RecordItem,
 };
 use crate::LONGEST_FRAME;
 
@@ -74,6 +74,39 @@ impl Poller {
     }
 }
 
+/// A checker of what the CPU's end sends and hears. Below a breach it goes on as one that starts at
+/// the next poll.
+#[derive(Clone)]
+pub struct Checker(RawChecker);
+
+impl Default for Checker {
+    fn default() -> Checker {
+        let mut checker = RawChecker([0; 9]);
+        unsafe { raw::fio2070_checker_start(&mut checker) };
+        Checker(checker)
+    }
+}
+
+impl Checker {
+    /// The breach of a frame that the CPU sent.
+    pub fn sent(&mut self, octets: &[u8]) -> Option<Breach> {
+        let mut breach = Breach::default();
+        let rule = unsafe {
+            raw::fio2070_checker_sent(&mut self.0, octets.as_ptr(), octets.len(), &mut breach)
+        };
+        (rule != 0).then_some(breach)
+    }
+
+    /// The breach of a frame that the CPU heard.
+    pub fn heard(&mut self, octets: &[u8]) -> Option<Breach> {
+        let mut breach = Breach::default();
+        let rule = unsafe {
+            raw::fio2070_checker_heard(&mut self.0, octets.as_ptr(), octets.len(), &mut breach)
+        };
+        (rule != 0).then_some(breach)
+    }
+}
+
 /// The millisecond counter.
 #[derive(Clone)]
 pub struct Counter(RawCounter);
@@ -133,7 +166,7 @@ impl Filters {
             unsafe { raw::fio2070_filters_configure(&mut self.0, items.as_ptr(), items.len()) };
         match done.kind {
             0 => Ok(()),
-            1 => Err(done.place),
+            1 => Err(done.place as usize),
             _ => Err(255),
         }
     }

@@ -3,6 +3,7 @@
 //! Ranges, errors and sources are those of include/fio2070.h. Nothing here allocates.
 #![no_std]
 
+pub mod constants;
 mod encode;
 mod ends;
 mod raw;
@@ -13,17 +14,12 @@ pub use encode::{
     other_command, poll, raw_inputs, raw_inputs_answer, set_outputs, status, status_answer,
     watchdog, watchdog_answer,
 };
-pub use ends::{Counter, Filters, Heard, Module, Poller};
-pub use raw::{Answer, Command, ConfigurationItem, Entry, Fault, Outputs, RecordItem};
+pub use ends::{Checker, Counter, Filters, Heard, Module, Poller};
+pub use raw::{Answer, Breach, Command, ConfigurationItem, Entry, Fault, Outputs, RecordItem};
 
 use core::fmt;
 
-/// Octets of the longest frame.
-pub const LONGEST_FRAME: usize = 773;
-/// Entries of a block, and items of a configuration.
-pub const MOST_ENTRIES: usize = 255;
-/// What one block adds to a record, at most.
-pub const MOST_RECORD_ITEMS: usize = 256;
+pub use constants::{LONGEST_FRAME, MOST_ENTRIES, MOST_RECORD_ITEMS};
 
 impl fmt::Display for Fault {
     /// As `fio2070 show` writes it.
@@ -34,6 +30,8 @@ impl fmt::Display for Fault {
         formatter.write_str(core::str::from_utf8(&text[..count]).unwrap_or(""))
     }
 }
+
+impl core::error::Error for Fault {}
 
 fn read<T>(fault: Fault, message: T) -> Result<T, Fault> {
     match fault.kind {

@@ -7,7 +7,8 @@ pub struct Fault {
     pub kind: u8,
     pub code: u8,
     pub needed: u16,
-    pub got: usize,
+    pub reserved: [u8; 4],
+    pub got: u64,
 }
 
 /// A transition.
@@ -38,6 +39,7 @@ pub struct Command {
     pub block: u8,
     pub timeout: u8,
     pub count: u8,
+    pub reserved: u8,
     pub body: u16,
     pub load: u32,
     pub levels: [u8; 8],
@@ -55,6 +57,7 @@ pub struct Answer {
     pub status: u8,
     pub block: u8,
     pub count: u8,
+    pub reserved: [u8; 3],
     pub body: u16,
     pub stamp: u32,
     pub inputs: u64,
@@ -67,6 +70,7 @@ pub struct RecordItem {
     pub gap: u8,
     pub input: u8,
     pub state: u8,
+    pub reserved: [u8; 3],
     pub stamp: u16,
     pub wide: u32,
 }
@@ -83,6 +87,7 @@ pub(crate) struct RawHeard {
     pub number: u8,
     pub status: u8,
     pub entries: u8,
+    pub reserved: u8,
     pub items: u16,
     pub fault: Fault,
 }
@@ -90,7 +95,8 @@ pub(crate) struct RawHeard {
 #[repr(C)]
 pub(crate) struct RawConfigured {
     pub kind: u8,
-    pub place: usize,
+    pub reserved: [u8; 7],
+    pub place: u64,
 }
 
 /// The data and control octets.
@@ -109,6 +115,20 @@ pub(crate) struct RawCounter {
     pub is_asked: u8,
     pub reserved: [u8; 3],
 }
+
+/// The first rule that a frame breaks, from 1, and what was due where `has_due` is 1.
+#[derive(Clone, Copy, Debug, Default, PartialEq, Eq)]
+#[repr(C)]
+pub struct Breach {
+    pub rule: u8,
+    pub has_due: u8,
+    pub due: u8,
+    pub got: u8,
+}
+
+#[derive(Clone)]
+#[repr(C)]
+pub(crate) struct RawChecker(pub [u8; 9]);
 
 #[derive(Clone)]
 #[repr(C)]
@@ -229,6 +249,19 @@ extern "C" {
         items: *mut RecordItem,
         room: usize,
     ) -> RawHeard;
+    pub(crate) fn fio2070_checker_start(checker: &mut RawChecker);
+    pub(crate) fn fio2070_checker_sent(
+        checker: &mut RawChecker,
+        octets: *const u8,
+        length: usize,
+        breach: &mut Breach,
+    ) -> u8;
+    pub(crate) fn fio2070_checker_heard(
+        checker: &mut RawChecker,
+        octets: *const u8,
+        length: usize,
+        breach: &mut Breach,
+    ) -> u8;
     pub(crate) fn fio2070_counter_start(counter: &mut RawCounter);
     pub(crate) fn fio2070_counter_tick(counter: &mut RawCounter);
     pub(crate) fn fio2070_counter_ask_load(counter: &mut RawCounter, number: u32);

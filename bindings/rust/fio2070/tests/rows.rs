@@ -111,6 +111,19 @@ fn answers_are_written_and_read() {
 }
 
 #[test]
+fn faults_are_errors() {
+    fn reads(octets: &[u8]) -> Result<Command, Box<dyn std::error::Error>> {
+        Ok(decode_command(octets)?)
+    }
+    assert_eq!(
+        reads(&[0x33]).unwrap_err().to_string(),
+        "wrong length needed 2 got 1"
+    );
+    assert_eq!(reads(&[0x36, 5]).unwrap().code, constants::POLL);
+    assert_eq!(decode_command(&[]).unwrap_err().kind, constants::EMPTY);
+}
+
+#[test]
 fn faults_have_words() {
     let words = |octets: &[u8]| decode_command(octets).unwrap_err().to_string();
     assert_eq!(words(&[]), "empty");
@@ -164,7 +177,8 @@ fn a_poller_polls_a_module() {
             input: 12,
             state: 0,
             stamp: 999,
-            wide: 999
+            wide: 999,
+            ..RecordItem::default()
         }
     );
     assert_eq!(poller.hear(&answer, &mut items), Heard::Stale(5));
@@ -216,4 +230,16 @@ fn a_counter_is_loaded_at_the_line_sync() {
     counter.line_sync();
     counter.tick();
     assert_eq!(counter.now(), 0);
+}
+
+#[test]
+fn a_checker_says_what_was_due_and_goes_on() {
+    let mut checker = Checker::default();
+    assert_eq!(checker.sent(&[54, 255]), None);
+    let breach = checker.sent(&[54, 0]).unwrap();
+    assert_eq!((breach.rule, breach.due, breach.got), (4, 255, 0));
+    assert_eq!(checker.heard(&BLOCK), None);
+    assert_eq!(checker.sent(&[54, 6]), None);
+    let breach = checker.heard(&BLOCK).unwrap();
+    assert_eq!((breach.rule, breach.due, breach.got), (3, 6, 5));
 }

@@ -64,4 +64,5 @@ fn faults_are_reported(rt: HostRuntime) {
     expect_faults(&rt, rt.alloc(), "show");
     expect_faults(&rt, rt.alloc(), "simulate");
     expect_faults(&rt, rt.alloc(), "check");
+    expect_faults(&rt, rt.alloc(), "record");
 }

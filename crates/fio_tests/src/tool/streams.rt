@@ -1,7 +1,7 @@
-//! The three tools over readers and writers that fail at a call, and over ones that give or take an octet
+//! The four tools over readers and writers that fail at a call, and over ones that give or take an octet
 //! a call.
 use super::ends::{Endless, Feed, Sink};
-use fio_tool::{Ending, Tool, ToolFault, check, show, simulate};
+use fio_tool::{Ending, Tool, ToolFault, check, record, show, simulate};
 use std::alloc::Global;
 use std::io::{Read, Write};
 use std::process::Abort;
@@ -9,7 +9,7 @@ use std::process::Abort;
 /// A tool, what it reads, what it writes then, and how it ends.
 type Row = (Tool, &'static [u8], &'static [u8], Ending);
 
-const ROWS: [Row; 3] = [
+const ROWS: [Row; 4] = [
     (
         Tool::Show,
         b"3605\n\nzz",
@@ -23,6 +23,12 @@ const ROWS: [Row; 3] = [
         Ending::Good,
     ),
     (Tool::Check, b"> 3605", b"good 1 frames\n", Ending::Good),
+    (
+        Tool::Record,
+        b"> 3605\n< b605000000000000",
+        b"record 0\n",
+        Ending::Good,
+    ),
 ];
 
 /// Fails the test where its row does not hold, and shows the tool and the number of the call that
@@ -42,6 +48,7 @@ fn run<R: Read, W: Write>(
         Tool::Show => show(alloc, reader, writer),
         Tool::Simulate => simulate(alloc, reader, writer),
         Tool::Check => check(alloc, reader, writer),
+        Tool::Record => record(alloc, reader, writer),
     }
 }
 
@@ -164,4 +171,10 @@ fn endless_inputs_end_at_the_limit(rt: HostRuntime) {
         ends_at_limit(rt.alloc(), Tool::Simulate),
     );
     expect_tool(&rt, Tool::Check, 0, ends_at_limit(rt.alloc(), Tool::Check));
+    expect_tool(
+        &rt,
+        Tool::Record,
+        0,
+        ends_at_limit(rt.alloc(), Tool::Record),
+    );
 }

@@ -137,8 +137,11 @@ fn push_counts(
     push_items(text, items)
 }
 
-/// The items of the record.
-fn push_items(text: &mut Vec<u8>, items: &[Item]) -> Result<(), AllocError>
+/// Appends a line for each item of a record: `gap`, or `input I state L stamp S wide W`.
+///
+/// # Errors
+/// `AllocError` where the text could not grow.
+pub fn push_items(text: &mut Vec<u8>, items: &[Item]) -> Result<(), AllocError>
     ensures { OnOk result (text.new.items ≡ text.old.items ++ flat_map item_line items.now) }
 {
     let mut entry_lines = EntryLines::new();

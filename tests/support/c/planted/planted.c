@@ -5,13 +5,15 @@
  *     planted module NAMES WORD..  the words of a tester, of the module with the faults of these names, with `; ` between
  *                                  them; `none` is the right one
  *     planted cpu NAMES WORD..     of the CPU's end
+ *     planted wire NAMES [clock]   the module answers the lines of fio2070-test
  */
 #include "quirks.h"
 
 #include <stdlib.h>
 #include <string.h>
 
-enum { MOST_NAMES = 8 };
+/* A twentieth of the trials that a tester shrinks a script by is enough for most. */
+enum { MOST_NAMES = 8, MOST_TRIED = 1000000 };
 
 static enum rule found_rule(const struct result *result) {
     int rule;
@@ -40,6 +42,7 @@ static int look_for_all(void) {
     size_t place;
     int missed = 0;
     memset(&ends, 0, sizeof ends);
+    ends.most_tried = MOST_TRIED;
     for (place = 0; place < MODULE_FAULT_COUNT; place++) {
         const struct fault *fault = &MODULE_FAULTS[place];
         ends.module = module_with(&fault, 1);
@@ -78,6 +81,10 @@ static size_t faults_named(char *names, const struct fault *faults, size_t count
 int main(int count, char **words) {
     const struct fault *found[MOST_NAMES];
     if (count < 3) return look_for_all();
+    if (strcmp(words[1], "wire") == 0) {
+        serve(module_with(found, faults_named(words[2], MODULE_FAULTS, MODULE_FAULT_COUNT, found)), count > 3);
+        return 0;
+    }
     if (strcmp(words[1], "module") == 0) {
         size_t named = faults_named(words[2], MODULE_FAULTS, MODULE_FAULT_COUNT, found);
         return conformance_main(module_with(found, named), count - 2, words + 2);

@@ -17,3 +17,9 @@ returns-in-Check-clause-text c = rw c.in-Check.is c.check_text.ensures.text
 
 pub returns-in-Check-clause-good : goal.returns-in-Check-clause-good
 returns-in-Check-clause-good c = rw c.in-Check.is c.check_text.ensures.good
+
+pub returns-in-Record-clause-text : goal.returns-in-Record-clause-text
+returns-in-Record-clause-text c = rw c.in-Record.is c.record_text.ensures.text
+
+pub returns-in-Record-clause-good : goal.returns-in-Record-clause-good
+returns-in-Record-clause-good c = rw c.in-Record.is c.record_text.ensures.good

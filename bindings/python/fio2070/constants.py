@@ -1,0 +1,63 @@
+"""The constants of include/fio2070.h, without their prefix."""
+
+VERSION = 10000
+
+LONGEST_FRAME = 773
+MOST_ENTRIES = 255
+MOST_RECORD_ITEMS = 256
+MOST_WAITING = 1024
+LONGEST_FAULT_TEXT = 65
+
+# Types of commands; that of an answer is ANSWER more.
+STATUS = 49
+LOAD_COUNTER = 50
+CONFIGURE_INPUTS = 51
+RAW_INPUTS = 52
+FILTERED_INPUTS = 53
+POLL = 54
+SET_OUTPUTS = 55
+TRACK_INPUTS = 56
+COMPLEX_OUTPUTS = 57
+WATCHDOG = 58
+CONTROLLER_ID = 59
+IDENTIFY = 60
+ANSWER = 128
+
+# Bits of statuses and flags.
+ERROR = 1
+SET_BEFORE = 1
+MORE = 8
+LOST = 4
+AGAIN = 2
+OUT_OF_SEQUENCE = 1
+WAS_RESET = 128
+
+# Kinds of faults.
+NO_FAULT = 0
+EMPTY = 1
+TOO_LONG = 2
+UNKNOWN_TYPE = 3
+WRONG_LENGTH = 4
+
+# Kinds of what a poller hears.
+TAKEN = 0
+UNREADABLE = 1
+OTHER = 2
+STALE = 3
+NO_ROOM = 4
+
+# What became of a configuration of filters.
+APPLIED = 0
+ABSENT_INPUT = 1
+TOO_MANY_ITEMS = 2
+
+# Rules of transcripts.
+READABLE = 1
+PAIR = 2
+NUMBER = 3
+ADVANCE = 4
+SAME = 5
+SEQUENCE = 6
+LIMITS = 7
+REST = 8
+REFUSAL = 9

@@ -1,0 +1,41 @@
+"""Values of the command line: each function gives one that reads a word, or refuses it with its range."""
+
+import argparse
+
+TYPES = {'poll': 54, 'block': 182}
+LETTERS = 'CFEG'
+_COMMANDS, _ANSWERS = range(49, 61), range(177, 189)
+
+
+def number_in(low, high):
+    """A number from low to high."""
+    def read(text):
+        number = int(text)
+        if not low <= number <= high:
+            raise ValueError(text)
+        return number
+    read.__name__ = 'number from %d to %d' % (low, high)
+    return read
+
+
+def message_type(text):
+    """A type of message, by its number or name."""
+    number = TYPES.get(text) or (int(text) if text.isascii() and text.isdigit() else 0)
+    if number not in _COMMANDS and number not in _ANSWERS:
+        raise argparse.ArgumentTypeError('%r is no type: 49 to 60, 177 to 188, poll or block' % text)
+    return number
+
+
+def status_letters(text):
+    """Letters of bits of a block's status."""
+    if not text or set(text.upper()) - set(LETTERS):
+        raise argparse.ArgumentTypeError('%r has other letters than C, F, E and G' % text)
+    return text.upper()
+
+
+def line_range(text):
+    """Line numbers: `A`, `A-B`, or `A-` for all from A on, as the first and the last; the last may be None."""
+    first, dash, last = text.partition('-')
+    if not first.isdigit() or last and not last.isdigit() or last and int(last) < int(first):
+        raise argparse.ArgumentTypeError('%r is no range of lines, such as 10-20 or 10-' % text)
+    return int(first), (int(last) if last else None) if dash else int(first)

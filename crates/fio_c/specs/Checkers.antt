@@ -1,0 +1,74 @@
+-- The checker of the rules as C sees it.
+use Rattle.std.specs.Prelude.{ℕ, ◌==◌, Bool, true, false, not, Option, Some, None, is_some, unwrap_or, if◌then◌else◌}
+use Rattle.fio_message.specs.Bits.{bit_of}
+use Rattle.fio_check.specs.declared.checker.Breach.{Breach as BreachOf}
+use Rattle.fio_check.specs.declared.checker.Checker.{Checker as CheckerOf}
+use Rattle.fio_check.specs.declared.checker.Due.{Due}
+use Rattle.fio_check.specs.declared.rules.Rule.{Rule}
+use Rattle.fio_check.specs.declared.rules.Rule.TheVariants as rules
+use Rattle.fio_c.specs.declared.checker.Breach.{Breach}
+use Rattle.fio_c.specs.declared.checker.Checker.{Checker}
+
+-- a number that there may be
+abbrev pub octet_in : ℕ → ℕ → Option ℕ
+octet_in has octet = if has == 0 then None else Some octet
+
+-- whether the latest block answer has C, where there is one
+abbrev pub more_in : ℕ → Option Bool
+more_in more = if more == 0 then None else Some (not (more == 1))
+
+-- the same as an octet
+abbrev pub flat_more : Option Bool → ℕ
+flat_more None = 0
+flat_more (Some false) = 1
+flat_more (Some true) = 2
+
+-- the checker that a struct of C stands for, whatever its octets are
+abbrev pub checker_in : Checker → CheckerOf
+checker_in flat = record {
+  facts = record {
+    awaited = octet_in flat.has_awaited flat.awaited;
+    absent_named = not (flat.absent_named == 0);
+    polled = octet_in flat.has_polled flat.polled;
+    answered = not (flat.answered == 0);
+    advanced = not (flat.advanced == 0);
+    more = more_in flat.more;
+  };
+  skips = not (flat.skips == 0);
+}
+
+-- the struct of C that stands for a checker: numbers that are not there are 0
+abbrev pub flat_checker : CheckerOf → Checker
+flat_checker checker = record {
+  has_awaited = bit_of (is_some checker.facts.awaited);
+  awaited = unwrap_or checker.facts.awaited 0;
+  absent_named = bit_of checker.facts.absent_named;
+  has_polled = bit_of (is_some checker.facts.polled);
+  polled = unwrap_or checker.facts.polled 0;
+  answered = bit_of checker.facts.answered;
+  advanced = bit_of checker.facts.advanced;
+  more = flat_more checker.facts.more;
+  skips = bit_of checker.skips;
+}
+
+-- the place of a rule in the order in which they are tried, from 1
+abbrev pub rule_number : Rule → ℕ
+rule_number rules.Readable = 1
+rule_number rules.Pair = 2
+rule_number rules.Number = 3
+rule_number rules.Advance = 4
+rule_number rules.Same = 5
+rule_number rules.Sequence = 6
+rule_number rules.Limits = 7
+rule_number rules.Rest = 8
+rule_number rules.Refusal = 9
+
+-- a breach of this rule
+abbrev pub with_due : ℕ → Option Due → Breach
+with_due rule None = record { rule = rule; has_due = 0; due = 0; got = 0 }
+with_due rule (Some due) = record { rule = rule; has_due = 1; due = due.due; got = due.came }
+
+-- a breach as C sees it, with its numbers 0 where there is none
+abbrev pub flat_breach : Option BreachOf → Breach
+flat_breach None = record { rule = 0; has_due = 0; due = 0; got = 0 }
+flat_breach (Some breach) = with_due (rule_number breach.rule) breach.due

@@ -1,0 +1,207 @@
+//! The checker of the nine rules, in memory of the caller.
+ghost use Rattle.std.specs.Prelude.{◌≡◌, true, false};
+ghost use Rattle.fio_check.specs.Checkers.{checker_with, found_by, new_checker};
+ghost use Rattle.fio_check.specs.Observations.{observation_in};
+ghost use Rattle.fio_c.specs.Checkers.{checker_in, flat_breach, flat_checker, flat_more, more_in, octet_in, rule_number};
+
+use fio_check::{Breach as BreachFound, Checker as CheckerOf, Facts, Rule};
+
+/// A checker. Its fields are the library's own: what it keeps of the frames that it took.
+#[derive(Clone, Copy)]
+#[repr(C)]
+pub struct Checker {
+    /// 1 where a command stands directly above.
+    pub has_awaited: u8,
+    /// The type of the answer to it.
+    pub awaited: u8,
+    /// 1 where it names an input above 63.
+    pub absent_named: u8,
+    /// 1 where a poll stands above.
+    pub has_polled: u8,
+    /// The number of the latest poll.
+    pub polled: u8,
+    /// 1 where the latest poll or block answer is a block answer.
+    pub answered: u8,
+    /// 1 where the latest poll has another number than the poll before it.
+    pub advanced: u8,
+    /// 0 where no block answer stands above, 1 where the latest has no C, 2 where it has.
+    pub more: u8,
+    /// 1 below a breach, until the next poll.
+    pub skips: u8,
+}
+
+/// The first rule that a frame breaks, and what was due.
+#[derive(Clone, Copy)]
+#[repr(C)]
+pub struct Breach {
+    /// 0 none; 1 readable; 2 pair; 3 number; 4 advance; 5 same; 6 sequence; 7 limits; 8 rest;
+    /// 9 refusal.
+    pub rule: u8,
+    /// 1 where `due` and `got` are set: for advance and number, and for pair below a command.
+    pub has_due: u8,
+    /// The number of the poll or the block answer, or the type of the answer, that was due.
+    pub due: u8,
+    /// The one that the frame has.
+    pub got: u8,
+}
+
+/// A frame that keeps the rules.
+const NO_BREACH: Breach = Breach {
+    rule: 0,
+    has_due: 0,
+    due: 0,
+    got: 0,
+};
+
+/// A checker above the first frame. Each octet of the struct is set.
+#[unsafe(no_mangle)]
+pub extern "C" fn fio2070_checker_start(checker: &mut Checker)
+    ensures made { checker_in checker.new ≡ new_checker }
+    ensures octets { checker.new ≡ flat_checker new_checker }
+{
+    keep(&CheckerOf::new(), checker);
+}
+
+/// Takes a frame that the CPU's end sent: writes its breach, each octet of it, and returns the
+/// number of its rule, 0 where it keeps the rules. Below a breach the checker goes on as one that
+/// starts at the next poll.
+#[unsafe(no_mangle)]
+pub extern "C" fn fio2070_checker_sent(
+    checker: &mut Checker,
+    octets: &[u8],
+    breach: &mut Breach,
+) -> u8
+    ensures next { checker_in checker.new ≡ checker_with (checker_in checker.old) (observation_in true octets.now) }
+    ensures breach { breach.new ≡ flat_breach (found_by (checker_in checker.old) (observation_in true octets.now)) }
+    ensures rule { result ≡ breach.new.rule }
+{
+    let mut kept = checker_from(checker);
+    let found = kept.sent(octets);
+    keep(&kept, checker);
+    *breach = breach_from(found);
+    breach.rule
+}
+
+/// Takes a frame that the CPU's end heard, likewise.
+#[unsafe(no_mangle)]
+pub extern "C" fn fio2070_checker_heard(
+    checker: &mut Checker,
+    octets: &[u8],
+    breach: &mut Breach,
+) -> u8
+    ensures next { checker_in checker.new ≡ checker_with (checker_in checker.old) (observation_in false octets.now) }
+    ensures breach { breach.new ≡ flat_breach (found_by (checker_in checker.old) (observation_in false octets.now)) }
+    ensures rule { result ≡ breach.new.rule }
+{
+    let mut kept = checker_from(checker);
+    let found = kept.heard(octets);
+    keep(&kept, checker);
+    *breach = breach_from(found);
+    breach.rule
+}
+
+/// The checker that a struct of C stands for, whatever its octets are.
+fn checker_from(flat: &Checker) -> CheckerOf
+    ensures { result ≡ checker_in flat.now }
+{
+    CheckerOf {
+        facts: Facts {
+            awaited: octet_in(flat.has_awaited, flat.awaited),
+            absent_named: flat.absent_named != 0,
+            polled: octet_in(flat.has_polled, flat.polled),
+            answered: flat.answered != 0,
+            advanced: flat.advanced != 0,
+            more: more_in(flat.more),
+        },
+        skips: flat.skips != 0,
+    }
+}
+
+/// Writes a checker to a struct of C: each octet of it.
+fn keep(checker: &CheckerOf, flat: &mut Checker)
+    ensures octets { flat.new ≡ flat_checker checker.now }
+    ensures kept { checker_in flat.new ≡ checker.now }
+{
+    *flat = flat_from(checker);
+}
+
+/// The struct of C that stands for a checker.
+fn flat_from(checker: &CheckerOf) -> Checker
+    ensures { result ≡ flat_checker checker.now }
+{
+    let facts = &checker.facts;
+    Checker {
+        has_awaited: u8::from(facts.awaited.is_some()),
+        awaited: facts.awaited.unwrap_or(0),
+        absent_named: u8::from(facts.absent_named),
+        has_polled: u8::from(facts.polled.is_some()),
+        polled: facts.polled.unwrap_or(0),
+        answered: u8::from(facts.answered),
+        advanced: u8::from(facts.advanced),
+        more: flat_more(facts.more),
+        skips: u8::from(checker.skips),
+    }
+}
+
+/// A number that there may be.
+fn octet_in(has: u8, octet: u8) -> Option<u8>
+    ensures { result ≡ octet_in has octet }
+{
+    if has == 0 { None } else { Some(octet) }
+}
+
+/// Whether the latest block answer has C.
+fn more_in(more: u8) -> Option<bool>
+    ensures { result ≡ more_in more }
+{
+    if more == 0 { None } else { Some(more != 1) }
+}
+
+/// The same as an octet.
+fn flat_more(more: Option<bool>) -> u8
+    ensures { result ≡ flat_more more }
+{
+    match more {
+        None => 0,
+        Some(false) => 1,
+        Some(true) => 2,
+    }
+}
+
+/// A breach as C sees it.
+fn breach_from(found: Option<BreachFound>) -> Breach
+    ensures { result ≡ flat_breach found }
+{
+    match found {
+        None => NO_BREACH,
+        Some(breach) => {
+            let rule = rule_number(breach.rule);
+            match breach.due {
+                None => Breach { rule, ..NO_BREACH },
+                Some(due) => Breach {
+                    rule,
+                    has_due: 1,
+                    due: due.due,
+                    got: due.came,
+                },
+            }
+        }
+    }
+}
+
+/// The place of a rule in their order, from 1.
+fn rule_number(rule: Rule) -> u8
+    ensures { result ≡ rule_number rule }
+{
+    match rule {
+        Rule::Readable => 1,
+        Rule::Pair => 2,
+        Rule::Number => 3,
+        Rule::Advance => 4,
+        Rule::Same => 5,
+        Rule::Sequence => 6,
+        Rule::Limits => 7,
+        Rule::Rest => 8,
+        Rule::Refusal => 9,
+    }
+}

@@ -1,0 +1,102 @@
+-- The checker, one line at a time: what it finds in a line, and what it keeps.
+use Rattle.std.specs.Prelude.{◌≡◌, ℕ, zero, suc, ◌+◌, ◌<◌, Bool, true, false, List, Option, None, drop, is_some, length, option_map, option_and_then, slice_get, unwrap_or, if◌then◌else◌}
+use Rattle.fio_message.specs.declared.types.TheConstants.{BLOCK_ANSWER}
+use Rattle.fio_check.specs.Facts.{facts_with, no_facts, number_due, number_polled}
+use Rattle.fio_check.specs.Lines.{TranscriptLine}
+use Rattle.fio_check.specs.Observations.{observation_at}
+use Rattle.fio_check.specs.Places.{earliest_above}
+use Rattle.fio_check.specs.Rules.{first_broken}
+use Rattle.fio_check.specs.declared.checker.Breach.{Breach}
+use Rattle.fio_check.specs.declared.checker.Checker.{Checker}
+use Rattle.fio_check.specs.declared.checker.Due.{Due}
+use Rattle.fio_check.specs.declared.facts.Facts.{Facts}
+use Rattle.fio_check.specs.declared.observation.Observation.{Observation}
+use Rattle.fio_check.specs.declared.observation.Observation.TheVariants.{Poll, Block, Answer}
+use Rattle.fio_check.specs.declared.rules.Rule.{Rule}
+use Rattle.fio_check.specs.declared.rules.Rule.TheVariants.{Pair, Number, Advance}
+use Rattle.fio_check.specs.declared.verdict.Verdict.{Verdict}
+use Rattle.fio_check.specs.declared.verdict.Verdict.TheVariants.{Good, Broken}
+
+-- ---- one line
+
+-- what was due, where anything was, and what came
+abbrev pub instead_of : Option ℕ → ℕ → Option Due
+instead_of due came = option_map (λ due. record { due = due; came = came }) due
+
+-- what was due by a rule, below lines of which these facts hold: the type of an answer below a
+-- command, the number of a block answer or of a poll
+abbrev pub due_in : Facts → Observation → Rule → Option Due
+due_in facts (Answer code accepted) Pair = instead_of facts.awaited code
+due_in facts (Block number status entries absent) Pair = instead_of facts.awaited BLOCK_ANSWER
+due_in facts (Block number status entries absent) Number = instead_of facts.polled number
+due_in facts (Poll number) Advance = instead_of (number_due facts) number
+due_in facts observation rule = None
+
+-- the first rule that a line breaks which says this, and what was due
+abbrev pub breach_of : Facts → Observation → Option Breach
+breach_of facts observation =
+    option_map (λ rule. record { rule = rule; due = due_in facts observation rule })
+    (first_broken facts observation)
+
+-- a checker above the first line
+abbrev pub new_checker : Checker
+new_checker = record { facts = no_facts; skips = false }
+
+-- a checker below a breach
+abbrev pub checker_below_breach : Checker
+checker_below_breach = record { facts = no_facts; skips = true }
+
+-- below a breach it passes over each line to the next poll
+abbrev pub passes_over : Checker → Observation → Bool
+passes_over checker (Poll number) = false
+passes_over checker observation = checker.skips
+
+-- what it finds in a line that says this
+abbrev pub found_by : Checker → Observation → Option Breach
+found_by checker observation =
+    if passes_over checker observation then None else breach_of checker.facts observation
+
+-- the checker with a line more
+abbrev pub checker_with : Checker → Observation → Checker
+checker_with checker observation =
+    if passes_over checker observation then checker
+    else (if is_some (breach_of checker.facts observation) then checker_below_breach
+    else (record { facts = facts_with checker.facts observation; skips = false }))
+
+-- ---- all lines
+
+-- the checker that took the lines above a place
+abbrev pub checker_at : List TranscriptLine → ℕ → Checker
+checker_at lines zero = new_checker
+checker_at lines (suc place) =
+    checker_with (checker_at lines place) (observation_at lines place)
+
+-- what it finds in the line at the place
+abbrev pub found_at : List TranscriptLine → ℕ → Option Breach
+found_at lines place = found_by (checker_at lines place) (observation_at lines place)
+
+-- the same as a verdict
+abbrev pub verdict_found_at : List TranscriptLine → ℕ → Option Verdict
+verdict_found_at lines place =
+    option_and_then (λ line. option_map (λ breach. Broken line.number breach.rule) (found_at lines place))
+    (slice_get lines place)
+
+-- the verdict by the first breach that a checker finds
+abbrev pub verdict_of_checker : List TranscriptLine → Verdict
+verdict_of_checker lines =
+    unwrap_or (earliest_above (verdict_found_at lines) (length lines)) (Good (length lines))
+
+-- no poll stands below the one place and above the other
+abbrev pub HasNoPollBetween : List TranscriptLine → ℕ → ℕ → Type 0
+HasNoPollBetween lines above below = (between : ℕ) → above < between → between < below
+    → number_polled (observation_at lines between) ≡ None
+
+-- below a breach nothing is found above the next poll, and from that poll on a checker finds what
+-- one finds that starts there
+pub record GoesOn (lines : List TranscriptLine) : Type 0 where
+  pub passes : (breach place : ℕ) → is_some (found_at lines breach) ≡ true → breach < place
+      → HasNoPollBetween lines breach (suc place) → found_at lines place ≡ None
+  pub starts : (breach poll further : ℕ) → is_some (found_at lines breach) ≡ true → breach < poll
+      → is_some (number_polled (observation_at lines poll)) ≡ true
+      → HasNoPollBetween lines breach poll
+      → found_at lines (poll + further) ≡ found_at (drop poll lines) further

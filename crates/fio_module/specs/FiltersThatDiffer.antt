@@ -1,0 +1,34 @@
+-- How often to poll where the filters of the open inputs differ.
+use Rattle.std.specs.Prelude.{◌≡◌, ℕ, ◌≤◌, [], ◌++◌, length}
+use Rattle.fio_input.specs.Delivery.{NoneIsApplied}
+use Rattle.fio_input.specs.FiltersThatDiffer.{most_reports}
+use Rattle.fio_module.specs.Settings.{Settings, AreInRange}
+use Rattle.fio_module.specs.Life.{Life, filter_events}
+use Rattle.fio_module.specs.Blocks.{waiting_of}
+use Rattle.fio_module.specs.Delivery.{AtEachTime, FewBeyond, NeverTooMany, scans_since_block}
+
+-- Polled often for each: from a time on at which nothing waits, while no configuration is applied, never
+-- more than so many scans lie from one new block to the next; and a block takes all that the open inputs
+-- can report in so many, 1 + (n - 1) / f each, with its own f.
+pub record IsPolledForEach (settings : Settings) (scans : ℕ) (life later : Life) : Type 0 where
+  pub nothing_waits : waiting_of settings life ≡ []
+  pub not_applied : NoneIsApplied (filter_events later)
+  pub often : AtEachTime (λ l. scans_since_block l life ≤ scans) later
+  pub enough : most_reports (filter_events life) scans ≤ settings.per_block
+
+-- then no more wait than a block takes, and none are pushed out
+pub record WaitsForOneBlock (settings : Settings) (life : Life) : Type 0 where
+  pub few_wait : length (waiting_of settings life) ≤ settings.per_block
+  pub few_beyond : FewBeyond settings life
+
+-- So it is at each time; and where never more stood beyond the newest block than may wait, it stays so.
+pub record LosesNoneOfEach (settings : Settings) (life later : Life) : Type 0 where
+  pub each : AtEachTime (λ l. WaitsForOneBlock settings (l ++ life)) later
+  pub stays : NeverTooMany settings life → NeverTooMany settings (later ++ life)
+
+-- polled often for each, the module loses none
+abbrev pub PolledForEachLosesNone : Type 0
+PolledForEachLosesNone =
+    (settings : Settings) (scans : ℕ) (life later : Life) →
+    AreInRange settings → IsPolledForEach settings scans life later →
+    LosesNoneOfEach settings life later

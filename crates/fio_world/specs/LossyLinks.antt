@@ -1,0 +1,134 @@
+-- Links that lose rounds or are down for a while, and catch up again.
+use Rattle.std.specs.Prelude.{◌≡◌, ℕ, ◌+◌, ◌-◌, ◌*◌, ◌≤◌, max, List, [], ◌∷◌, ◌++◌, map, length}
+use Rattle.std.specs.List.{AllByRecursion}
+use Rattle.fio_input.specs.Delivery.{open_inputs, OpenHaveFiltersOf, NoneIsApplied}
+use Rattle.fio_module.specs.Settings.{Settings, standard_settings}
+use Rattle.fio_module.specs.Life.{Life, life_of, loads_of, filter_events}
+use Rattle.fio_module.specs.Log.{entry_of}
+use Rattle.fio_module.specs.Blocks.{waiting_of}
+use Rattle.fio_world.specs.Link.{Machine, Leads}
+use Rattle.fio_world.specs.Claims.{blocks_in}
+use Rattle.fio_world.specs.Pieces.{Got, piece_of}
+use Rattle.fio_world.specs.Delivery.{clean_round}
+use Rattle.fio_world.specs.InTime.{LeadsInTime, timed_item, arrived}
+use Rattle.fio_world.specs.AnyTime.{LacksOnlyYoung}
+
+-- The scans before a clean round, since the one before it ended: so many to a time at which the CPU has
+-- taken all blocks, and so many more to where it begins.
+pub record Pause : Type 0 where
+  pub settled : ℕ
+  pub untaken : ℕ
+
+-- all of them
+abbrev pub scans_of_pause : Pause → ℕ
+scans_of_pause pause = pause.settled + pause.untaken
+
+-- A clean round after such a pause.
+pub record IsRoundAfter (settings : Settings) (first : ℕ) (pause : Pause) (machine last : Machine)
+    : Type 0 where
+  pub between : Machine
+  pub settled : LeadsInTime settings first pause.settled machine between
+  pub all_taken : between.round ≡ length (blocks_in settings between)
+  pub begin : Machine
+  pub untaken : LeadsInTime settings first pause.untaken between begin
+  pub leads : Leads settings first begin (clean_round begin) last
+
+-- Clean rounds after such pauses, newest first, lead from one machine to another.
+abbrev pub RoundsAfter : Settings → ℕ → Machine → List Pause → Machine → Type 0
+RoundsAfter settings first machine [] last = last ≡ machine
+RoundsAfter settings first machine (pause ∷ pauses) last =
+    (done : Machine) × RoundsAfter settings first machine pauses done
+    × IsRoundAfter settings first pause done last
+
+-- By how many scans the blocks are behind at most at the end of these rounds, where each makes up for so
+-- many: by those left and those of the pause, less those that the round makes up for; but by those after
+-- the CPU had last taken all at least, since its block may be as old as that.
+abbrev pub left_behind : ℕ → List Pause → ℕ
+left_behind scans [] = 0
+left_behind scans (pause ∷ pauses) =
+    max (left_behind scans pauses + scans_of_pause pause - scans) pause.untaken
+
+-- when each round begins, they are no more than `most` scans behind
+abbrev pub BeginNear : ℕ → ℕ → List Pause → Type 0
+BeginNear scans most [] = Unit {0}
+BeginNear scans most (pause ∷ pauses) =
+    (left_behind scans pauses + scans_of_pause pause ≤ most) × BeginNear scans most pauses
+
+-- Kept up with: the CPU had taken all blocks and nothing waited. Since then clean rounds came that each
+-- make up for `scans` scans, with blocks never more than `most` behind, as many as the buffer has room
+-- for; and the module has applied no configuration.
+pub record IsKeptUpWith (settings : Settings) (first filter scans most : ℕ)
+    (machine : Machine) (pauses : List Pause) (last : Machine) (later : Life) : Type 0 where
+  pub all_taken : machine.round ≡ length (blocks_in settings machine)
+  pub nothing_waits : waiting_of settings (life_of machine.history) ≡ []
+  -- the filters of the open inputs are at least this
+  pub some : 1 ≤ filter
+  pub filters : OpenHaveFiltersOf (filter_events (life_of machine.history)) filter
+  pub enough :
+      open_inputs (filter_events (life_of machine.history)) * scans
+      ≤ settings.per_block * filter
+  pub room :
+      open_inputs (filter_events (life_of machine.history)) * (most + (filter - 1))
+      ≤ settings.waiting * filter
+  pub near : BeginNear scans most pauses
+  pub rounds : RoundsAfter settings first machine pauses last
+  -- what has happened to the module since then
+  pub since : life_of last.history ≡ later ++ life_of machine.history
+  pub not_applied : NoneIsApplied (filter_events later)
+
+-- What has arrived then at the end of a clean round, and at any time after it.
+pub record ArrivesLate (settings : Settings) (first filter most behind : ℕ) (machine last : Machine)
+    : Type 0 where
+  -- the record has gained the transitions logged since, each once and in order, and no gap mark
+  pub whole :
+      map piece_of last.items
+      ≡ map piece_of machine.items
+      ++ map (λ transition. Got (entry_of transition)) (arrived settings machine last)
+  -- each with its time, where no load of the counter took effect and none can be 65,536 scans late
+  pub times :
+      loads_of (life_of last.history) ≡ loads_of (life_of machine.history)
+      → most + filter ≤ 65537
+      → last.items ≡ machine.items ++ map timed_item (arrived settings machine last)
+  -- n scans after the round, what the record lacks is at most n + behind + f - 2 scans old
+  pub late :
+      (scans : ℕ) (now : Machine) → LeadsInTime settings first scans last now
+      → LacksOnlyYoung (scans + behind) filter settings now
+
+-- Where a link is kept up with, all arrives: whole, and late by no more than the blocks are behind.
+abbrev pub AllArrivesWhereKeptUpWith : Settings → ℕ → Machine → Type 0
+AllArrivesWhereKeptUpWith settings first machine =
+    (filter scans most : ℕ) (pauses : List Pause) (last : Machine) (later : Life) →
+    IsKeptUpWith settings first filter scans most machine pauses last later →
+    ArrivesLate settings first filter most (left_behind scans pauses) machine last
+
+-- a pause of at most so many scans, of which at most so many come after the CPU had last taken all
+pub record IsPauseOf (scans untaken : ℕ) (pause : Pause) : Type 0 where
+  pub few : scans_of_pause pause ≤ scans
+  pub few_untaken : pause.untaken ≤ untaken
+
+-- An outage within a pace: pauses of no more scans than a round makes up for, and one that is longer.
+-- The longest is as many scans as the blocks may be behind, less those through which a lost answer can
+-- keep a block.
+abbrev pub OutagesArePossible : Type 0
+OutagesArePossible =
+    (scans untaken most : ℕ) (later : List Pause) (outage : Pause) (earlier : List Pause) →
+    AllByRecursion (IsPauseOf scans untaken) earlier → IsPauseOf (most - untaken) (most - scans) outage →
+    AllByRecursion (IsPauseOf scans untaken) later → scans + untaken ≤ most →
+    BeginNear scans most (later ++ outage ∷ earlier)
+
+-- Rounds catch up: with pauses of no more scans than a round makes up for, each makes up for the
+-- difference, until the blocks are no more behind than a lost answer keeps them.
+abbrev pub RoundsCatchUp : Type 0
+RoundsCatchUp =
+    (scans pace untaken : ℕ) (later earlier : List Pause) → pace ≤ scans →
+    AllByRecursion (IsPauseOf pace untaken) later →
+    left_behind scans (later ++ earlier)
+    ≤ max (left_behind scans earlier - length later * (scans - pace)) untaken
+
+-- At the standard limits, with filters of 5: a round makes up for 19 scans, and the blocks may be 76
+-- behind.
+abbrev pub StandardLimitsHaveRoom : ℕ → ℕ → Type 0
+StandardLimitsHaveRoom scans most =
+    (id : ℕ) (life : Life) →
+    (open_inputs (filter_events life) * scans ≤ (standard_settings id).per_block * 5)
+    × (open_inputs (filter_events life) * (most + (5 - 1)) ≤ (standard_settings id).waiting * 5)

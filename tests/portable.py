@@ -1,0 +1,177 @@
+#!/usr/bin/env python3
+"""Builds the portable library of `make portable`, and compares what it answers to random frames and lossy links with what
+the library for x86-64 answers: here by each compiler, and on other processors under qemu-user where cross compilers are.
+Two of them are asked for by default, with `--every` all. Last line: `N passed, M failed`."""
+
+import os
+import re
+import shutil
+import subprocess
+import sys
+import tempfile
+
+sys.dont_write_bytecode = True
+
+from support.check import Check
+from support.tables import TOP
+from support.translators import WRONG, changed
+
+PORTABLE = os.path.join(TOP, 'portable')
+TRANSLATOR = os.path.join(TOP, 'tools', 'portable')
+MODULE = os.path.join(TOP, 'crates/fio_c/out/wasm64-unknown-unknown/fio_c.wasm')
+COMPARE = os.path.join(TOP, 'tests/support/c/compare.c')
+STRICT = ['-Wall', '-Wextra', '-Wpedantic', '-Wconversion', '-Werror']
+# By one compiler: each takes long over a file of this size.
+FAULTS = {'gcc': ['-fsanitize=address,undefined', '-fno-sanitize-recover=all']}
+# name, prefix of the compiler, its options, command of qemu-user.
+PROCESSORS = [('powerpc', 'powerpc-linux-gnu-', [], 'qemu-ppc'),
+              ('armhf', 'arm-linux-gnueabihf-', ['-mthumb'], 'qemu-arm'),
+              ('aarch64', 'aarch64-linux-gnu-', [], 'qemu-aarch64'),
+              ('m68k', 'm68k-linux-gnu-', ['-m68020'], 'qemu-m68k'),
+              ('riscv64', 'riscv64-linux-gnu-', [], 'qemu-riscv64'),
+              ('s390x', 's390x-linux-gnu-', [], 'qemu-s390x')]
+USUAL = 2
+# Frames, scripts and seed of a comparison.
+RUN = ['1000', '100', '20261124']
+SHORT = ['-500', '50', '7']
+
+check = Check(every=False)
+room = tempfile.mkdtemp()
+
+
+def run(*words, **settings):
+    return subprocess.run(words, capture_output=True, text=True, errors='replace', timeout=300, cwd=room, **settings)
+
+
+def fault_of(*words):
+    """What a command that fails writes, else nothing."""
+    done = run(*words)
+    return done.stderr[-500:] or 'status %d' % done.returncode if done.returncode else None
+
+
+def path(name):
+    return os.path.join(room, name)
+
+
+def build(compiler, options, name, folder=PORTABLE):
+    """Builds the comparison over a portable library. Returns what failed."""
+    return fault_of(compiler, '-std=c99', *options, '-DFIO2070_TRAP=abort', '-include', 'stdlib.h', '-I', folder, COMPARE,
+                    os.path.join(folder, 'fio2070.c'), '-o', path(name))
+
+
+def differs(command):
+    """The comparison by this command writes what the library for x86-64 does."""
+    done = run(*command, *RUN)
+    if done.returncode:
+        return 'status %d %s' % (done.returncode, done.stderr[-300:])
+    return None if done.stdout == expected else 'another text of %d lines' % done.stdout.count('\n')
+
+
+def translate(header, out, module=MODULE):
+    return run(sys.executable, os.path.join(TRANSLATOR, 'translate'), module, header, out)
+
+
+def refuses(change, words):
+    """The translator stops at a changed header with these words."""
+    with open(os.path.join(TOP, 'include/fio2070.h'), encoding='utf-8') as file:
+        text = change(file.read())
+    with open(path('changed.h'), 'w', encoding='utf-8') as file:
+        file.write(text)
+    done = translate(path('changed.h'), path('refused'))
+    return None if done.returncode and words in done.stderr else 'status %d: %s' % (done.returncode, done.stderr)
+
+
+def is_alone(compiler):
+    """The object needs three functions, and has no data that is written."""
+    fault = fault_of(compiler, '-std=c99', '-Os', '-c', os.path.join(PORTABLE, 'fio2070.c'), '-o', path('alone.o'))
+    names = run('nm', path('alone.o')).stdout
+    others = [line for line in names.splitlines()
+              if re.search(r' [dDbBC] ', line) or re.search(r' U (?!mem(cpy|move|set)$)', line)]
+    return fault or others or None
+
+
+def on_processor(name, prefix, options, qemu):
+    """The comparison on another processor."""
+    return build(prefix + 'gcc', ['-O1', '-static', *options], name) or differs([qemu, path(name)])
+
+
+def others():
+    for place, (name, prefix, options, qemu) in enumerate(PROCESSORS):
+        row = 'frames and links on ' + name
+        missing = [it for it in (prefix + 'gcc', qemu) if not shutil.which(it)]
+        if place >= USUAL and not check.given.every:
+            continue
+        if missing:
+            check.skip(row, 'no %s here (Debian packages gcc-%s and qemu-user)' % (missing[0], prefix[:-1]))
+        else:
+            check.fault(row, on_processor, name, prefix, options, qemu)
+
+
+def archive_for_aarch64():
+    """The archive of `make library TARGET=aarch64` answers alike."""
+    return fault_of('make', '-s', '-C', TOP, 'library', 'TARGET=aarch64') or fault_of(
+        'aarch64-linux-gnu-gcc', '-O1', '-static', '-I', os.path.join(TOP, 'include'), COMPARE,
+        os.path.join(TOP, 'aarch64/libfio2070.a'), '-o', path('archive')) or differs(['qemu-aarch64', path('archive')])
+
+
+def shows():
+    """examples/c/decode.c over the portable library writes what stands beside the examples."""
+    fault = fault_of('gcc', '-O1', '-I', PORTABLE, os.path.join(TOP, 'examples/c/decode.c'),
+                     os.path.join(PORTABLE, 'fio2070.c'), '-o', path('decode'))
+    for name in sorted(os.listdir(os.path.join(TOP, 'examples'))):
+        if not fault and name.endswith('.frames'):
+            with open(os.path.join(TOP, 'examples', name), 'rb') as file:
+                got = subprocess.run([path('decode')], stdin=file, capture_output=True, check=False).stdout
+            with open(os.path.join(TOP, 'examples', name[:-7] + '.shown'), 'rb') as file:
+                fault = None if got == file.read() else name
+    return fault
+
+
+def is_found(wrong):
+    """A wrong translator: what it makes does not compile or does not answer alike."""
+    folder = path('wrong')
+    shutil.rmtree(folder, ignore_errors=True)
+    changed(TRANSLATOR, folder, wrong)
+    done = run(sys.executable, os.path.join(folder, 'translate'), MODULE, os.path.join(TOP, 'include/fio2070.h'), folder)
+    if done.returncode:
+        return 'it was not run: ' + done.stderr
+    if build('gcc', ['-O0', '-w'], 'wrong.run', folder):
+        return 'it does not compile'
+    return None if run('timeout', '20', path('wrong.run'), *SHORT).stdout != wanted else 'the comparison is the same'
+
+
+def wrong_translators():
+    for name, wrong in WRONG:
+        if check.given.every or wrong.usual:
+            check.fault('wrong: ' + name, is_found, wrong)
+
+
+done = run('make', '-s', '-C', TOP, 'portable', 'libfio2070.a')
+check.holds('make portable', done.returncode == 0, done.stderr)
+fault = fault_of('gcc', '-O1', '-I', os.path.join(TOP, 'include'), COMPARE, os.path.join(TOP, 'libfio2070.a'), '-o', path('native'))
+check.holds('the comparison with the library for x86-64', not fault, fault)
+if done.returncode or fault:
+    check.end()
+expected, wanted = (run(path('native'), *words).stdout for words in (RUN, SHORT))
+check.fault('a call that the module does not export is refused', refuses,
+            lambda text: text.replace('uint32_t fio2070_version', 'uint32_t fio2070_absent(void);\nuint32_t fio2070_version'),
+            'the module does not export fio2070_absent')
+check.fault('a call that the header does not declare is refused', refuses,
+            lambda text: text.replace('uint32_t fio2070_version(void);', ''), 'the header does not declare fio2070_version')
+for compiler in ('gcc', 'clang'):
+    if not shutil.which(compiler):
+        check.skip('by ' + compiler, 'no %s here' % compiler)
+        continue
+    check.fault('no warning by ' + compiler, fault_of, compiler, '-std=c99', '-Os', *STRICT, '-c',
+                os.path.join(PORTABLE, 'fio2070.c'), '-o', path('strict.o'))
+    check.fault('alone by ' + compiler, is_alone, compiler)
+    check.fault('frames and links by ' + compiler, lambda by: build(by, ['-O1', *FAULTS.get(by, [])], by) or differs([path(by)]), compiler)
+check.fault('the decoder of the examples', shows)
+others()
+if check.given.every and shutil.which('aarch64-linux-gnu-gcc') and shutil.which('qemu-aarch64'):
+    check.fault('the archive for aarch64', archive_for_aarch64)
+else:
+    check.skip('the archive for aarch64', 'it is proved with --every alone, and runs with gcc-aarch64-linux-gnu and qemu-user')
+wrong_translators()
+shutil.rmtree(room)
+check.end()

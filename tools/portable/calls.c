@@ -1,0 +1,357 @@
+/* The calls of fio2070.h over the translated module. Arguments lie where the caller has them; structs with numbers of
+ * several octets are put into little-endian octets before a call, and taken from them after it. */
+#include <string.h>
+
+#include "fio2070.h"
+
+enum { WINDOWS = 4 };
+
+/* An argument of a call. */
+struct window {
+    uint8_t *octets;
+    uint32_t length;
+    uint8_t is_mutable;
+};
+
+#define MACHINE_FIELDS                \
+    uint8_t *stack;                   \
+    uint32_t stack_size, window_count; \
+    struct window windows[WINDOWS];
+
+@TRANSLATED@
+
+/* Begins a call: its stack and its machine. */
+#define MACHINE(call)                            \
+    struct machine machine;                      \
+    uint8_t stack[STACK_##call + 16];            \
+    machine_globals(&machine);                   \
+    machine.stack = stack;                       \
+    machine.stack_size = sizeof stack - 16;      \
+    machine.window_count = 0
+
+/* Gives the machine an argument, and returns its address there. */
+static uint64_t window(struct machine *m, const void *octets, size_t length, uint8_t is_mutable) {
+    struct window *it = &m->windows[m->window_count++];
+    if (sizeof(size_t) > 4 && length > 0xFFFFFFFFu) length = 0xFFFFFFFFu;
+    it->octets = (uint8_t *)(uintptr_t)octets;
+    it->length = (uint32_t)length;
+    it->is_mutable = is_mutable;
+    return (uint64_t)m->window_count << 32;
+}
+#define READS(octets, length) window(&machine, octets, length, 0)
+#define WRITES(octets, length) window(&machine, octets, length, 1)
+
+static uint16_t get16(const uint8_t *p) { return (uint16_t)(p[0] | p[1] << 8); }
+static uint32_t get32(const uint8_t *p) { return get16(p) | (uint32_t)get16(p + 2) << 16; }
+static uint64_t get64(const uint8_t *p) { return get32(p) | (uint64_t)get32(p + 4) << 32; }
+static void put16(uint8_t *p, uint16_t v) { p[0] = (uint8_t)v; p[1] = (uint8_t)(v >> 8); }
+static void put32(uint8_t *p, uint32_t v) { put16(p, (uint16_t)v); put16(p + 2, (uint16_t)(v >> 16)); }
+static void put64(uint8_t *p, uint64_t v) { put32(p, (uint32_t)v); put32(p + 4, (uint32_t)(v >> 32)); }
+
+/* What the library alone writes is the same octets everywhere; see fio2070.h. */
+#define SAME(name, is, expected) typedef char name[(is) == (expected) ? 1 : -1]
+SAME(size_of_counter, sizeof(struct fio2070_counter), 12);
+SAME(size_of_filters, sizeof(struct fio2070_filters), 216);
+SAME(size_of_module, sizeof(struct fio2070_module), 4112);
+SAME(size_of_outputs, sizeof(struct fio2070_outputs), 16);
+SAME(size_of_item, sizeof(struct fio2070_configuration_item), 4);
+SAME(size_of_entry, sizeof(struct fio2070_entry), 4);
+SAME(size_of_poller, sizeof(struct fio2070_poller), 1);
+
+static struct fio2070_fault fault_in(const uint8_t *p) {
+    struct fio2070_fault fault;
+    memset(&fault, 0, sizeof fault);
+    fault.kind = p[0];
+    fault.code = p[1];
+    fault.needed = get16(p + 2);
+    fault.got = (size_t)get64(p + 8);
+    return fault;
+}
+
+size_t fio2070_fault_text(const struct fio2070_fault *fault, uint8_t *out, size_t room) {
+    uint8_t octets[16] = {0};
+    MACHINE(fio2070_fault_text);
+    octets[0] = fault->kind;
+    octets[1] = fault->code;
+    put16(octets + 2, fault->needed);
+    put64(octets + 8, fault->got);
+    {
+        uint64_t a = READS(octets, 16), b = WRITES(out, room);
+        return (size_t)call_fio2070_fault_text(&machine, a, b, room);
+    }
+}
+
+uint32_t fio2070_version(void) {
+    MACHINE(fio2070_version);
+    return call_fio2070_version(&machine);
+}
+
+/* ---- Blocks ---- */
+
+struct fio2070_fault fio2070_read_block(const uint8_t *octets, size_t length, struct fio2070_block_header *header) {
+    uint8_t fault[16] = {0}, into[8] = {0};
+    MACHINE(fio2070_read_block);
+    {
+        uint64_t a = WRITES(fault, 16), b = READS(octets, length), c = WRITES(into, 8);
+        call_fio2070_read_block(&machine, a, b, length, c);
+    }
+    if (fault[0] == FIO2070_NO_FAULT) {
+        memset(header, 0, sizeof *header);
+        header->number = into[0];
+        header->status = into[1];
+        header->count = into[2];
+        header->stamp = get32(into + 4);
+    }
+    return fault_in(fault);
+}
+
+/* Entries that the module wrote, in the processor's own order of octets. */
+static void settle_entries(struct fio2070_entry *entries, size_t count) {
+    size_t place;
+    for (place = 0; place < count; place++) entries[place].stamp = get16((const uint8_t *)&entries[place].stamp);
+}
+
+size_t fio2070_block_entries(const uint8_t *octets, size_t length, struct fio2070_entry *entries, size_t room) {
+    size_t count;
+    MACHINE(fio2070_block_entries);
+    {
+        uint64_t a = READS(octets, length), b = WRITES(entries, room * sizeof *entries);
+        count = (size_t)call_fio2070_block_entries(&machine, a, length, b, room);
+    }
+    if (count <= room) settle_entries(entries, count);
+    return count;
+}
+
+uint32_t fio2070_widen(uint32_t answer_stamp, uint16_t stamp) {
+    MACHINE(fio2070_widen);
+    return call_fio2070_widen(&machine, answer_stamp, stamp);
+}
+
+/* ---- Any message ---- */
+
+struct fio2070_fault fio2070_decode_command(const uint8_t *octets, size_t length, struct fio2070_command *command) {
+    uint8_t fault[16] = {0}, into[28] = {0};
+    MACHINE(fio2070_decode_command);
+    {
+        uint64_t a = WRITES(fault, 16), b = READS(octets, length), c = WRITES(into, 28);
+        call_fio2070_decode_command(&machine, a, b, length, c);
+    }
+    if (fault[0] == FIO2070_NO_FAULT) {
+        memset(command, 0, sizeof *command);
+        command->code = into[0];
+        command->clear = into[1];
+        command->block = into[2];
+        command->timeout = into[3];
+        command->count = into[4];
+        command->body = get16(into + 6);
+        command->load = get32(into + 8);
+        memcpy(command->levels, into + 12, 8);
+        memcpy(command->controls, into + 20, 8);
+    }
+    return fault_in(fault);
+}
+
+size_t fio2070_command_items(const uint8_t *octets, size_t length, struct fio2070_configuration_item *items,
+                             size_t room) {
+    MACHINE(fio2070_command_items);
+    uint64_t a = READS(octets, length), b = WRITES(items, room * sizeof *items);
+    return (size_t)call_fio2070_command_items(&machine, a, length, b, room);
+}
+
+struct fio2070_fault fio2070_decode_answer(const uint8_t *octets, size_t length, struct fio2070_answer *answer) {
+    uint8_t fault[16] = {0}, into[24] = {0};
+    MACHINE(fio2070_decode_answer);
+    {
+        uint64_t a = WRITES(fault, 16), b = READS(octets, length), c = WRITES(into, 24);
+        call_fio2070_decode_answer(&machine, a, b, length, c);
+    }
+    if (fault[0] == FIO2070_NO_FAULT) {
+        memset(answer, 0, sizeof *answer);
+        answer->code = into[0];
+        answer->flags = into[1];
+        answer->receive_errors = into[2];
+        answer->transmit_errors = into[3];
+        answer->status = into[4];
+        answer->block = into[5];
+        answer->count = into[6];
+        answer->body = get16(into + 8);
+        answer->stamp = get32(into + 12);
+        answer->inputs = get64(into + 16);
+    }
+    return fault_in(fault);
+}
+
+/* ---- Writing: calls that take numbers, and octets to write to ---- */
+
+#define ENCODES(name, takes, ...)                                          \
+    size_t fio2070_##name takes {                                          \
+        MACHINE(fio2070_##name);                                           \
+        {                                                                  \
+            uint64_t to = WRITES(out, room);                               \
+            return (size_t)call_fio2070_##name(&machine, __VA_ARGS__);     \
+        }                                                                  \
+    }
+
+ENCODES(encode_status, (uint8_t clear, uint8_t *out, size_t room), clear, to, room)
+ENCODES(encode_load_counter, (uint32_t load, uint8_t *out, size_t room), load, to, room)
+ENCODES(encode_raw_inputs, (uint8_t *out, size_t room), to, room)
+ENCODES(encode_filtered_inputs, (uint8_t *out, size_t room), to, room)
+ENCODES(encode_poll, (uint8_t block, uint8_t *out, size_t room), block, to, room)
+ENCODES(encode_watchdog, (uint8_t timeout, uint8_t *out, size_t room), timeout, to, room)
+ENCODES(encode_identify, (uint8_t *out, size_t room), to, room)
+ENCODES(encode_status_answer,
+        (uint8_t flags, uint8_t receive_errors, uint8_t transmit_errors, uint32_t stamp, uint8_t *out, size_t room),
+        flags, receive_errors, transmit_errors, stamp, to, room)
+ENCODES(encode_load_counter_answer, (uint8_t status, uint8_t *out, size_t room), status, to, room)
+ENCODES(encode_configure_inputs_answer, (uint8_t status, uint8_t *out, size_t room), status, to, room)
+ENCODES(encode_raw_inputs_answer, (uint64_t inputs, uint32_t stamp, uint8_t *out, size_t room), inputs, stamp, to, room)
+ENCODES(encode_filtered_inputs_answer, (uint64_t inputs, uint32_t stamp, uint8_t *out, size_t room), inputs, stamp, to,
+        room)
+ENCODES(encode_watchdog_answer, (uint8_t status, uint8_t *out, size_t room), status, to, room)
+ENCODES(encode_configure_inputs,
+        (const struct fio2070_configuration_item *items, size_t count, uint8_t *out, size_t room),
+        READS(items, count * sizeof *items), count, to, room)
+ENCODES(encode_set_outputs, (const uint8_t levels[8], const uint8_t controls[8], uint8_t *out, size_t room),
+        READS(levels, 8), READS(controls, 8), to, room)
+ENCODES(encode_other_command, (uint8_t code, const uint8_t *body, size_t length, uint8_t *out, size_t room), code,
+        READS(body, length), length, to, room)
+ENCODES(encode_other_answer, (uint8_t code, const uint8_t *body, size_t length, uint8_t *out, size_t room), code,
+        READS(body, length), length, to, room)
+ENCODES(poller_poll, (const struct fio2070_poller *poller, uint8_t *out, size_t room), READS(poller, 1), to, room)
+
+size_t fio2070_encode_block_answer(uint8_t block, const struct fio2070_entry *entries, size_t count, uint8_t status,
+                                   uint32_t stamp, uint8_t *out, size_t room) {
+    MACHINE(fio2070_encode_block_answer);
+    /* Entries in the module's order of octets. Of more than 255 it reads none; a window that ends there would show it. */
+    static const uint16_t one = 1;
+    uint8_t octets[FIO2070_MOST_ENTRIES * 4];
+    uint64_t from, to = WRITES(out, room);
+    if (*(const uint8_t *)&one) {
+        from = READS(entries, count * sizeof *entries);
+    } else {
+        size_t place, most = count < FIO2070_MOST_ENTRIES ? count : FIO2070_MOST_ENTRIES;
+        for (place = 0; place < most; place++) {
+            octets[4 * place] = entries[place].input;
+            octets[4 * place + 1] = entries[place].state;
+            put16(octets + 4 * place + 2, entries[place].stamp);
+        }
+        from = READS(octets, 4 * most);
+    }
+    return (size_t)call_fio2070_encode_block_answer(&machine, block, from, count, status, stamp, to, room);
+}
+
+/* ---- The CPU's end ---- */
+
+struct fio2070_heard fio2070_poller_hear(struct fio2070_poller *poller, const uint8_t *octets, size_t length,
+                                         struct fio2070_record_item *items, size_t room) {
+    uint8_t into[24] = {0};
+    struct fio2070_heard heard;
+    size_t place;
+    /* Where the ABI packs items more tightly, as m68k's does, they are not written in place. */
+    enum { IS_SAME = sizeof(struct fio2070_record_item) == 12 };
+    uint8_t apart[IS_SAME ? 1 : 12 * FIO2070_MOST_RECORD_ITEMS];
+    const uint8_t *from = IS_SAME ? (const uint8_t *)items : apart;
+    MACHINE(fio2070_poller_hear);
+    if (!IS_SAME && room > FIO2070_MOST_RECORD_ITEMS) room = FIO2070_MOST_RECORD_ITEMS;
+    {
+        uint64_t a = WRITES(into, 24), b = WRITES(poller, 1), c = READS(octets, length),
+                 d = WRITES(from, room * 12);
+        call_fio2070_poller_hear(&machine, a, b, c, length, d, room);
+    }
+    memset(&heard, 0, sizeof heard);
+    heard.kind = into[0];
+    heard.code = into[1];
+    heard.number = into[2];
+    heard.status = into[3];
+    heard.entries = into[4];
+    heard.items = get16(into + 6);
+    heard.fault = fault_in(into + 8);
+    for (place = 0; heard.kind == FIO2070_TAKEN && place < heard.items; place++) {
+        struct fio2070_record_item *it = &items[place];
+        const uint8_t *octets_of_it = from + 12 * place;
+        uint16_t stamp = get16(octets_of_it + 4);
+        uint32_t wide = get32(octets_of_it + 8);
+        it->gap = octets_of_it[0];
+        it->input = octets_of_it[1];
+        it->state = octets_of_it[2];
+        it->stamp = stamp;
+        it->wide = wide;
+    }
+    return heard;
+}
+
+/* ---- Parts of a module, and the module ---- */
+
+/* Calls over a struct of the library's own. */
+#define OVER(part, name, constness, result, returns, takes, ...)                                   \
+    result fio2070_##part##_##name takes {                                                         \
+        MACHINE(fio2070_##part##_##name);                                                          \
+        {                                                                                          \
+            uint64_t it = window(&machine, part, sizeof *part, constness);                         \
+            returns call_fio2070_##part##_##name(&machine, __VA_ARGS__);                           \
+        }                                                                                          \
+    }
+
+OVER(counter, start, 1, void, , (struct fio2070_counter * counter), it)
+OVER(counter, tick, 1, void, , (struct fio2070_counter * counter), it)
+OVER(counter, ask_load, 1, void, , (struct fio2070_counter * counter, uint32_t number), it, number)
+OVER(counter, line_sync, 1, void, , (struct fio2070_counter * counter), it)
+OVER(counter, now, 0, uint32_t, return, (const struct fio2070_counter *counter), it)
+
+/* Where fio2070_checker_start is declared: */
+OVER(checker, start, 1, void, , (struct fio2070_checker * checker), it)
+OVER(checker, sent, 1, uint8_t, return (uint8_t),
+     (struct fio2070_checker * checker, const uint8_t *octets, size_t length, struct fio2070_breach *breach), it,
+     READS(octets, length), length, WRITES(breach, sizeof *breach))
+OVER(checker, heard, 1, uint8_t, return (uint8_t),
+     (struct fio2070_checker * checker, const uint8_t *octets, size_t length, struct fio2070_breach *breach), it,
+     READS(octets, length), length, WRITES(breach, sizeof *breach))
+/* So far. */
+
+OVER(filters, start, 1, void, , (struct fio2070_filters * filters), it)
+OVER(filters, scan, 1, uint64_t, return, (struct fio2070_filters * filters, uint64_t raw), it, raw)
+OVER(filters, filtered, 0, uint64_t, return, (const struct fio2070_filters *filters), it)
+OVER(filters, raw, 0, uint64_t, return, (const struct fio2070_filters *filters), it)
+
+struct fio2070_configured fio2070_filters_configure(struct fio2070_filters *filters,
+                                                    const struct fio2070_configuration_item *items, size_t count) {
+    uint8_t into[16] = {0};
+    struct fio2070_configured configured;
+    MACHINE(fio2070_filters_configure);
+    {
+        uint64_t a = WRITES(into, 16), b = WRITES(filters, sizeof *filters), c = READS(items, count * sizeof *items);
+        call_fio2070_filters_configure(&machine, a, b, c, count);
+    }
+    memset(&configured, 0, sizeof configured);
+    configured.kind = into[0];
+    configured.place = (size_t)get64(into + 8);
+    return configured;
+}
+
+OVER(module, start, 1, uint8_t, return (uint8_t), (struct fio2070_module * module, uint8_t id, uint8_t per_block), it, id,
+     per_block)
+OVER(module, restart, 1, void, , (struct fio2070_module * module), it)
+OVER(module, scan, 1, void, , (struct fio2070_module * module, uint64_t raw), it, raw)
+OVER(module, line_sync, 1, void, , (struct fio2070_module * module), it)
+OVER(module, raise, 1, void, , (struct fio2070_module * module, uint8_t mask), it, mask)
+OVER(module, watchdog_ms, 0, uint8_t, return (uint8_t), (const struct fio2070_module *module), it)
+OVER(module, counter, 0, uint32_t, return, (const struct fio2070_module *module), it)
+OVER(module, filtered, 0, uint64_t, return, (const struct fio2070_module *module), it)
+OVER(module, waiting, 0, size_t, return (size_t), (const struct fio2070_module *module), it)
+
+struct fio2070_outputs fio2070_module_outputs(const struct fio2070_module *module) {
+    struct fio2070_outputs outputs = {{0}, {0}};
+    MACHINE(fio2070_module_outputs);
+    {
+        uint64_t a = WRITES(&outputs, sizeof outputs), b = READS(module, sizeof *module);
+        call_fio2070_module_outputs(&machine, a, b);
+    }
+    return outputs;
+}
+
+size_t fio2070_module_receive(struct fio2070_module *module, const uint8_t *octets, size_t length,
+                              uint8_t out[FIO2070_LONGEST_FRAME]) {
+    MACHINE(fio2070_module_receive);
+    uint64_t a = WRITES(module, sizeof *module), b = READS(octets, length), c = WRITES(out, FIO2070_LONGEST_FRAME);
+    return (size_t)call_fio2070_module_receive(&machine, a, b, length, c);
+}
