@@ -10,8 +10,14 @@ use Rattle.fio_c.proofs.Overwriting.{overwritten-more}
 -- a buffer that is written into is as long as before
 length-overwritten : (place : ℕ) (octets before : List ℕ) → place + length octets ≤ length before → length (overwritten place octets before) ≡ length before
 length-overwritten place octets before room =
-    omega (arith, room, length-append (take place before) (octets ++ drop (place + length octets) before), length-append octets (drop (place + length octets) before),
-      length-take-le place before (omega (arith, room)), length-drop (place + length octets) before)
+    omega (
+      arith,
+      room,
+      length-append (take place before) (octets ++ drop (place + length octets) before),
+      length-append octets (drop (place + length octets) before),
+      length-take-le place before (omega (arith, room)),
+      length-drop (place + length octets) before,
+    )
 
 -- no octets
 pub none : (text : List ℕ) (place : ℕ) → Appends [] text text place place

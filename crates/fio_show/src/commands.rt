@@ -14,10 +14,7 @@ use fio_message::{BodyView, CommandView, ItemsView};
 /// it.
 // Inlined, as it is called for each frame of a capture.
 #[inline(always)]
-pub(crate) fn put_command<'a>(
-    line: &mut [u8; 128],
-    command: CommandView<'a>,
-) -> (usize, Rest<'a>)
+pub(crate) fn put_command<'a>(line: &mut [u8; 128], command: CommandView<'a>) -> (usize, Rest<'a>)
     ensures start { result.0 ≤ 128 }
     ensures text { drop result.0 line.new ++ rest_text result.1 ≡ command_text (command_of command.entry) }
 {
@@ -49,11 +46,7 @@ fn put_configuration<'a>(line: &mut [u8; 128], items: ItemsView<'a>) -> (usize, 
 }
 
 /// Puts the beginning of the line for a message that is not read further than its type.
-pub(crate) fn put_other<'a>(
-    line: &mut [u8; 128],
-    code: u8,
-    body: BodyView<'a>,
-) -> (usize, Rest<'a>)
+pub(crate) fn put_other<'a>(line: &mut [u8; 128], code: u8, body: BodyView<'a>) -> (usize, Rest<'a>)
     ensures start { result.0 ≤ 128 }
     ensures text { drop result.0 line.new ++ rest_text result.1 ≡ other_text code (body_of body.entry) }
 {

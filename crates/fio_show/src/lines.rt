@@ -93,11 +93,7 @@ pub(crate) fn put_flags(
 
 /// The line for an answer that has a status alone, behind its name of at most 40 octets.
 #[inline(always)]
-pub(crate) fn put_status<const N: usize>(
-    line: &mut [u8; 128],
-    name: &[u8; N],
-    status: u8,
-) -> usize
+pub(crate) fn put_status<const N: usize>(line: &mut [u8; 128], name: &[u8; N], status: u8) -> usize
     requires { N ≤ 40 }
     ensures start { result ≤ 128 }
     ensures text { drop result line.new ≡ status_text name.now status }

@@ -11,8 +11,8 @@ returns-in-Ok c =
     subst (λ text. Appends text c.args.text.now c.append_rest.new.text 0 c.append_rest.result)
     (sym (ap lines_or_fault c.in-Ok.ensures.text))
     (both _ _ _ _ _ _ _ _ (subst (λ line. Appends line c.args.text.now c.append-place.new.text 0 c.append-place.result)
-      (take_all (128 - c.in-Ok.start) (drop c.in-Ok.start c.put_frame.new.line)
-      (omega (arith, c.in-Ok.ensures.start, c.put_frame.array_long, length-drop c.in-Ok.start c.put_frame.new.line))) c.append-place.ensures) c.append_rest.ensures)
+    (take_all (128 - c.in-Ok.start) (drop c.in-Ok.start c.put_frame.new.line)
+    (omega (arith, c.in-Ok.ensures.start, c.put_frame.array_long, length-drop c.in-Ok.start c.put_frame.new.line))) c.append-place.ensures) c.append_rest.ensures)
 
 pub returns-in-Err : goal.returns-in-Err
 returns-in-Err c =

@@ -32,6 +32,6 @@ returns g c =
       room = omega (arith, copied, length-take (start + 64 - start) (drop start line), length-drop start line, c.put_front-start.ensures.start);
       within = within;
       line = ap (λ n. take count (take n (drop start line))) copied
-        ∙ take-take count 64 (drop start line) within
-        ∙ line-part margin entry.input entry.level line room (scan_ending entry.stamp c.args.wide) start inside.ending is ends (omega (arith, starts, long));
+          ∙ take-take count 64 (drop start line) within
+          ∙ line-part margin entry.input entry.level line room (scan_ending entry.stamp c.args.wide) start inside.ending is ends (omega (arith, starts, long));
     }
