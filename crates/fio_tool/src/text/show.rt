@@ -120,6 +120,8 @@ fn push_items(
 }
 
 /// Appends the lines of the entries of a block answer with this stamp.
+// Not inlined, so that the loop has the registers for itself.
+#[inline(never)]
 fn push_entries(text: &mut Vec<u8>, entries: EntriesView<'_>, stamp: u32) -> Result<(), AllocError>
     ensures { OnOk result (text.new.items
         ≡ text.old.items ++ flat_map (entry_text stamp) (entries_of entries.entry)) }
