@@ -234,6 +234,12 @@ size_t fio2070_command_items(const uint8_t *octets, size_t length, struct fio207
 /* Reads any answer. After a fault `answer` is unchanged. */
 struct fio2070_fault fio2070_decode_answer(const uint8_t *octets, size_t length, struct fio2070_answer *answer);
 
+/* Returns how many octets `fio2070 show` writes of a frame, with a line feed behind each line and no octet of 0, and
+ * writes them to the front of `text`: the lines of the message, of an answer where the first octet is 128 or more, else
+ * of a command; where it is none the words of the fault. Where `room` is smaller it writes none; the rest of `text` is
+ * unchanged. */
+size_t fio2070_show(const uint8_t *octets, size_t length, uint8_t *text, size_t room);
+
 /* ---- Writing commands (TEES 2009) ---- */
 
 /* 49, request module status: clears the flags whose bits are one. 2 octets. */

@@ -144,6 +144,14 @@ inline std::vector<ConfigurationItem> command_items(Octets octets) {
     return items;
 }
 
+/// What `fio2070 show` writes of a frame, or the words of its fault and a line feed.
+inline std::string show(Octets octets) {
+    std::uint8_t none;
+    std::string text(::fio2070_show(octets.data(), octets.size(), &none, 0), '\0');
+    ::fio2070_show(octets.data(), octets.size(), reinterpret_cast<std::uint8_t *>(&text[0]), text.size());
+    return text;
+}
+
 /// The octets after the type of a message with a body.
 inline Octets body(Octets octets) { return octets.empty() ? octets : Octets(octets.data() + 1, octets.size() - 1); }
 

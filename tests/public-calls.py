@@ -15,7 +15,7 @@ from support.stanzas import stanzas_of
 # What they return is the only value of its type that there is, so no wrong body can be written.
 ALONE = ['World::module', 'World::poller']
 
-LIBRARIES = ['fio_message', 'fio_input', 'fio_module', 'fio_cpu', 'fio_check', 'fio_world', 'fio_tool', 'fio_c']
+LIBRARIES = ['fio_message', 'fio_input', 'fio_module', 'fio_cpu', 'fio_check', 'fio_show', 'fio_world', 'fio_tool', 'fio_c']
 
 
 def exported(sources, path):

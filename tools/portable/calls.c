@@ -81,6 +81,14 @@ size_t fio2070_fault_text(const struct fio2070_fault *fault, uint8_t *out, size_
     }
 }
 
+size_t fio2070_show(const uint8_t *octets, size_t length, uint8_t *text, size_t room) {
+    MACHINE(fio2070_show);
+    {
+        uint64_t a = READS(octets, length), b = WRITES(text, room);
+        return (size_t)call_fio2070_show(&machine, a, length, b, room);
+    }
+}
+
 uint32_t fio2070_version(void) {
     MACHINE(fio2070_version);
     return call_fio2070_version(&machine);

@@ -49,6 +49,14 @@ def decode_command(octets: Octets) -> Command:
                    [ConfigurationItem(one.input, bool(one.ignore), one.leading, one.trailing) for one in items[:count]])
 
 
+def show(octets: Octets) -> str:
+    """What `fio2070 show` writes of a frame, or the words of its fault and a line feed."""
+    octets = bytes(octets)
+    text = (c.c_uint8 * c.library.fio2070_show(octets, len(octets), (c.c_uint8 * 1)(), 0))()
+    c.library.fio2070_show(octets, len(octets), text, len(text))
+    return bytes(text).decode('ascii')
+
+
 def decode_answer(octets: Octets) -> Answer:
     """The answer that the octets spell. Raises Fault where they spell none."""
     octets = bytes(octets)

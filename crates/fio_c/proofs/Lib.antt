@@ -1,3 +1,4 @@
+pub mod Appending
 pub mod Found
 pub mod Needs
 pub mod Overwriting

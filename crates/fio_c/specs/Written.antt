@@ -16,6 +16,13 @@ abbrev pub overwritten : ℕ → List ℕ → List ℕ → List ℕ
 overwritten place octets before =
     take place before ++ (octets ++ drop (place + length octets) before)
 
+-- Octets are written from the place on where there is room for them, and end at the other place.
+pub record Appends (octets before after : List ℕ) (place end : ℕ) : Type 0 where
+  -- where they end, with room or without
+  pub counted : end ≡ place + length octets
+  -- where there is room the rest of the buffer is unchanged
+  pub written : end ≤ length before → after ≡ overwritten place octets before
+
 -- nothing is written, and the count is 0
 abbrev pub WritesNothing : List ℕ → List ℕ → ℕ → Type 0
 WritesNothing before after count = (count ≡ 0) × (after ≡ before)

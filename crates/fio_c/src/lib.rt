@@ -10,6 +10,7 @@
 //! | read a block answer in place | `fio2070_read_block`, `fio2070_block_entries` |
 //! | read any message | `fio2070_decode_command`, `fio2070_command_items`, `fio2070_decode_answer` |
 //! | write a message | `fio2070_encode_..` |
+//! | write what `show` writes of a message | `fio2070_show` |
 //! | be the CPU's end | `fio2070_poller_poll`, `fio2070_poller_hear` |
 //! | be the module | `fio2070_module_..` |
 //! | say which library it is | `fio2070_version` |
@@ -31,5 +32,6 @@ mod faults;
 mod filters;
 mod module;
 mod poller;
+mod show;
 mod version;
 mod written;

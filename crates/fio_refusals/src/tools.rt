@@ -1,10 +1,10 @@
 //! The four tools, over texts, over a reader and a writer, and as the program runs them.
 use crate::answers::Answer;
-use crate::samples::{FRAMES, LOST_ANSWER, LOST_ANSWER_REPORT, SHOWN, RECORD, TRANSCRIPT, VERDICT};
+use crate::samples::{FRAMES, LOST_ANSWER, LOST_ANSWER_REPORT, RECORD, SHOWN, TRANSCRIPT, VERDICT};
 use fio_message::Memory;
 use fio_tool::{
-    Ending, Tool, ToolFault, check, check_text, record, record_text, run_program, show, show_text, simulate,
-    simulate_text,
+    Ending, Tool, ToolFault, check, check_text, record, record_text, run_program, show, show_text,
+    simulate, simulate_text,
 };
 use std::alloc::Global;
 

@@ -4,8 +4,6 @@
 pub mod Program
 pub mod CommandLine
 pub mod Show
-pub mod ShowCommands
-pub mod ShowAnswers
 pub mod Simulate
 pub mod Check
 pub mod Record

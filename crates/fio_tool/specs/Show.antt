@@ -1,32 +1,10 @@
 -- What `show` writes of a text: each line that says something is octets in hexadecimal digits.
-use Rattle.std.specs.Prelude.{ℕ, Bool, List, ◌&&◌, codes, nat_le, not, if◌then◌else◌, slice_index_or, Option, Some, None, Result, Ok, Err, is_ok}
+use Rattle.std.specs.Prelude.{ℕ, Bool, List, ◌&&◌, codes, not, if◌then◌else◌, Option, Some, None, Result, Ok, Err, is_ok}
 use Rattle.std.specs.List.{flat_map, list_all}
-use Rattle.fio_message.specs.Decoding.{decoded_command, decoded_answer}
-use Rattle.fio_message.specs.Texts.{fault_text}
-use Rattle.fio_message.specs.declared.faults.DecodeError.{DecodeError}
+use Rattle.fio_show.specs.FrameLines.{shown_frame}
 use Rattle.fio_world.specs.Hexadecimal.{octets_in}
 use Rattle.fio_world.specs.Lines.{lines_of, numbered}
 use Rattle.fio_tool.specs.InputFaults.{is_too_long, too_long_text, line_fault_text}
-use Rattle.fio_tool.specs.ShowAnswers.{answer_text}
-use Rattle.fio_tool.specs.ShowCommands.{command_text}
-
--- the lines for a message, or the words of the fault of its octets
-abbrev pub shown : {M : Type 0} → (M → List ℕ) → Result M DecodeError → Result (List ℕ) (List ℕ)
-shown text (Ok message) = Ok (text message)
-shown text (Err fault) = Err (fault_text fault)
-
--- the lines of the command that octets spell, or the words of their fault
-abbrev pub shown_command : List ℕ → Result (List ℕ) (List ℕ)
-shown_command octets = shown command_text (decoded_command octets)
-
--- the lines of the answer that octets spell, or the words of their fault
-abbrev pub shown_answer : List ℕ → Result (List ℕ) (List ℕ)
-shown_answer octets = shown answer_text (decoded_answer octets)
-
--- the lines for a frame: an answer where its first octet is 128 or more, else a command
-abbrev pub shown_frame : List ℕ → Result (List ℕ) (List ℕ)
-shown_frame octets =
-    if nat_le 128 (slice_index_or octets 0 0) then shown_answer octets else shown_command octets
 
 -- the lines for the octets of a line, or why there are none
 abbrev pub shown_octets : Option (List ℕ) → Result (List ℕ) (List ℕ)

@@ -9,7 +9,7 @@
 //!
 //! The definitions stand in `specs/`. `Program` comes first: the text that each tool writes for an
 //! input, and the exit status; below it the command line (`CommandLine`). The four texts are `Show`
-//! above the lines of each message (`ShowCommands`, `ShowAnswers`); `Simulate`; `Check`
+//! above the lines of each frame (`FrameLines` of `fio_show`); `Simulate`; `Check`
 //! above the lines of a transcript (`Transcript`), whose rules and verdict are those of `fio_check`; and
 //! `Record`, what the CPU of a transcript recorded.
 //! What is reported of an input with a fault is in `InputFaults`, what is read and written in `Streams`. The

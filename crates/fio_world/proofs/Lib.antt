@@ -3,8 +3,6 @@ pub mod CollectedLemmas
 pub mod DigitLemmas
 pub mod OctetLemmas
 pub mod FrameWords
-pub mod RoomLemmas
-pub mod EndingLemmas
 pub mod Places
 pub mod SentMessages
 pub mod RoundNumbers

@@ -1,8 +1,8 @@
--- Octets as hexadecimal digits of either case, two for each octet.
-use Rattle.std.specs.Prelude.{ℕ, List, [], ◌∷◌, Option, None, option_map, length, slice_index, ◌==◌, if◌then◌else◌}
+-- Octets read from hexadecimal digits of either case, two for each octet.
+use Rattle.std.specs.Prelude.{ℕ, List, Option, None, option_map, length, slice_index, ◌==◌, if◌then◌else◌}
 use Rattle.std.specs.Result.{result_ok}
 use Rattle.std.specs.Int.{w64, from_le_bytes}
-use Rattle.hex.specs.Hex.{decode_of, decode_sized, encode_lower}
+use Rattle.hex.specs.Hex.{decode_of, decode_sized}
 
 -- HEX: the octets that an even number of digits name, at least two
 abbrev pub octets_in : List ℕ → Option (List ℕ)
@@ -15,11 +15,3 @@ octet_of word = option_map (λ octets. slice_index octets 0) (result_ok (decode_
 -- H16: the levels that exactly sixteen digits name, input 0 in the lowest bit of the first octet
 abbrev pub inputs_of : List ℕ → Option ℕ
 inputs_of word = option_map (from_le_bytes w64) (result_ok (decode_sized word 8))
-
--- the digits that octets are written with, in lower case, two for each
-unfoldable pub digits_of : List ℕ → List ℕ
-digits_of octets = encode_lower octets
-
--- the two digits of an octet
-unfoldable pub octet_digits : ℕ → List ℕ
-octet_digits octet = encode_lower (octet ∷ [])

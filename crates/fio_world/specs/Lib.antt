@@ -12,7 +12,6 @@ pub mod EventLines
 pub mod Steps
 pub mod Scripts
 pub mod Faults
-pub mod EntryLines
 pub mod ReportLines
 pub mod Reports
 -- what is claimed of every run

@@ -10,13 +10,13 @@ use Rattle.fio_module.specs.Blocks.{waiting_of}
 use Rattle.fio_module.specs.Life.{life_of, counter_of}
 use Rattle.fio_module.specs.Settings.{Settings}
 use Rattle.fio_world.specs.Faults.{refusal_text}
-use Rattle.fio_world.specs.Hexadecimal.{digits_of, octet_digits}
+use Rattle.fio_show.specs.Digits.{digits_of, octet_digits}
 use Rattle.fio_world.specs.declared.outcome.Outcome.{Outcome}
 use Rattle.fio_world.specs.declared.outcome.Outcome.TheVariants as outcomes
 use Rattle.fio_world.specs.declared.outcome.WorldError.{WorldError}
 use Rattle.fio_world.specs.declared.outcome.WorldError.TheVariants as errors
 use Rattle.fio_world.specs.Link.{Machine, Refusal, NotSent, OutOfOrder, PollIsOurs, number_of}
-use Rattle.fio_world.specs.EntryLines.{entry_line}
+use Rattle.fio_show.specs.EntryLines.{entry_line}
 
 -- ---- one event
 

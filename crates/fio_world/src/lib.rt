@@ -9,7 +9,7 @@
 //! (`Lines`), the words of a line (`Words`), octets as hexadecimal digits (`Hexadecimal`), readings of
 //! which the first fault decides (`Collected`), forms of lines (`Forms`), a script's first line
 //! (`Headers`), its further lines (`EventLines`), the steps that they are kept as (`Steps`), scripts
-//! (`Scripts`), the words of faults (`Faults`), the line of an entry (`EntryLines`), the lines of a report
+//! (`Scripts`), the words of faults (`Faults`), the lines of a report
 //! (`ReportLines`), reports (`Reports`). What is claimed of every run: polls and block answers among the
 //! frames (`Frames`), the record as pieces of the transition log (`Pieces`), the headline (`Headline`),
 //! what else is promised (`Claims`), the order of rounds that it rests on (`Rounds`), the rising record,

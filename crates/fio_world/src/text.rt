@@ -1,6 +1,5 @@
 //! What the texts of the program share: lines and words, how they are read, and what is printed.
 
-mod entry_lines;
 mod faults;
 mod lines;
 mod numbering;
@@ -10,7 +9,6 @@ mod report;
 mod words;
 mod writing;
 
-pub use entry_lines::EntryLines;
 pub use faults::BadLine;
 pub use lines::{is_skipped, split_line};
 pub use numbering::{NumberedLines, numbered_lines};
@@ -21,7 +19,4 @@ pub use words::{
     after_prefix, read_inputs, read_number, read_octet, read_octets, read_small_number,
     split_at_blank,
 };
-pub use writing::{
-    append_line, line_end, push_hexadecimal, put, put_decimal, put_hexadecimal, put_number,
-    put_octet,
-};
+pub use writing::{append_line, append_part, push_hexadecimal};

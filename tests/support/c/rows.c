@@ -160,6 +160,17 @@ static struct fio2070_answer answer_in(const void *octets, size_t length) {
     return answer;
 }
 
+/* Whether this is the text of a frame, written where there is room for it alone. */
+static int shows(const char *octets, size_t length, const char *expected) {
+    const uint8_t *frame = (const uint8_t *)octets;
+    uint8_t text[64];
+    size_t count = strlen(expected);
+    memset(text, '?', sizeof text);
+    if (fio2070_show(frame, length, text, count - 1) != count || text[0] != '?') return 0;
+    return fio2070_show(frame, length, text, sizeof text) == count && memcmp(text, expected, count) == 0
+           && text[count] == '?';
+}
+
 static void reads_commands(void) {
     static const char configuration[] = "\x33\2\x0c\5\3\x83\0\0";
     struct fio2070_configuration_item items[2] = {{7, 7, 7, 7}, {7, 7, 7, 7}};
@@ -173,6 +184,10 @@ static void reads_commands(void) {
     CHECK(items[1].input == 3 && items[1].ignore == 1 && items[1].leading == 0 && items[1].trailing == 0);
     CHECK(fio2070_command_items((const uint8_t *)"\x36\5", 2, items, 2) == 0);
     CHECK(command_in("\x36\5", 2).block == 5);
+    CHECK(shows("\x36\5", 2, "poll block 5\n"));
+    CHECK(shows("\xb2\1", 2, "counter load status 01\n"));
+    CHECK(shows("\x38", 1, "other 56 body -\n"));
+    CHECK(shows("\x07", 1, "unknown type 7\n"));
     command = command_in("\x37\0\0\0\0\0\0\0\1\2\0\0\0\0\0\0\3", 17);
     CHECK(command.levels[7] == 1 && command.controls[0] == 2 && command.controls[7] == 3 && command.levels[0] == 0);
     CHECK(command_in("\x38", 1).body == 0 && command_in("\x3b\1\2", 3).body == 2);

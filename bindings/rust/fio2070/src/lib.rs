@@ -82,6 +82,12 @@ pub fn command_items(octets: &[u8], items: &mut [ConfigurationItem]) -> usize {
     }
 }
 
+/// Writes what `fio2070 show` writes of a frame where there is room for all of it, and returns how many octets it has.
+pub fn show(octets: &[u8], text: &mut [u8]) -> usize {
+    // SAFETY: both slices are initialised memory of their lengths and do not overlap.
+    unsafe { raw::fio2070_show(octets.as_ptr(), octets.len(), text.as_mut_ptr(), text.len()) }
+}
+
 /// The time in milliseconds, modulo 2^32, of an entry with this stamp in an answer with that one.
 pub fn widen(answer_stamp: u32, stamp: u16) -> u32 {
     // SAFETY: numbers alone.

@@ -151,6 +151,12 @@ extern "C" {
         items: *mut ConfigurationItem,
         room: usize,
     ) -> usize;
+    pub(crate) fn fio2070_show(
+        octets: *const u8,
+        length: usize,
+        text: *mut u8,
+        room: usize,
+    ) -> usize;
     pub(crate) fn fio2070_decode_answer(
         octets: *const u8,
         length: usize,

@@ -1,21 +1,21 @@
 //! What a text of frames says, line for line.
-ghost use Rattle.std.specs.Prelude.{◌≡◌, ◌≢◌, ◌⊎◌, ◌++◌, [], codes, is_ok, false, true, nat_le, slice_index_or, Err, OnOk, OnErr, IfOk};
+ghost use Rattle.std.specs.Prelude.{◌≡◌, ◌≢◌, ◌⊎◌, ◌++◌, [], codes, is_ok, false, true, Err, OnOk, OnErr, IfOk};
 ghost use Rattle.fio_world.specs.Lines.{lines_of, numbered};
 ghost use Rattle.fio_tool.specs.InputFaults.{is_too_long, line_fault_text};
-ghost use Rattle.fio_tool.specs.Show.{is_line_good, is_show_good, line_text, show_text, shown_answer, shown_command, shown_frame, text_at};
-
-mod answers;
-mod commands;
-mod short;
+ghost use Rattle.fio_tool.specs.Show.{is_line_good, is_show_good, line_text, show_text, text_at};
+ghost use Rattle.std.specs.List.{flat_map};
+ghost use Rattle.fio_message.specs.Views.{body_of, entries_of, items_of};
+ghost use Rattle.fio_show.specs.AnswerLines.{entry_text};
+ghost use Rattle.fio_show.specs.CommandLines.{body_text, item_text};
+ghost use Rattle.fio_show.specs.FrameLines.{shown_frame};
+ghost use Rattle.fio_show.specs.Shown.{rest_text};
 
 use super::{is_too_long, report_too_long};
-use answers::{push_answer, push_block_view};
-use commands::{push_command, push_words};
-use fio_message::{DecodeError, FRAME_OCTETS, Memory, decode_answer, decode_command, read_block};
-use fio_world::text::{numbered_lines, read_octets_to};
+use fio_message::{BodyView, DecodeError, EntriesView, FRAME_OCTETS, ItemsView, Memory};
+use fio_show::{EntryLines, Rest, entry_line, put_frame, put_item};
+use fio_world::text::{append_line, append_part, numbered_lines, push_hexadecimal, read_octets_to};
 use fio_world::{Report, push_line};
-use short::{push_short_answer, push_short_command};
-use std::alloc::Global;
+use std::alloc::{AllocError, Global};
 
 /// How many octets of text to expect for an octet of input: an entry of a block, six digits, gives a
 /// line of at most 46 octets.
@@ -78,87 +78,71 @@ fn push_frame(text: &mut Vec<u8>, number: usize, octets: &[u8]) -> Result<bool, 
         ≡ text.old.items ++ text_at number (shown_frame octets.now)) }
     ensures good { IfOk result (λ good. good ≡ is_ok (shown_frame octets.now)) }
 {
-    if is_answer(octets) {
-        push_answer_frame(text, number, octets)
-    } else {
-        push_command_frame(text, number, octets)
-    }
-}
-
-/// Appends the text for a frame that is read as a command.
-fn push_command_frame(text: &mut Vec<u8>, number: usize, octets: &[u8]) -> Result<bool, Memory>
-    ensures text { OnOk result (text.new.items
-        ≡ text.old.items ++ text_at number (shown_command octets.now)) }
-    ensures good { IfOk result (λ good. good ≡ is_ok (shown_command octets.now)) }
-{
-    match push_short_command(text, octets) {
-        Some(pushed) => {
-            pushed?;
-            Ok(true)
-        }
-        None => push_any_command(text, number, octets),
-    }
-}
-
-/// Appends the text for a frame that is read as an answer.
-fn push_answer_frame(text: &mut Vec<u8>, number: usize, octets: &[u8]) -> Result<bool, Memory>
-    ensures text { OnOk result (text.new.items
-        ≡ text.old.items ++ text_at number (shown_answer octets.now)) }
-    ensures good { IfOk result (λ good. good ≡ is_ok (shown_answer octets.now)) }
-{
-    if let Some(pushed) = push_short_answer(text, octets) {
-        pushed?;
-        return Ok(true);
-    }
-    if let Ok(block) = read_block(octets) {
-        push_block_view(text, &block)?;
-        return Ok(true);
-    }
-    push_any_answer(text, number, octets)
-}
-
-/// Whether a frame is to be read as an answer.
-fn is_answer(octets: &[u8]) -> bool
-    ensures { result ≡ nat_le 128 (slice_index_or octets.now 0 0) }
-{
-    match octets {
-        [code, ..] => *code >= 128,
-        [] => false,
-    }
-}
-
-/// Appends the text for an answer of any type, decoded into a value of its own.
-// Not inlined, so that room for the value is cleared only where one is decoded.
-#[inline(never)]
-fn push_any_answer(text: &mut Vec<u8>, number: usize, octets: &[u8]) -> Result<bool, Memory>
-    ensures text { OnOk result (text.new.items
-        ≡ text.old.items ++ text_at number (shown_answer octets.now)) }
-    ensures good { IfOk result (λ good. good ≡ is_ok (shown_answer octets.now)) }
-{
-    match &decode_answer(octets) {
-        Ok(answer) => {
-            push_answer(text, answer)?;
+    let mut line = [0; 128];
+    match put_frame(&mut line, octets) {
+        Ok((start, rest)) => {
+            append_line(text, &line, start)?;
+            push_rest(text, &mut line, rest)?;
             Ok(true)
         }
         Err(fault) => push_fault(text, number, fault.words().as_str()),
     }
 }
 
-/// Appends the text for a command of any type, decoded into a value of its own.
-// Not inlined, so that room for the value is cleared only where one is decoded.
-#[inline(never)]
-fn push_any_command(text: &mut Vec<u8>, number: usize, octets: &[u8]) -> Result<bool, Memory>
-    ensures text { OnOk result (text.new.items
-        ≡ text.old.items ++ text_at number (shown_command octets.now)) }
-    ensures good { IfOk result (λ good. good ≡ is_ok (shown_command octets.now)) }
+/// Appends what follows the first line of a message, its lines put together in this room.
+// Inlined, as most messages have one line.
+#[inline(always)]
+fn push_rest(text: &mut Vec<u8>, line: &mut [u8; 128], rest: Rest<'_>) -> Result<(), AllocError>
+    ensures { OnOk result (text.new.items ≡ text.old.items ++ rest_text rest.entry) }
 {
-    match &decode_command(octets) {
-        Ok(command) => {
-            push_command(text, command)?;
-            Ok(true)
-        }
-        Err(fault) => push_fault(text, number, fault.words().as_str()),
+    match rest {
+        Rest::Nothing => Ok(()),
+        Rest::Items { items } => push_items(text, line, items),
+        Rest::Entries { entries, stamp } => push_entries(text, entries, stamp),
+        Rest::Body { body } => push_body(text, body),
     }
+}
+
+/// Appends the lines of the items of a configuration.
+fn push_items(
+    text: &mut Vec<u8>,
+    line: &mut [u8; 128],
+    items: ItemsView<'_>,
+) -> Result<(), AllocError>
+    ensures { OnOk result (text.new.items
+        ≡ text.old.items ++ flat_map item_text (items_of items.entry)) }
+{
+    'items: for item in items.iter() {
+        let start = put_item(line, item);
+        append_line(text, line, start)?;
+    }
+    Ok(())
+}
+
+/// Appends the lines of the entries of a block answer with this stamp.
+fn push_entries(text: &mut Vec<u8>, entries: EntriesView<'_>, stamp: u32) -> Result<(), AllocError>
+    ensures { OnOk result (text.new.items
+        ≡ text.old.items ++ flat_map (entry_text stamp) (entries_of entries.entry)) }
+{
+    let mut entry_lines = EntryLines::new();
+    'entries: for entry in entries.iter() {
+        let (line, count) = entry_line(&mut entry_lines, entry, stamp);
+        append_part(text, line, count)?;
+    }
+    Ok(())
+}
+
+/// Appends the octets of a body, or a dash where it has none, and the end of its line.
+fn push_body(text: &mut Vec<u8>, body: BodyView<'_>) -> Result<(), AllocError>
+    ensures { OnOk result (text.new.items
+        ≡ text.old.items ++ (body_text (body_of body.entry) ++ codes "\n")) }
+{
+    let octets = body.as_slice();
+    if octets.is_empty() {
+        return text.extend_from_slice(b"-\n");
+    }
+    push_hexadecimal(text, octets)?;
+    text.extend_from_slice(b"\n")
 }
 
 /// Appends the line that reports a fault, and returns that there is one.
@@ -168,7 +152,7 @@ fn push_fault(text: &mut Vec<u8>, number: usize, fault: &str) -> Result<bool, Me
     ensures good { IfOk result (λ good. good ≡ false) }
 {
     push_line!(text; b"line " {number as u64} b": ")?;
-    push_words(text, fault.as_bytes())?;
-    push_words(text, b"\n")?;
+    text.extend_from_slice(fault.as_bytes())?;
+    text.extend_from_slice(b"\n")?;
     Ok(false)
 }

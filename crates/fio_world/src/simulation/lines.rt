@@ -10,10 +10,11 @@ ghost use Rattle.fio_cpu.specs.declared.poller.Heard.TheVariants as heards;
 
 use crate::outcome::WorldError;
 use crate::push_line;
-use crate::text::{EntryLines, push_hexadecimal};
+use crate::text::{append_part, push_hexadecimal};
 use crate::world::World;
 use fio_cpu::{Heard, Item};
 use fio_message::{Entry, Memory};
+use fio_show::EntryLines;
 use std::alloc::AllocError;
 
 pub(crate) fn push_quiet(text: &mut Vec<u8>, number: usize) -> Result<(), AllocError>
@@ -167,7 +168,8 @@ fn push_item(text: &mut Vec<u8>, entry_lines: &mut EntryLines, item: Item) -> Re
                 level,
                 stamp,
             };
-            entry_lines.push(text, b"", entry, wide)
+            let (line, count) = entry_lines.line(b"", entry, wide);
+            append_part(text, line, count)
         }
     }
 }

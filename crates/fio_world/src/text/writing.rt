@@ -1,153 +1,19 @@
-//! Lines, written in pieces. A line is put together in room on the stack from its last piece to its
-//! first, since a number is written from its last digit to its first, and is appended to a text at
-//! once. `push_line!` and `put_pieces!` take the pieces in the order in which they are read.
-ghost use Rattle.std.specs.Prelude.{◌≡◌, ◌+◌, ◌*◌, ◌≤◌, ◌++◌, ℕ, [], length, take, drop, decimal, OnOk};
-ghost use Rattle.fio_world.specs.Hexadecimal.{digits_of, octet_digits};
+//! Lines, put together in room on the stack and appended to a text at once.
+ghost use Rattle.std.specs.Prelude.{◌≡◌, ◌≤◌, ◌++◌, length, take, drop, OnOk};
+ghost use Rattle.fio_show.specs.Digits.{digits_of};
 
 use std::alloc::AllocError;
 
-/// Appends a line of at most 128 octets to a text, made of these pieces: octets of a known
-/// number as they are (`b".."` or `(octets)`), a number of at most 64 bits in decimal digits (`{number}`), an octet or octets in
-/// hexadecimal digits of lower case (`[octet]`, `[&octets]`). It is an `AllocError` where the text cannot grow.
+/// Appends a line of at most 128 octets to a text, made of pieces as `fio_show::put_pieces!` takes
+/// them. It is an `AllocError` where the text cannot grow.
 #[macro_export]
 macro_rules! push_line {
     ($text:expr; $($pieces:tt)*) => {{
         let mut line = [0; 128];
-        let end = $crate::text::line_end(&line);
-        let start = $crate::put_pieces!(line, end; $($pieces)*);
+        let end = fio_show::line_end(&line);
+        let start = fio_show::put_pieces!(line, end; $($pieces)*);
         $crate::text::append_line($text, &line, start)
     }};
-}
-
-/// Puts pieces, as `push_line!` takes them, before what stands in a line from `end` on. Its value is
-/// where the line starts then.
-#[macro_export]
-macro_rules! put_pieces {
-    ($line:expr, $end:expr;) => { $end };
-    ($line:expr, $end:expr; $octets:literal $($pieces:tt)*) => {{
-        let end = $crate::put_pieces!($line, $end; $($pieces)*);
-        $crate::text::put(&mut $line, end, $octets)
-    }};
-    ($line:expr, $end:expr; ($octets:expr) $($pieces:tt)*) => {{
-        let end = $crate::put_pieces!($line, $end; $($pieces)*);
-        $crate::text::put(&mut $line, end, $octets)
-    }};
-    ($line:expr, $end:expr; {$number:expr} $octets:literal $($pieces:tt)*) => {{
-        let end = $crate::put_pieces!($line, $end; $($pieces)*);
-        $crate::text::put_number(&mut $line, end, u64::from($number), $octets)
-    }};
-    ($line:expr, $end:expr; {$number:expr} ($octets:expr) $($pieces:tt)*) => {{
-        let end = $crate::put_pieces!($line, $end; $($pieces)*);
-        $crate::text::put_number(&mut $line, end, u64::from($number), $octets)
-    }};
-    ($line:expr, $end:expr; {$number:expr} $($pieces:tt)*) => {{
-        let end = $crate::put_pieces!($line, $end; $($pieces)*);
-        $crate::text::put_decimal(&mut $line, end, u64::from($number))
-    }};
-    ($line:expr, $end:expr; [&$octets:expr] $($pieces:tt)*) => {{
-        let end = $crate::put_pieces!($line, $end; $($pieces)*);
-        $crate::text::put_hexadecimal(&mut $line, end, &$octets)
-    }};
-    ($line:expr, $end:expr; [$octet:expr] $($pieces:tt)*) => {{
-        let end = $crate::put_pieces!($line, $end; $($pieces)*);
-        $crate::text::put_octet(&mut $line, end, $octet)
-    }};
-}
-
-/// Where a line without a piece starts: behind its room.
-// Inlined, so that the places and lengths of the pieces of a line are known when it is compiled.
-#[inline(always)]
-pub fn line_end(line: &[u8; 128]) -> usize
-    ensures start { result ≡ 128 }
-    ensures empty { drop result line.now ≡ [] }
-{
-    line.len()
-}
-
-/// Puts octets, whose number is known when this is compiled, before what stands in a line from `end`
-/// on, for which there has to be room, and returns where the line starts then. What stood from `end`
-/// on stays.
-// Inlined, so that the places and lengths of the pieces of a line are known when it is compiled.
-#[inline(always)]
-pub fn put<const N: usize>(line: &mut [u8; 128], end: usize, octets: &[u8; N]) -> usize
-    requires { (N ≤ end) × (end ≤ 128) }
-    ensures start { result + N ≡ end }
-    ensures put { drop result line.new ≡ octets.now ++ drop end line.old }
-    ensures kept { (at : ℕ) → end ≤ at → drop at line.new ≡ drop at line.old }
-{
-    let start = end - N;
-    begin_with(&mut line[start..], octets);
-    start
-}
-
-/// Puts octets at the beginning of others.
-// Inlined, so that the places and lengths of the pieces of a line are known when it is compiled.
-#[inline(always)]
-fn begin_with<const N: usize>(octets: &mut [u8], first: &[u8; N])
-    requires { N ≤ length octets.old }
-    ensures { octets.new ≡ first.now ++ drop N octets.old }
-{
-    if let Some(place) = octets.first_chunk_mut::<N>() {
-        *place = *first;
-    }
-}
-
-/// Puts a number in decimal digits, of which it has at most 20, as `put` puts octets.
-// Inlined, so that the places and lengths of the pieces of a line are known when it is compiled.
-#[inline(always)]
-pub fn put_decimal(line: &mut [u8; 128], end: usize, number: u64) -> usize
-    requires { (20 ≤ end) × (end ≤ 128) }
-    ensures start { (result ≤ end) × (end ≤ result + 20) }
-    ensures put { drop result line.new ≡ decimal number ++ drop end line.old }
-    ensures kept { (at : ℕ) → end ≤ at → drop at line.new ≡ drop at line.old }
-{
-    itoa::write_digits(number, line, end)
-}
-
-/// Puts a number in decimal digits and, behind it, octets, as `put_decimal` and `put` put them.
-// Inlined, so that the places and lengths of the pieces of a line are known when it is compiled.
-#[inline(always)]
-pub fn put_number<const N: usize>(
-    line: &mut [u8; 128],
-    end: usize,
-    number: u64,
-    octets: &[u8; N],
-) -> usize
-    requires { (20 + N ≤ end) × (end ≤ 128) }
-    ensures start { (result + N ≤ end) × (end ≤ result + (20 + N)) }
-    ensures put { drop result line.new ≡ decimal number ++ (octets.now ++ drop end line.old) }
-    ensures kept { (at : ℕ) → end ≤ at → drop at line.new ≡ drop at line.old }
-{
-    let digits_end = put(line, end, octets);
-    put_decimal(line, digits_end, number)
-}
-
-/// Puts an octet in two hexadecimal digits of lower case, as `put` puts octets.
-// Inlined, so that the places and lengths of the pieces of a line are known when it is compiled.
-#[inline(always)]
-#[tactic(auto, unfolding(crate::specs::Hexadecimal::octet_digits))]
-pub fn put_octet(line: &mut [u8; 128], end: usize, octet: u8) -> usize
-    requires { (2 ≤ end) × (end ≤ 128) }
-    ensures start { (result ≤ end) × (end ≤ result + 2) }
-    ensures put { drop result line.new ≡ octet_digits octet ++ drop end line.old }
-{
-    let mut digits = [0; 2];
-    let _ = hex::encode_to_slice([octet], &mut digits);
-    put(line, end, &digits)
-}
-
-/// Puts octets in hexadecimal digits of lower case, two for each, as `put` puts octets.
-// Inlined, so that the places and lengths of the pieces of a line are known when it is compiled.
-#[inline(always)]
-#[tactic(auto, unfolding(crate::specs::Hexadecimal::digits_of))]
-pub fn put_hexadecimal(line: &mut [u8; 128], end: usize, octets: &[u8]) -> usize
-    requires { (2 * length octets.now ≤ end) × (end ≤ 128) }
-    ensures start { (result ≤ end) × (end ≤ result + 2 * length octets.now) }
-    ensures put { drop result line.new ≡ digits_of octets.now ++ drop end line.old }
-{
-    let start = end - 2 * octets.len();
-    let _ = hex::encode_to_slice(octets, &mut line[start..end]);
-    start
 }
 
 /// Appends a line that starts at this place of its room.
@@ -160,28 +26,22 @@ pub fn append_line(text: &mut Vec<u8>, line: &[u8; 128], start: usize) -> Result
     text.extend_from_slice(&line[start..])
 }
 
-/// Appends part of a line: so many octets, at most 64, from this place of its room on.
-// Inlined, so that the places and lengths of the pieces of a line are known when it is compiled. 64
-// octets are copied, since a known number is copied without a call, and those behind the part are cut
-// off again.
+/// Appends so many of 64 octets, the first.
+// Inlined, so that the places and lengths of the pieces of a line are known when it is compiled. All
+// 64 are copied, since a known number is copied without a call, and those behind are cut off again.
 #[inline(always)]
-pub(crate) fn append_part(
-    text: &mut Vec<u8>,
-    line: &[u8; 128],
-    start: usize,
-    count: usize,
-) -> Result<(), AllocError>
-    requires { (start ≤ 64) × (count ≤ 64) }
-    ensures { OnOk result (text.new.items ≡ text.old.items ++ take count (drop start line.now)) }
+pub fn append_part(text: &mut Vec<u8>, octets: &[u8], count: usize) -> Result<(), AllocError>
+    requires { count ≤ length octets.now }
+    ensures { OnOk result (text.new.items ≡ text.old.items ++ take count octets.now) }
 {
     let before = text.len();
-    text.extend_from_slice(&line[start..start + 64])?;
+    text.extend_from_slice(octets)?;
     text.truncate(before + count);
     Ok(())
 }
 
 /// Appends octets in hexadecimal digits of lower case, two for each.
-#[tactic(auto, unfolding(crate::specs::Hexadecimal::digits_of))]
+#[tactic(auto, unfolding(fio_show::specs::Digits::digits_of))]
 pub fn push_hexadecimal(text: &mut Vec<u8>, octets: &[u8]) -> Result<(), AllocError>
     ensures { OnOk result (text.new.items ≡ text.old.items ++ digits_of octets.now) }
 {

@@ -1,0 +1,34 @@
+-- The lines of a frame: those of the message that its octets spell.
+use Rattle.std.specs.Prelude.{ℕ, List, ◌++◌, codes, nat_le, if◌then◌else◌, slice_index_or, Result, Ok, Err}
+use Rattle.fio_message.specs.Decoding.{decoded_command, decoded_answer}
+use Rattle.fio_message.specs.Texts.{fault_text}
+use Rattle.fio_message.specs.declared.faults.DecodeError.{DecodeError}
+use Rattle.fio_show.specs.AnswerLines.{answer_text}
+use Rattle.fio_show.specs.CommandLines.{command_text}
+
+-- the lines for a message, or the words of the fault of its octets
+abbrev pub shown : {M : Type 0} → (M → List ℕ) → Result M DecodeError → Result (List ℕ) (List ℕ)
+shown text (Ok message) = Ok (text message)
+shown text (Err fault) = Err (fault_text fault)
+
+-- the lines of the command that octets spell, or the words of their fault
+abbrev pub shown_command : List ℕ → Result (List ℕ) (List ℕ)
+shown_command octets = shown command_text (decoded_command octets)
+
+-- the lines of the answer that octets spell, or the words of their fault
+abbrev pub shown_answer : List ℕ → Result (List ℕ) (List ℕ)
+shown_answer octets = shown answer_text (decoded_answer octets)
+
+-- the lines for a frame: an answer where its first octet is 128 or more, else a command
+abbrev pub shown_frame : List ℕ → Result (List ℕ) (List ℕ)
+shown_frame octets =
+    if nat_le 128 (slice_index_or octets 0 0) then shown_answer octets else shown_command octets
+
+-- these lines, or the words of a fault and a line feed
+abbrev pub lines_or_fault : Result (List ℕ) (List ℕ) → List ℕ
+lines_or_fault (Ok lines) = lines
+lines_or_fault (Err fault) = fault ++ codes "\n"
+
+-- the text of a frame by itself
+abbrev pub frame_text : List ℕ → List ℕ
+frame_text octets = lines_or_fault (shown_frame octets)

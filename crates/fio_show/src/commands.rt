@@ -1,0 +1,56 @@
+//! The lines for each command.
+ghost use Rattle.std.specs.Prelude.{◌≡◌, ◌≤◌, ◌++◌, length, drop, codes, decimal};
+ghost use Rattle.fio_message.specs.Views.{body_of, command_of, items_of};
+ghost use Rattle.fio_show.specs.CommandLines.{command_text, configuration_text, other_text};
+ghost use Rattle.fio_show.specs.Shown.{rest_text};
+
+use crate::frame::Rest;
+use crate::lines::{put_clearing, put_one_number, put_outputs, put_words};
+use crate::pieces::line_end;
+use crate::put_pieces;
+use fio_message::{BodyView, CommandView, ItemsView};
+
+/// Puts the first line for a command at the end of its room. Returns where it starts, and what follows
+/// it.
+// Inlined, as it is called for each frame of a capture.
+#[inline(always)]
+pub(crate) fn put_command<'a>(line: &mut [u8; 128], command: CommandView<'a>) -> (usize, Rest<'a>)
+    ensures start { result.0 ≤ 128 }
+    ensures text { drop result.0 line.new ++ rest_text result.1 ≡ command_text (command_of command.entry) }
+{
+    let start = match command {
+        CommandView::Status { clear } => put_clearing(line, clear),
+        CommandView::LoadCounter { load } => put_one_number(line, b"load counter ", load),
+        CommandView::ConfigureInputs { items } => return put_configuration(line, items),
+        CommandView::RawInputs => put_words(line, b"raw inputs\n"),
+        CommandView::FilteredInputs => put_words(line, b"filtered inputs\n"),
+        CommandView::Poll { block } => put_one_number(line, b"poll block ", u32::from(block)),
+        CommandView::SetOutputs { levels, controls } => put_outputs(line, levels, controls),
+        CommandView::Watchdog { timeout } => {
+            put_one_number(line, b"watchdog ms ", u32::from(timeout))
+        }
+        CommandView::Identify => put_words(line, b"identify\n"),
+        CommandView::Other { kind, body } => return put_other(line, kind.code(), body),
+    };
+    (start, Rest::Nothing)
+}
+
+/// Puts the first line for a configuration.
+fn put_configuration<'a>(line: &mut [u8; 128], items: ItemsView<'a>) -> (usize, Rest<'a>)
+    ensures start { result.0 ≤ 128 }
+    ensures text { drop result.0 line.new ++ rest_text result.1 ≡ configuration_text (items_of items.entry) }
+{
+    let end = line_end(line);
+    let start = put_pieces!(*line, end; b"configure inputs " {items.len() as u64} b"\n");
+    (start, Rest::Items { items })
+}
+
+/// Puts the beginning of the line for a message that is not read further than its type.
+pub(crate) fn put_other<'a>(line: &mut [u8; 128], code: u8, body: BodyView<'a>) -> (usize, Rest<'a>)
+    ensures start { result.0 ≤ 128 }
+    ensures text { drop result.0 line.new ++ rest_text result.1 ≡ other_text code (body_of body.entry) }
+{
+    let end = line_end(line);
+    let start = put_pieces!(*line, end; b"other " {code} b" body ");
+    (start, Rest::Body { body })
+}

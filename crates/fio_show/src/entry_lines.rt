@@ -1,0 +1,116 @@
+//! The lines of entries.
+ghost use Rattle.std.specs.Prelude.{◌≡◌, ◌+◌, ◌≤◌, ◌++◌, length, take, drop, codes, decimal};
+ghost use Rattle.fio_message.specs.Bits.{bit_of};
+ghost use Rattle.fio_show.specs.EntryLines.{entry_line, scan_ending};
+
+use crate::pieces::put;
+use crate::put_pieces;
+use fio_message::Entry;
+use std::marker::Model;
+
+/// Where the ending of a line starts, behind room for what stands before it.
+const ENDING: usize = 64;
+
+/// Room for an ending, which has at most 29 octets.
+const ENDING_ROOM: usize = 32;
+
+/// Room for the line of an entry. The entries of one scan have one stamp and one wide time, so the
+/// ending of a line, ` stamp S wide W` and its line feed, stays for the next entry of the same scan.
+/// It starts at a known place, and what is put before it ends there.
+#[derive(Debug, Drop)]
+pub struct EntryLines {
+    line: [u8; 128],
+    /// How many octets the ending has.
+    ending: usize,
+    stamp: u16,
+    wide: u32,
+}
+
+impl Model for EntryLines {
+    ghost use Rattle.std.specs.Prelude.{◌≡◌, ◌≤◌, take, drop};
+    ghost use Rattle.fio_show.specs.EntryLines.{scan_ending};
+    ghost use Rattle.fio_show.specs.declared.entry_lines.TheConstants.{ENDING, ENDING_ROOM};
+
+    // Contracts see nothing of the room.
+    ghost Value = { Unit {0} };
+
+    ghost view = { λ v. tt };
+
+    // The stamp and the wide time stand in the place of the ending.
+    ghost invariant = { λ v. (take v.ending (drop ENDING v.line) ≡ scan_ending v.stamp v.wide)
+        × (v.ending ≤ ENDING_ROOM) };
+}
+
+impl EntryLines {
+    /// Room that holds no entry's line.
+    pub fn new() -> EntryLines {
+        let mut line = [0; 128];
+        let ending = put_ending(&mut line, 0, 0);
+        EntryLines {
+            line,
+            ending,
+            stamp: 0,
+            wide: 0,
+        }
+    }
+
+    /// The line of an entry with this wide time, behind a margin of at most 8 octets:
+    /// `input I state L stamp S wide W`. It has as many octets as the number says, at the front of 64,
+    /// since a known number of octets is copied without a call.
+    // Inlined, so that the length of the margin is known when it is compiled.
+    #[inline(always)]
+    pub fn line<const N: usize>(
+        &mut self,
+        margin: &[u8; N],
+        entry: Entry,
+        wide: u32,
+    ) -> (&[u8], usize)
+        requires { N ≤ 8 }
+        ensures room { length result.0.now ≡ 64 }
+        ensures within { result.1 ≤ 64 }
+        ensures line { take result.1 result.0.now
+            ≡ margin.now ++ entry_line entry.input entry.level entry.stamp wide }
+    {
+        if entry.stamp != self.stamp || wide != self.wide {
+            self.ending = put_ending(&mut self.line, entry.stamp, wide);
+            self.stamp = entry.stamp;
+            self.wide = wide;
+        }
+        let start = put_front(&mut self.line, margin, entry);
+        let count = ENDING - start + self.ending;
+        let room = &self.line;
+        (&room[start..start + 64], count)
+    }
+}
+
+/// Puts a margin of at most 8 octets and `input I state L`, at most 25 octets together, before the
+/// ending of a line, and returns where they start.
+// Inlined, so that the length of the margin is known when it is compiled.
+#[inline(always)]
+fn put_front<const N: usize>(line: &mut [u8; 128], margin: &[u8; N], entry: Entry) -> usize
+    requires { N ≤ 8 }
+    ensures start { (result ≤ ENDING) × (ENDING ≤ result + 25) }
+    ensures put { drop result line.new ≡ margin.now ++ (codes "input " ++ (decimal entry.input
+        ++ (codes " state " ++ (decimal (bit_of entry.level) ++ drop ENDING line.old)))) }
+    ensures kept { drop ENDING line.new ≡ drop ENDING line.old }
+{
+    put_pieces!(
+        *line, ENDING;
+        (margin) b"input " {entry.input.get()} b" state " {entry.level}
+    )
+}
+
+/// Puts the ending of a line with this stamp and wide time in its place, and returns how many octets
+/// it has.
+fn put_ending(line: &mut [u8; 128], stamp: u16, wide: u32) -> usize
+    ensures length { result ≤ ENDING_ROOM }
+    ensures put { take result (drop ENDING line.new) ≡ scan_ending stamp wide }
+{
+    let end = ENDING + ENDING_ROOM;
+    let start = put_pieces!(*line, end; b" stamp " {stamp} b" wide " {wide} b"\n");
+    // All the room is moved, since a known number of octets is moved without a call.
+    let mut moved = [0; ENDING_ROOM];
+    moved.copy_from_slice(&line[start..start + ENDING_ROOM]);
+    put(line, end, &moved);
+    end - start
+}

@@ -1,0 +1,138 @@
+//! Lines, written in pieces. A line is put together in room on the stack from its last piece to its
+//! first, since a number is written from its last digit to its first. `put_pieces!` takes the pieces
+//! in the order in which they are read.
+ghost use Rattle.std.specs.Prelude.{◌≡◌, ◌+◌, ◌*◌, ◌≤◌, ◌++◌, ℕ, [], length, take, drop, decimal};
+ghost use Rattle.fio_show.specs.Digits.{digits_of, octet_digits};
+
+/// Puts pieces before what stands in a line from `end` on: octets of a known number as they are
+/// (`b".."` or `(octets)`), a number of at most 64 bits in decimal digits (`{number}`), an octet or
+/// octets in hexadecimal digits of lower case (`[octet]`, `[&octets]`). Its value is where the line
+/// starts then.
+#[macro_export]
+macro_rules! put_pieces {
+    ($line:expr, $end:expr;) => { $end };
+    ($line:expr, $end:expr; $octets:literal $($pieces:tt)*) => {{
+        let end = $crate::put_pieces!($line, $end; $($pieces)*);
+        $crate::put(&mut $line, end, $octets)
+    }};
+    ($line:expr, $end:expr; ($octets:expr) $($pieces:tt)*) => {{
+        let end = $crate::put_pieces!($line, $end; $($pieces)*);
+        $crate::put(&mut $line, end, $octets)
+    }};
+    ($line:expr, $end:expr; {$number:expr} $octets:literal $($pieces:tt)*) => {{
+        let end = $crate::put_pieces!($line, $end; $($pieces)*);
+        $crate::put_number(&mut $line, end, u64::from($number), $octets)
+    }};
+    ($line:expr, $end:expr; {$number:expr} ($octets:expr) $($pieces:tt)*) => {{
+        let end = $crate::put_pieces!($line, $end; $($pieces)*);
+        $crate::put_number(&mut $line, end, u64::from($number), $octets)
+    }};
+    ($line:expr, $end:expr; {$number:expr} $($pieces:tt)*) => {{
+        let end = $crate::put_pieces!($line, $end; $($pieces)*);
+        $crate::put_decimal(&mut $line, end, u64::from($number))
+    }};
+    ($line:expr, $end:expr; [&$octets:expr] $($pieces:tt)*) => {{
+        let end = $crate::put_pieces!($line, $end; $($pieces)*);
+        $crate::put_hexadecimal(&mut $line, end, &$octets)
+    }};
+    ($line:expr, $end:expr; [$octet:expr] $($pieces:tt)*) => {{
+        let end = $crate::put_pieces!($line, $end; $($pieces)*);
+        $crate::put_octet(&mut $line, end, $octet)
+    }};
+}
+
+/// Where a line without a piece starts: behind its room.
+// Inlined, so that the places and lengths of the pieces of a line are known when it is compiled.
+#[inline(always)]
+pub fn line_end(line: &[u8; 128]) -> usize
+    ensures start { result ≡ 128 }
+    ensures empty { drop result line.now ≡ [] }
+{
+    line.len()
+}
+
+/// Puts octets, whose number is known when this is compiled, before what stands in a line from `end`
+/// on, for which there has to be room, and returns where the line starts then. What stood from `end`
+/// on stays.
+// Inlined, so that the places and lengths of the pieces of a line are known when it is compiled.
+#[inline(always)]
+pub fn put<const N: usize>(line: &mut [u8; 128], end: usize, octets: &[u8; N]) -> usize
+    requires { (N ≤ end) × (end ≤ 128) }
+    ensures start { result + N ≡ end }
+    ensures put { drop result line.new ≡ octets.now ++ drop end line.old }
+    ensures kept { (at : ℕ) → end ≤ at → drop at line.new ≡ drop at line.old }
+{
+    let start = end - N;
+    begin_with(&mut line[start..], octets);
+    start
+}
+
+/// Puts octets at the beginning of others.
+// Inlined, so that the places and lengths of the pieces of a line are known when it is compiled.
+#[inline(always)]
+fn begin_with<const N: usize>(octets: &mut [u8], first: &[u8; N])
+    requires { N ≤ length octets.old }
+    ensures { octets.new ≡ first.now ++ drop N octets.old }
+{
+    if let Some(place) = octets.first_chunk_mut::<N>() {
+        *place = *first;
+    }
+}
+
+/// Puts a number in decimal digits, of which it has at most 20, as `put` puts octets.
+// Inlined, so that the places and lengths of the pieces of a line are known when it is compiled.
+#[inline(always)]
+pub fn put_decimal(line: &mut [u8; 128], end: usize, number: u64) -> usize
+    requires { (20 ≤ end) × (end ≤ 128) }
+    ensures start { (result ≤ end) × (end ≤ result + 20) }
+    ensures put { drop result line.new ≡ decimal number ++ drop end line.old }
+    ensures kept { (at : ℕ) → end ≤ at → drop at line.new ≡ drop at line.old }
+{
+    itoa::write_digits(number, line, end)
+}
+
+/// Puts a number in decimal digits and, behind it, octets, as `put_decimal` and `put` put them.
+// Inlined, so that the places and lengths of the pieces of a line are known when it is compiled.
+#[inline(always)]
+pub fn put_number<const N: usize>(
+    line: &mut [u8; 128],
+    end: usize,
+    number: u64,
+    octets: &[u8; N],
+) -> usize
+    requires { (20 + N ≤ end) × (end ≤ 128) }
+    ensures start { (result + N ≤ end) × (end ≤ result + (20 + N)) }
+    ensures put { drop result line.new ≡ decimal number ++ (octets.now ++ drop end line.old) }
+    ensures kept { (at : ℕ) → end ≤ at → drop at line.new ≡ drop at line.old }
+{
+    let digits_end = put(line, end, octets);
+    put_decimal(line, digits_end, number)
+}
+
+/// Puts an octet in two hexadecimal digits of lower case, as `put` puts octets.
+// Inlined, so that the places and lengths of the pieces of a line are known when it is compiled.
+#[inline(always)]
+#[tactic(auto, unfolding(crate::specs::Digits::octet_digits))]
+pub fn put_octet(line: &mut [u8; 128], end: usize, octet: u8) -> usize
+    requires { (2 ≤ end) × (end ≤ 128) }
+    ensures start { (result ≤ end) × (end ≤ result + 2) }
+    ensures put { drop result line.new ≡ octet_digits octet ++ drop end line.old }
+{
+    let mut digits = [0; 2];
+    let _ = hex::encode_to_slice([octet], &mut digits);
+    put(line, end, &digits)
+}
+
+/// Puts octets in hexadecimal digits of lower case, two for each, as `put` puts octets.
+// Inlined, so that the places and lengths of the pieces of a line are known when it is compiled.
+#[inline(always)]
+#[tactic(auto, unfolding(crate::specs::Digits::digits_of))]
+pub fn put_hexadecimal(line: &mut [u8; 128], end: usize, octets: &[u8]) -> usize
+    requires { (2 * length octets.now ≤ end) × (end ≤ 128) }
+    ensures start { (result ≤ end) × (end ≤ result + 2 * length octets.now) }
+    ensures put { drop result line.new ≡ digits_of octets.now ++ drop end line.old }
+{
+    let start = end - 2 * octets.len();
+    let _ = hex::encode_to_slice(octets, &mut line[start..end]);
+    start
+}
