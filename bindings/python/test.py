@@ -57,6 +57,8 @@ class Messages(unittest.TestCase):
         self.assertEqual(fio2070.decode_command(bytes.fromhex('3200010000')).load, 65536)
 
     def test_answers(self):
+        self.assertEqual(fio2070.show(bytes.fromhex('3605')), 'poll block 5\n')
+        self.assertEqual(fio2070.show(b'\7'), 'unknown type 7\n')
         answer = fio2070.decode_answer(BLOCK)
         self.assertEqual((answer.code, answer.block, answer.status, answer.stamp), (182, 5, 0, 1000))
         self.assertEqual(answer.entries, [(12, 1, 999)])

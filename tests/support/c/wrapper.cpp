@@ -33,6 +33,7 @@ static void reads_and_writes() {
     CHECK(fio2070::command_items(*configuration).size() == 2 && fio2070::command_items(*configuration)[1].ignore == 1);
     auto command = fio2070::decode_command(fio2070::encode::poll(5));
     CHECK(command && command->code == 54 && command->block == 5 && command.fault().kind() == FIO2070_NO_FAULT);
+    CHECK(fio2070::show(fio2070::encode::poll(5)) == "poll block 5\n" && fio2070::show(List({7})) == "unknown type 7\n");
     auto nothing = fio2070::decode_command(List());
     CHECK(!nothing && !nothing.message() && nothing.fault().text() == "empty");
     auto answer = fio2070::decode_answer(BLOCK);

@@ -38,6 +38,11 @@ fn commands_are_written_and_read() {
     let mut read = [ConfigurationItem::default(); MOST_ENTRIES];
     assert_eq!(command_items(&octets, &mut read), 2);
     assert_eq!(read[..2], items);
+    let mut text = [b'?'; 16];
+    assert_eq!(show(&[0x36, 5], &mut text[..12]), 13);
+    assert_eq!(text[0], b'?');
+    assert_eq!(show(&[0x36, 5], &mut text), 13);
+    assert_eq!(&text, b"poll block 5\n???");
     assert_eq!(
         decode_command(&octets),
         Ok(Command {
