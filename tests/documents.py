@@ -1,6 +1,7 @@
 #!/usr/bin/env python3
 """Runs each command of the blocks marked `console` in the documents, of the examples of the manual page and of those
-of `--help`, and compares what it prints. Looks for each file that a document names.
+of `--help`, and compares what it prints. Looks for each file that a document names. Counts the words of the pages: those
+of a row of `BUDGETS` may have so many together.
 
 A line that begins with `$ ` is a command, run by sh at the top of the repository, with `fio2070` on the path; the lines
 below it, up to the next command or the end of the block, are what it prints, on standard output. A line `...` stands
@@ -20,6 +21,25 @@ sys.dont_write_bytecode = True
 from support.check import Check
 from support.console import row
 from support.tables import TOP
+
+# The most words of some pages together, as `wc -w` counts them.
+BUDGETS = [
+    (1850, ['README.md']),
+    (1500, ['docs/DEFINITIONS.md']),
+    (5700, ['docs/PROMISES.md']),
+    (900, ['docs/PERFORMANCE.md']),
+    (3000, ['docs/PROTOCOL.md']),
+    (1600, ['docs/ARCHITECTURE.md']),
+    (2200, ['docs/FORMATS.md']),
+    (2800, ['docs/C-LIBRARY.md', 'docs/CAPTURES.md', 'docs/PLANNING.md']),
+    (3200, ['CHANGELOG.md', 'CONTRIBUTING.md', 'docs/DECISIONS.md', 'docs/EMBEDDING.md', 'tools/README.md',
+            'tools/waveform/README.md', 'tools/wireshark/README.md']),
+    (1000, ['docs/TESTS.md']),
+]
+# The most words of all other pages together.
+OTHER_BUDGET = 2500
+# `tools/generate-glossary` writes it: its words are those of the comments.
+WITHOUT_BUDGET = ['docs/GLOSSARY.md']
 
 
 def documents():
@@ -81,6 +101,23 @@ def missing_files(path):
     return missing + [link for link in links if not os.path.exists(os.path.join(os.path.dirname(path), link))]
 
 
+def words_in(name):
+    """How many words a page has."""
+    with open(os.path.join(TOP, name), encoding='utf-8') as page:
+        return len(page.read().split())
+
+
+def check_budgets(check):
+    """The pages have at most the words of their row; each that no row names is one of the others."""
+    pages = [os.path.relpath(path, TOP) for path in documents() if path.endswith('.md')]
+    named = [name for _, names in BUDGETS for name in names] + WITHOUT_BUDGET
+    others = [name for name in pages if name not in named]
+    for most, names in BUDGETS + [(OTHER_BUDGET, others)]:
+        words = {name: words_in(name) for name in names}
+        total = sum(words.values())
+        check.holds('at most %d words in %s' % (most, ', '.join(names)), total <= most, '%d words: %s' % (total, words))
+
+
 def printed(command, folder):
     """What a command prints, with the programs of a folder on the path."""
     path = folder + os.pathsep + os.environ.get('PATH', os.defpath)
@@ -91,6 +128,7 @@ def printed(command, folder):
 
 def main():
     check = Check()
+    check_budgets(check)
     with tempfile.TemporaryDirectory() as folder:
         os.symlink(os.path.join(TOP, 'fio2070'), os.path.join(folder, 'fio2070'))
         for path in documents():

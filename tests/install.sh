@@ -58,13 +58,13 @@ if has_command man; then
 else
     skip 'man shows the page' 'no man here (Debian package man-db)'
 fi
-for name in show simulate check; do
+for name in show simulate check record; do
     holds "the page says what $name does" grep -q "^\.SS $name\$" "$page"
 done
 
 completions=$prefix/share/bash-completion/completions/fio2070
 if has_command bash; then
-    holds 'first words' completes 'show simulate check -h --help -V --version' fio2070 ''
+    holds 'first words' completes 'show simulate check record -h --help -V --version' fio2070 ''
     holds 'a beginning' completes 'show simulate' fio2070 s
     holds 'words of a subcommand' completes '-h --help' fio2070 check ''
     holds 'no words after another' completes '' fio2070 other ''

@@ -61,11 +61,13 @@ class Judge:
             direction = {'>': '<', '<': '>'}[direction]
         hear = self.checker.sent if direction == '>' else self.checker.heard
         found = hear(event.octets)
-        before, self.polled = self.polled, event.octets[1] if event.octets[:1] == bytes([POLL]) else self.polled
+        is_poll, before = len(event.octets) == 2 and event.octets[0] == POLL, self.polled
+        if is_poll:
+            self.polled = event.octets[1]
         if found is None:
             return None
         rule = RULES[found.rule] if isinstance(found.rule, int) else str(found.rule)
-        if rule == 'advance' and place != 'cpu' and event.octets[1] == before:
+        if rule == 'advance' and place != 'cpu' and self.polled == before:
             # Whether the CPU heard the answer is not known here: asking again may be right.
             self.excused += 1
             return None

@@ -70,7 +70,7 @@ static void has_values() {
     CHECK(text == "wrong length needed 2 got 1");
     fio2070::Poller poller(5);
     CHECK(poller.hear(BLOCK).is_taken());
-    CHECK(poller.drain() == std::vector<fio2070::RecordItem>({{0, 12, 1, 999, 999}}));
+    CHECK(poller.drain() == std::vector<fio2070::RecordItem>({{0, 12, 1, {0, 0, 0}, 999, 999}}));
     CHECK(poller.record().empty() && poller.number() == 6);
 }
 
