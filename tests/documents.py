@@ -34,7 +34,7 @@ BUDGETS = [
     (2800, ['docs/C-LIBRARY.md', 'docs/CAPTURES.md', 'docs/PLANNING.md']),
     (3200, ['CHANGELOG.md', 'CONTRIBUTING.md', 'docs/DECISIONS.md', 'docs/EMBEDDING.md', 'tools/README.md',
             'tools/waveform/README.md', 'tools/wireshark/README.md']),
-    (1000, ['docs/TESTS.md']),
+    (800, ['docs/TESTS.md']),
 ]
 # The most words of all other pages together.
 OTHER_BUDGET = 2500
