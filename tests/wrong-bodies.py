@@ -24,10 +24,10 @@ def fault_of(stanza, names):
 
 
 def rows_shown():
-    """The rows of the page's tables of wrong bodies: name, and what refuses it."""
+    """The rows of the page's table of wrong bodies: name, and what refuses it."""
     with open(os.path.join(TOP, 'docs', 'PROMISES.md'), encoding='utf-8') as page:
-        for table in page.read().split('| Wrong body | Refused by |\n|---|---|\n')[1:]:
-            yield from re.findall(r'^\| (.*) \| `(.*)` \|$', table.split('\n\n')[0], re.M)
+        for table in page.read().split('| Promise | Wrong body | Refused by |\n|---|---|---|\n')[1:]:
+            yield from re.findall(r'^\| .* \| (.*) \| `(.*)` \|$', table.split('\n\n')[0], re.M)
 
 
 def main():
