@@ -1,6 +1,21 @@
 //! The field I/O transition link of the Model 2070, by the proved library libfio2070.a.
 //!
 //! Ranges, errors and sources are those of include/fio2070.h. Nothing here allocates.
+//!
+//! ```
+//! use fio2070::{Heard, Module, Poller, RecordItem, LONGEST_FRAME, MOST_RECORD_ITEMS};
+//!
+//! let mut module = Module::new(2, 255).unwrap();
+//! let mut poller = Poller::new(0);
+//! let mut items = [RecordItem::default(); MOST_RECORD_ITEMS];
+//! let (mut poll, mut answer) = ([0; 2], [0; LONGEST_FRAME]);
+//! let frame = module.receive(poller.poll(&mut poll).unwrap(), &mut answer).unwrap();
+//! match poller.hear(frame, &mut items) {
+//!     Heard::Taken { items: count, .. } => println!("{:?}", &items[..count]),
+//!     other => panic!("{other:?}"),
+//! }
+//! assert_eq!(poller.number(), 1);
+//! ```
 #![no_std]
 
 pub mod constants;
