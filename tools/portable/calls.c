@@ -64,7 +64,7 @@ static struct fio2070_fault fault_in(const uint8_t *p) {
     fault.kind = p[0];
     fault.code = p[1];
     fault.needed = get16(p + 2);
-    fault.got = (size_t)get64(p + 8);
+    fault.got = get64(p + 8);
     return fault;
 }
 
@@ -182,7 +182,7 @@ struct fio2070_fault fio2070_decode_answer(const uint8_t *octets, size_t length,
         answer->status = into[4];
         answer->block = into[5];
         answer->count = into[6];
-        answer->body = get16(into + 8);
+        answer->body = get16(into + 10);
         answer->stamp = get32(into + 12);
         answer->inputs = get64(into + 16);
     }
@@ -277,7 +277,7 @@ struct fio2070_heard fio2070_poller_hear(struct fio2070_poller *poller, const ui
     for (place = 0; heard.kind == FIO2070_TAKEN && place < heard.items; place++) {
         struct fio2070_record_item *it = &items[place];
         const uint8_t *octets_of_it = from + 12 * place;
-        uint16_t stamp = get16(octets_of_it + 4);
+        uint16_t stamp = get16(octets_of_it + 6);
         uint32_t wide = get32(octets_of_it + 8);
         it->gap = octets_of_it[0];
         it->input = octets_of_it[1];
@@ -332,7 +332,7 @@ struct fio2070_configured fio2070_filters_configure(struct fio2070_filters *filt
     }
     memset(&configured, 0, sizeof configured);
     configured.kind = into[0];
-    configured.place = (size_t)get64(into + 8);
+    configured.place = get64(into + 8);
     return configured;
 }
 

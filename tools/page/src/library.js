@@ -70,7 +70,7 @@ export class Library {
     return {
       fault: null, isAnswer: true,
       code: all[at], flags: all[at + 1], receiveErrors: all[at + 2], transmitErrors: all[at + 3], status: all[at + 4],
-      block: all[at + 5], count: all[at + 6], body: data.getUint16(at + 8, true), stamp: data.getUint32(at + 12, true),
+      block: all[at + 5], count: all[at + 6], body: data.getUint16(at + 10, true), stamp: data.getUint32(at + 12, true),
       inputs: data.getBigUint64(at + 16, true),
     };
   }
@@ -178,7 +178,7 @@ class Poller {
     const { all, data } = this.library.machine, at = this.library.elements + place * SIZE.recordItem;
     return {
       isGap: all[at] !== 0, input: all[at + 1], state: all[at + 2],
-      stamp: data.getUint16(at + 4, true), wide: data.getUint32(at + 8, true),
+      stamp: data.getUint16(at + 6, true), wide: data.getUint32(at + 8, true),
     };
   }
 }
