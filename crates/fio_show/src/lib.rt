@@ -7,6 +7,16 @@
 //! The definitions stand in `specs/`, in this order: octets as digits (`Digits`), the line of an entry
 //! (`EntryLines`), the lines of commands (`CommandLines`), of answers (`AnswerLines`) and of frames
 //! (`FrameLines`), what follows a first line (`Shown`).
+//!
+//! # Examples
+//!
+//! ```rust
+//! use fio_show::put_frame;
+//!
+//! let mut line = [0; 128];
+//! let (start, _) = put_frame(&mut line, &[0x36, 5])?;
+//! assert_eq!(rt; &line[start..], b"poll block 5\n".as_slice());
+//! ```
 #![tactic(auto)]
 
 mod answers;
