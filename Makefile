@@ -50,8 +50,8 @@ uninstall:
 libraries = $(wildcard libfio2070.a)
 headers = $(wildcard include/*.h include/*.hpp)
 tools = $(wildcard tools/*)
-# The copy beside the Python packages needs no version: they alone load it.
-python_library = $(wildcard libfio2070.so)
+# The Python packages load the copy beside them.
+python_library = $(wildcard libfio2070.so.1)
 
 .PHONY: install-more uninstall-more
 
@@ -67,7 +67,7 @@ endif
 ifneq ($(tools),)
 	install -d '$(root)/$(TOOLS)'
 	cp -R tools '$(root)/$(TOOLS)'
-	install -d '$(bin)' '$(root)/$(TOOLS)/python/fio2070' '$(root)/$(TOOLS)/python/fiolog'
+	install -d '$(bin)' '$(man)' '$(root)/$(TOOLS)/python/fio2070' '$(root)/$(TOOLS)/python/fiolog'
 	install -m 644 bindings/python/fio2070/*.py bindings/python/fio2070/py.typed '$(root)/$(TOOLS)/python/fio2070'
 	install -m 644 bindings/python/fiolog/*.py bindings/python/fiolog/forms.json '$(root)/$(TOOLS)/python/fiolog'
 	install -d '$(root)/$(TOOLS)/rust/fio2070/src'
@@ -75,6 +75,7 @@ ifneq ($(tools),)
 	install -m 644 bindings/rust/fio2070/src/*.rs '$(root)/$(TOOLS)/rust/fio2070/src'
 	$(if $(python_library),install -m 644 $(python_library) '$(root)/$(TOOLS)/python/fio2070')
 	ln -sf '../$(TOOLS)/tools/fiolog' '$(bin)/fiolog'
+	install -m 644 man/fiolog.1 man/fio2070-tools.1 '$(man)'
 	@echo 'The Wireshark dissector is installed. To enable it:'
 	@echo "    mkdir -p ~/.local/lib/wireshark/plugins"
 	@echo "    ln -sf '$(PREFIX)/$(TOOLS)/tools/wireshark/fio2070.lua' ~/.local/lib/wireshark/plugins/"
@@ -83,24 +84,34 @@ endif
 uninstall-more:
 	rm -f $(foreach file,$(notdir $(libraries)),'$(root)/$(LIB)/$(file)')
 	rm -f $(foreach file,$(notdir $(headers)),'$(root)/include/$(file)')
-	rm -f '$(bin)/fiolog'
+	rm -f '$(bin)/fiolog' '$(man)/fiolog.1' '$(man)/fio2070-tools.1'
 	rm -rf '$(root)/$(TOOLS)/tools' '$(root)/$(TOOLS)/python' '$(root)/$(TOOLS)/rust'
 
 # The archive and the Debian package, with the library for C: the same files give the same octets each time.
 
-dist deb: all libfio2070.a fio2070-test
-	@packaging/$@ '$(DIST)'
+# With TARGET=aarch64 they are of the library for AArch64 alone.
 
-# The library for C: `make library` makes the archive, and a shared library for languages that load one, in OUT.
-# They are installed where they were made. PCPREFIX is the prefix that fio2070.pc names. RTFLAGS are further words for
-# `rt lib`, as `--jobs 1`.
+ifeq ($(TARGET),aarch64)
+dist deb: ./aarch64/libfio2070.a
+	@packaging/$@ '$(DIST)' aarch64
+else
+dist deb: all libfio2070.a libfio2070.so fio2070-test
+	@packaging/$@ '$(DIST)'
+endif
+
+# The library for C: `make library` makes the archive, and a shared library for languages that load one, in OUT. The
+# number in the shared library's name is that of its interface: it rises when a program has to be built anew. They are
+# installed where they were made, with what pkg-config and CMake need to find them. PCPREFIX is the prefix that
+# fio2070.pc names. RTFLAGS are further words for `rt lib`, as `--jobs 1`.
 
 OUT = .
 PCPREFIX = $(PREFIX)
 RTFLAGS =
 VERSION = $(shell sed -n 's/^## \([0-9][0-9.]*\).*/\1/p' CHANGELOG.md | head -n 1)
 pkgconfig = $(root)/$(LIB)/pkgconfig
-shared = $(wildcard libfio2070.so)
+cmake = $(root)/$(LIB)/cmake/fio2070
+soname = libfio2070.so.1
+shared = $(wildcard $(soname))
 archive = crates/fio_c/out/libfio_c.a
 crates := $(shell ./build --order fio_c)
 proved := $(shell find $(addprefix crates/,$(crates)) \
@@ -112,12 +123,11 @@ proved := $(shell find $(addprefix crates/,$(crates)) \
 ifeq ($(TARGET),aarch64)
 library: $(OUT)/aarch64/libfio2070.a
 else
-library: $(OUT)/libfio2070.a $(OUT)/libfio2070.so $(OUT)/fio2070-test
+library: $(OUT)/libfio2070.a $(OUT)/$(soname) $(OUT)/libfio2070.so $(OUT)/fio2070-test
 endif
 
-# Each library before those that use it: asked for the last alone, `rt lib` reads all of them once more.
 $(archive): $(proved)
-	set -e; for crate in $(crates); do (cd crates/$$crate && rt lib $(RTFLAGS)); done
+	@./build --library fio_c $(RTFLAGS)
 
 $(OUT)/libfio2070.a: $(archive)
 	mkdir -p $(OUT)
@@ -148,7 +158,7 @@ $(module): crates/fio_c/out/$(wasm)/libfio_c.a
 # The portable library: fio2070.c and fio2070.h, two files of C99 for any processor (tools/portable/README.md).
 
 portable = portable
-translator = $(addprefix tools/portable/,translate instructions.py functions.py module.py head.c machine.c calls.c)
+translator = $(addprefix tools/portable/,translate instructions.py functions.py module.py accesses.py ahead.py head.c machine.c calls.c)
 
 .PHONY: portable
 
@@ -163,15 +173,29 @@ $(portable)/fio2070.c: $(module) include/fio2070.h $(translator)
 tester = $(wildcard tools/conformance/conformance*.c)
 exports = tools/conformance/exports.map
 
-$(OUT)/libfio2070.so: $(OUT)/libfio2070.a $(tester) $(exports)
-	$(CC) -O2 -fPIC -I include -shared -Wl,-soname,libfio2070.so -Wl,--version-script=$(exports) $(tester) \
+$(OUT)/$(soname): $(OUT)/libfio2070.a $(tester) $(exports)
+	$(CC) -O2 -fPIC -I include -shared -Wl,-soname,$(soname) -Wl,--version-script=$(exports) $(tester) \
 	    -Wl,--whole-archive $< -Wl,--no-whole-archive -o $@
+
+# The name by which a program is linked.
+$(OUT)/libfio2070.so: $(OUT)/$(soname)
+	ln -sf $(soname) $@
 
 # The tester as a command, of modules that are asked over a wire (tools/conformance/README.md).
 command = $(wildcard fio2070-test)
 
 $(OUT)/fio2070-test: $(OUT)/libfio2070.a $(tester) tools/conformance/fio2070_test.c
 	$(CC) -O2 -I include $(tester) tools/conformance/fio2070_test.c $< -o $@
+
+# The page of the C library, made of the header by doxygen: DOC/html/index.html.
+
+DOC = doc
+
+.PHONY: doc
+
+doc:
+	mkdir -p '$(DOC)'
+	(cat packaging/Doxyfile; echo 'OUTPUT_DIRECTORY = "$(DOC)"') | doxygen -
 
 install: install-library
 uninstall: uninstall-library
@@ -181,9 +205,13 @@ ifneq ($(libraries),)
 	install -d '$(pkgconfig)'
 	sed -e 's|@PREFIX@|$(PCPREFIX)|' -e 's|@LIB@|$(LIB)|' -e 's|@VERSION@|$(VERSION)|' packaging/fio2070.pc.in \
 	    >'$(pkgconfig)/fio2070.pc'
+	install -d '$(cmake)'
+	for file in fio2070-config fio2070-config-version; do \
+	    sed -e 's|@LIB@|$(LIB)|' -e 's|@VERSION@|$(VERSION)|' "packaging/$$file.cmake.in" >'$(cmake)'/$$file.cmake; done
 endif
 ifneq ($(shared),)
 	install -m 644 $(shared) '$(root)/$(LIB)'
+	ln -sf $(soname) '$(root)/$(LIB)/libfio2070.so'
 endif
 ifneq ($(command),)
 	install -d '$(bin)' '$(man)' '$(bash)' '$(zsh)' '$(fish)'
@@ -195,7 +223,8 @@ ifneq ($(command),)
 endif
 
 uninstall-library:
-	rm -f '$(pkgconfig)/fio2070.pc' '$(root)/$(LIB)/libfio2070.so' '$(bin)/fio2070-test'
+	rm -f '$(pkgconfig)/fio2070.pc' '$(root)/$(LIB)/libfio2070.so' '$(root)/$(LIB)/$(soname)' '$(bin)/fio2070-test'
+	rm -f '$(cmake)'/fio2070-config.cmake '$(cmake)'/fio2070-config-version.cmake
 	rm -f '$(man)/fio2070-test.1' '$(bash)/fio2070-test' '$(zsh)/_fio2070-test' '$(fish)/fio2070-test.fish'
 
 # The page: one file that a browser opens offline, with the library in it (tools/page/README.md). Where `wasm-opt` of the

@@ -1,24 +1,27 @@
-/* Messages between the CPU of a Model 2070 controller and its field I/O module, and both ends of the link.
+/** @file
+ * Messages between the CPU of a Model 2070 controller and its field I/O module, and both ends of the link.
  *
  * The code behind these calls is proved: each does what its description says for all octets, all
  * lengths and all contents of its structs. docs/C-LIBRARY.md says what that covers. These calls
  * allocate nothing, keep no static data, start no thread, and call memcpy, memmove and memset
- * alone. It needs an x86-64 processor with SSE4.1.
+ * alone. On x86-64 it needs a processor with SSE4.1.
  *
  * What the caller owes, and nothing checks:
- *  - A pointer points to as many objects as its length says. Each is initialised, and aligned as C
- *    asks of its type. A pointer is not null, also where its length is 0.
+ *  - A pointer points to as many objects as its length says, aligned as C asks of their type. Where that
+ *    length is 0 it may be null (tested, not proved); any other pointer is not null.
+ *  - What an argument with const points to is initialised. What a call writes need not be.
  *  - During a call no one else writes what an argument points to, and no one else reads what an
  *    argument without const points to. Such an argument overlaps no other.
- *  - The structs filters, counter, checker and module are written by the calls of this header alone, _start
- *    first. Before _start they may hold any octets; _start sets each of them. They may be copied and
+ *  - The structs filters, counter, checker, content_checker and module are written by the calls of this header
+ *    alone, _start first. Before _start they may hold any octets; _start sets each of them. They may be copied and
  *    moved by memcpy.
  *
  * Sources: TEES 2009 is Caltrans TEES 2009. "Own profile" is a choice of this project where TEES
  * leaves one: 64 inputs, 64 outputs, and what docs/PROTOCOL.md marks so.
  *
- * A call that writes octets into `out` returns how many it wrote. Where `room` is too small it
- * returns 0 and writes nothing. No message has more than FIO2070_LONGEST_FRAME octets.
+ * A call that writes octets, entries or items into an array returns how many it wrote. Where `room` is too
+ * small it returns 0 and writes nothing. No message has more than FIO2070_LONGEST_FRAME octets. Where an encoder
+ * can find no message with its fields, a call with `_length` behind its name tells that from too little room.
  */
 #ifndef FIO2070_H
 #define FIO2070_H
@@ -42,61 +45,78 @@
 extern "C" {
 #endif
 
-/* The version of this header: 10,000 for each major version, 100 for each minor one, 1 for each patch. */
+/** The version of this header: 10,000 for each major version, 100 for each minor one, 1 for each patch. */
 #define FIO2070_VERSION 10000
 
-/* Returns that number of the library that is linked. */
+/** Returns that number of the library that is linked. */
 uint32_t fio2070_version(void);
 
+/** The most that there may be. */
 enum {
-    FIO2070_LONGEST_FRAME = 773,     /* octets of a frame (own profile) */
-    FIO2070_MOST_ENTRIES = 255,      /* entries of a block, and items of a configuration (TEES 2009) */
-    FIO2070_MOST_RECORD_ITEMS = 256, /* what one block adds to a record: a gap mark and its entries */
-    FIO2070_MOST_WAITING = 1024,     /* entries that wait in a module (TEES 2009) */
-    FIO2070_LONGEST_FAULT_TEXT = 65  /* octets of the words of a fault */
+    FIO2070_LONGEST_FRAME = 773,     /**< octets of a frame (own profile) */
+    FIO2070_MOST_ENTRIES = 255,      /**< entries of a block, and items of a configuration (TEES 2009) */
+    FIO2070_MOST_RECORD_ITEMS = 256, /**< what one block adds to a record: a gap mark and its entries */
+    FIO2070_MOST_WAITING = 1024,     /**< entries that wait in a module (TEES 2009) */
+    FIO2070_LONGEST_FAULT_TEXT = 65  /**< octets of the words of a fault */
 };
 
-/* The types of commands (TEES 2009). The type of an answer is that of its command plus 128. */
+/** The types of commands (TEES 2009). The type of an answer is that of its command plus 128. */
 enum {
-    FIO2070_STATUS = 49,
-    FIO2070_LOAD_COUNTER = 50,
-    FIO2070_CONFIGURE_INPUTS = 51,
-    FIO2070_RAW_INPUTS = 52,
-    FIO2070_FILTERED_INPUTS = 53,
-    FIO2070_POLL = 54,
-    FIO2070_SET_OUTPUTS = 55,
-    FIO2070_TRACK_INPUTS = 56,
-    FIO2070_COMPLEX_OUTPUTS = 57,
-    FIO2070_WATCHDOG = 58,
-    FIO2070_CONTROLLER_ID = 59,
-    FIO2070_IDENTIFY = 60,
-    FIO2070_ANSWER = 128 /* the type of an answer less that of its command */
+    FIO2070_TYPE_STATUS = 49,
+    FIO2070_TYPE_LOAD_COUNTER = 50,
+    FIO2070_TYPE_CONFIGURE_INPUTS = 51,
+    FIO2070_TYPE_RAW_INPUTS = 52,
+    FIO2070_TYPE_FILTERED_INPUTS = 53,
+    FIO2070_TYPE_POLL = 54,
+    FIO2070_TYPE_SET_OUTPUTS = 55,
+    FIO2070_TYPE_TRACK_INPUTS = 56,
+    FIO2070_TYPE_COMPLEX_OUTPUTS = 57,
+    FIO2070_TYPE_WATCHDOG = 58,
+    FIO2070_TYPE_CONTROLLER_ID = 59,
+    FIO2070_TYPE_IDENTIFY = 60,
+    FIO2070_TYPE_ANSWER = 128, /**< the type of an answer less that of its command */
+    /* The names of before, which version 2 leaves out. */
+    FIO2070_STATUS = FIO2070_TYPE_STATUS, FIO2070_LOAD_COUNTER = FIO2070_TYPE_LOAD_COUNTER,
+    FIO2070_CONFIGURE_INPUTS = FIO2070_TYPE_CONFIGURE_INPUTS, FIO2070_RAW_INPUTS = FIO2070_TYPE_RAW_INPUTS,
+    FIO2070_FILTERED_INPUTS = FIO2070_TYPE_FILTERED_INPUTS, FIO2070_POLL = FIO2070_TYPE_POLL,
+    FIO2070_SET_OUTPUTS = FIO2070_TYPE_SET_OUTPUTS, FIO2070_TRACK_INPUTS = FIO2070_TYPE_TRACK_INPUTS,
+    FIO2070_COMPLEX_OUTPUTS = FIO2070_TYPE_COMPLEX_OUTPUTS, FIO2070_WATCHDOG = FIO2070_TYPE_WATCHDOG,
+    FIO2070_CONTROLLER_ID = FIO2070_TYPE_CONTROLLER_ID, FIO2070_IDENTIFY = FIO2070_TYPE_IDENTIFY,
+    FIO2070_ANSWER = FIO2070_TYPE_ANSWER
 };
 
-/* Bits of statuses: their meaning is that of TEES 2009, their places are own profile. Other bits are
+/** Bits of statuses: their meaning is that of TEES 2009, their places are own profile. Other bits are
  * kept as they come. */
 enum {
-    FIO2070_ERROR = 1,           /* S of answers 178 and 179: error; clear: done */
-    FIO2070_SET_BEFORE = 1,      /* Y of answer 186: the watchdog had been set before */
-    FIO2070_MORE = 8,            /* C of answer 182: more entries waited than the block takes */
-    FIO2070_LOST = 4,            /* F of answer 182: entries directly before the block were pushed out */
-    FIO2070_AGAIN = 2,           /* E of answer 182: the same block number was asked for again */
-    FIO2070_OUT_OF_SEQUENCE = 1, /* G of answer 182: the number is not the one before plus one */
-    FIO2070_WAS_RESET = 128      /* P of the flags: the module was reset (own profile) */
+    FIO2070_BIT_ERROR = 1,           /**< S of answers 178 and 179: error; clear: done */
+    FIO2070_BIT_SET_BEFORE = 1,      /**< Y of answer 186: the watchdog had been set before */
+    FIO2070_BIT_MORE = 8,            /**< C of answer 182: more entries waited than the block takes */
+    FIO2070_BIT_LOST = 4,            /**< F of answer 182: entries directly before the block were pushed out */
+    FIO2070_BIT_AGAIN = 2,           /**< E of answer 182: the same block number was asked for again */
+    FIO2070_BIT_OUT_OF_SEQUENCE = 1, /**< G of answer 182: the number is not the one before plus one */
+    FIO2070_BIT_WAS_RESET = 128,     /**< P of the flags: the module was reset (own profile) */
+    /* The names of before, which version 2 leaves out. */
+    FIO2070_ERROR = FIO2070_BIT_ERROR, FIO2070_SET_BEFORE = FIO2070_BIT_SET_BEFORE,
+    FIO2070_MORE = FIO2070_BIT_MORE, FIO2070_LOST = FIO2070_BIT_LOST, FIO2070_AGAIN = FIO2070_BIT_AGAIN,
+    FIO2070_OUT_OF_SEQUENCE = FIO2070_BIT_OUT_OF_SEQUENCE, FIO2070_WAS_RESET = FIO2070_BIT_WAS_RESET
 };
 
 /* ---- Faults ---- */
 
-/* Why octets are no message: the first of these that applies (own profile). */
+/** Why octets are no message: the first of these that applies (own profile). */
 enum fio2070_fault_kind {
-    FIO2070_NO_FAULT = 0,
-    FIO2070_EMPTY = 1,        /* there is no octet */
-    FIO2070_TOO_LONG = 2,     /* more than 773 octets: `got` */
-    FIO2070_UNKNOWN_TYPE = 3, /* no message that the call reads has the type `code` */
-    FIO2070_WRONG_LENGTH = 4  /* a message of this type and count has `needed` octets, not `got` */
+    FIO2070_FAULT_NONE = 0,         /**< the octets are a message */
+    FIO2070_FAULT_EMPTY = 1,        /**< there is no octet */
+    FIO2070_FAULT_TOO_LONG = 2,     /**< more than 773 octets: `got` */
+    FIO2070_FAULT_UNKNOWN_TYPE = 3, /**< no message that the call reads has the type `code` */
+    FIO2070_FAULT_WRONG_LENGTH = 4, /**< a message of this type and count has `needed` octets, not `got` */
+    /* The names of before, which version 2 leaves out. */
+    FIO2070_NO_FAULT = FIO2070_FAULT_NONE, FIO2070_EMPTY = FIO2070_FAULT_EMPTY,
+    FIO2070_TOO_LONG = FIO2070_FAULT_TOO_LONG, FIO2070_UNKNOWN_TYPE = FIO2070_FAULT_UNKNOWN_TYPE,
+    FIO2070_WRONG_LENGTH = FIO2070_FAULT_WRONG_LENGTH
 };
 
-/* Numbers that a kind does not have are 0. */
+/** Why octets are no message. Numbers that a kind does not have are 0. */
 struct fio2070_fault {
     /** 0 none; 1 there is no octet; 2 more than 773 octets, `got` says how many; 3 no message of this call
      *  has the type `code`; 4 a message of this type and count has another length, `needed` and `got` say
@@ -112,13 +132,14 @@ struct fio2070_fault {
     uint64_t got;
 };
 
-/* Writes the words of a fault as `fio2070 show` does, such as "wrong length needed 14 got 11", at
+/** Writes the words of a fault as `fio2070 show` does, such as "wrong length needed 14 got 11", at
  * most 65 octets, with no line end and no zero octet after them. They are those of its kind, with
- * the numbers that the kind has; FIO2070_NO_FAULT and what is no kind have no words: 0. */
+ * the numbers that the kind has; FIO2070_FAULT_NONE and what is no kind have no words: 0. */
 size_t fio2070_fault_text(const struct fio2070_fault *fault, uint8_t *out, size_t room);
 
 /* ---- Reading block answers in place (TEES 2009, answer 182) ---- */
 
+/** A block answer without its entries. */
 struct fio2070_block_header {
     /** The block number. */
     uint8_t number;
@@ -132,7 +153,7 @@ struct fio2070_block_header {
     uint32_t stamp;
 };
 
-/* A transition: a change of the filtered state of an input. */
+/** A transition: a change of the filtered state of an input. */
 struct fio2070_entry {
     /** The input that changed, from 0 to 127. */
     uint8_t input;
@@ -143,23 +164,23 @@ struct fio2070_entry {
     uint16_t stamp;
 };
 
-/* Reads a block answer without its entries. After a fault `header` is unchanged. Any other answer is
+/** Reads a block answer without its entries. After a fault `header` is unchanged. Any other answer is
  * an unknown type here. */
 struct fio2070_fault fio2070_read_block(const uint8_t *octets, size_t length, struct fio2070_block_header *header);
 
-/* Returns how many entries a block answer has, and copies them to the front of `entries`. Where
- * `room` is smaller it copies none; the rest of `entries` is unchanged. 0 where the octets are no
- * block answer. */
+/** Copies the entries of a block answer to the front of `entries`, and returns how many they are: 0 where
+ * `room` is smaller than the `count` of its header, and where the octets are no block answer. The rest of
+ * `entries` is unchanged. */
 size_t fio2070_block_entries(const uint8_t *octets, size_t length, struct fio2070_entry *entries, size_t room);
 
-/* The time in milliseconds, modulo 2^32, of an entry with this stamp in an answer with the stamp
+/** The time in milliseconds, modulo 2^32, of an entry with this stamp in an answer with the stamp
  * `answer_stamp`: the number with these low 16 bits at or before answer_stamp and fewer than 65,536
  * steps back (own profile). */
 uint32_t fio2070_widen(uint32_t answer_stamp, uint16_t stamp);
 
 /* ---- Reading any message ---- */
 
-/* A command: the fields of its type; the others are 0. */
+/** A command: the fields of its type; the others are 0. */
 struct fio2070_command {
     /** The type: 49 to 60 (TEES 2009). */
     uint8_t code;
@@ -183,7 +204,7 @@ struct fio2070_command {
     uint8_t controls[8];
 };
 
-/* How one input is read (TEES 2009, an item of command 51). */
+/** How one input is read (TEES 2009, an item of command 51). */
 struct fio2070_configuration_item {
     /** The input, from 0 to 127. The module has the inputs 0 to 63. */
     uint8_t input;
@@ -196,7 +217,7 @@ struct fio2070_configuration_item {
     uint8_t trailing;
 };
 
-/* An answer: the fields of its type; the others are 0. */
+/** An answer: the fields of its type; the others are 0. */
 struct fio2070_answer {
     /** The type: 177 to 188 (TEES 2009). */
     uint8_t code;
@@ -222,82 +243,92 @@ struct fio2070_answer {
     uint64_t inputs;
 };
 
-/* Reads any command. After a fault `command` is unchanged. */
+/** Reads any command. After a fault `command` is unchanged. */
 struct fio2070_fault fio2070_decode_command(const uint8_t *octets, size_t length, struct fio2070_command *command);
 
-/* Returns how many items a configuration (command 51) has, and copies them to the front of `items`.
- * Where `room` is smaller it copies none; the rest of `items` is unchanged. 0 where the octets are no
- * configuration. */
+/** Copies the items of a configuration (command 51) to the front of `items`, and returns how many they
+ * are: 0 where `room` is smaller than the command's `count`, and where the octets are no configuration. The
+ * rest of `items` is unchanged. */
 size_t fio2070_command_items(const uint8_t *octets, size_t length, struct fio2070_configuration_item *items,
                              size_t room);
 
-/* Reads any answer. After a fault `answer` is unchanged. */
+/** Reads any answer. After a fault `answer` is unchanged. */
 struct fio2070_fault fio2070_decode_answer(const uint8_t *octets, size_t length, struct fio2070_answer *answer);
 
-/* Returns how many octets `fio2070 show` writes of a frame, with a line feed behind each line and no octet of 0, and
- * writes them to the front of `text`: the lines of the message, of an answer where the first octet is 128 or more, else
- * of a command; where it is none the words of the fault. Where `room` is smaller it writes none; the rest of `text` is
- * unchanged. */
+/** Writes what `fio2070 show` writes of a frame, with a line feed behind each line and no octet of 0: the lines of the
+ * message, of an answer where the first octet is 128 or more, else of a command; where it is none the words of the
+ * fault. */
 size_t fio2070_show(const uint8_t *octets, size_t length, uint8_t *text, size_t room);
+/** How many octets that text has. */
+size_t fio2070_show_length(const uint8_t *octets, size_t length);
 
 /* ---- Writing commands (TEES 2009) ---- */
 
-/* 49, request module status: clears the flags whose bits are one. 2 octets. */
+/** 49, request module status: clears the flags whose bits are one. 2 octets. */
 size_t fio2070_encode_status(uint8_t clear, uint8_t *out, size_t room);
-/* 50, millisecond counter management: the number that the next line sync loads. 5 octets. */
+/** 50, millisecond counter management: the number that the next line sync loads. 5 octets. */
 size_t fio2070_encode_load_counter(uint32_t load, uint8_t *out, size_t room);
-/* 51, configure inputs. 2 + 3 * count octets. 0 too where there are more than 255 items, and where
+/** 51, configure inputs. 2 + 3 * count octets. 0 too where there are more than 255 items, and where
  * one names an input above 127. */
 size_t fio2070_encode_configure_inputs(const struct fio2070_configuration_item *items, size_t count, uint8_t *out,
                                        size_t room);
-/* 52, poll raw input data. 1 octet. */
+/** How many octets that command has; 0 where there is none with these items. */
+size_t fio2070_encode_configure_inputs_length(const struct fio2070_configuration_item *items, size_t count);
+/** 52, poll raw input data. 1 octet. */
 size_t fio2070_encode_raw_inputs(uint8_t *out, size_t room);
-/* 53, poll filtered input data. 1 octet. */
+/** 53, poll filtered input data. 1 octet. */
 size_t fio2070_encode_filtered_inputs(uint8_t *out, size_t room);
-/* 54, poll input transition buffer: the block with this number. 2 octets. */
+/** 54, poll input transition buffer: the block with this number. 2 octets. */
 size_t fio2070_encode_poll(uint8_t block, uint8_t *out, size_t room);
-/* 55, set outputs. 17 octets (eight for each half are own profile). */
+/** 55, set outputs. 17 octets (eight for each half are own profile). */
 size_t fio2070_encode_set_outputs(const uint8_t levels[8], const uint8_t controls[8], uint8_t *out, size_t room);
-/* 58, configure watchdog: the timeout in milliseconds, 0 to 255. The module takes less than 10 as 10
+/** 58, configure watchdog: the timeout in milliseconds, 0 to 255. The module takes less than 10 as 10
  * and more than 100 as 100. 2 octets. */
 size_t fio2070_encode_watchdog(uint8_t timeout, uint8_t *out, size_t room);
-/* 60, module identification. 1 octet. */
+/** 60, module identification. 1 octet. */
 size_t fio2070_encode_identify(uint8_t *out, size_t room);
-/* 56, 57 or 59, with the octets after the type. 1 + length octets. 0 too for any other type, and for
+/** 56, 57 or 59, with the octets after the type. 1 + length octets. 0 too for any other type, and for
  * more than 772 octets. */
 size_t fio2070_encode_other_command(uint8_t code, const uint8_t *body, size_t length, uint8_t *out, size_t room);
+/** How many octets that command has; 0 where there is none of this type with a body of this length. */
+size_t fio2070_encode_other_command_length(uint8_t code, size_t length);
 
 /* ---- Writing answers (TEES 2009) ---- */
 
-/* 177: the flags that are left, the error counts and the millisecond counter. 8 octets. */
+/** 177: the flags that are left, the error counts and the millisecond counter. 8 octets. */
 size_t fio2070_encode_status_answer(uint8_t flags, uint8_t receive_errors, uint8_t transmit_errors, uint32_t stamp,
                                     uint8_t *out, size_t room);
-/* 178, to a load of the counter. 2 octets. */
+/** 178, to a load of the counter. 2 octets. */
 size_t fio2070_encode_load_counter_answer(uint8_t status, uint8_t *out, size_t room);
-/* 179, to a configuration. 2 octets. */
+/** 179, to a configuration. 2 octets. */
 size_t fio2070_encode_configure_inputs_answer(uint8_t status, uint8_t *out, size_t room);
-/* 180: the levels of the inputs at the last scan; bit i is input i. 13 octets. */
+/** 180: the levels of the inputs at the last scan; bit i is input i. 13 octets. */
 size_t fio2070_encode_raw_inputs_answer(uint64_t inputs, uint32_t stamp, uint8_t *out, size_t room);
-/* 181: the filtered states; bit i is input i. 13 octets. */
+/** 181: the filtered states; bit i is input i. 13 octets. */
 size_t fio2070_encode_filtered_inputs_answer(uint64_t inputs, uint32_t stamp, uint8_t *out, size_t room);
-/* 182, a block. 8 + 3 * count octets. 0 too where there are more than 255 entries, and where one
+/** 182, a block. 8 + 3 * count octets. 0 too where there are more than 255 entries, and where one
  * names an input above 127. */
 size_t fio2070_encode_block_answer(uint8_t block, const struct fio2070_entry *entries, size_t count, uint8_t status,
                                    uint32_t stamp, uint8_t *out, size_t room);
-/* 186, to a watchdog command. 2 octets. */
+/** How many octets that answer has; 0 where there is none with these entries. */
+size_t fio2070_encode_block_answer_length(const struct fio2070_entry *entries, size_t count);
+/** 186, to a watchdog command. 2 octets. */
 size_t fio2070_encode_watchdog_answer(uint8_t status, uint8_t *out, size_t room);
-/* 183, 184, 185, 187 or 188, with the octets after the type. 1 + length octets. 0 too for any other
+/** 183, 184, 185, 187 or 188, with the octets after the type. 1 + length octets. 0 too for any other
  * type, and for more than 772 octets. */
 size_t fio2070_encode_other_answer(uint8_t code, const uint8_t *body, size_t length, uint8_t *out, size_t room);
+/** How many octets that answer has; 0 where there is none of this type with a body of this length. */
+size_t fio2070_encode_other_answer_length(uint8_t code, size_t length);
 
 /* ---- The CPU's end (own profile) ---- */
 
-/* The caller sets the first number, and keeps the record. */
+/** The CPU's end. The caller sets the first number, and keeps the record. */
 struct fio2070_poller {
     /** The block number of the next poll. The caller sets the first one. */
     uint8_t number;
 };
 
+/** An item of the record: an entry with its time, or a gap mark. */
 struct fio2070_record_item {
     /** 1 for a gap mark, where entries are missing, and the other fields are 0; 0 for an entry. */
     uint8_t gap;
@@ -313,16 +344,20 @@ struct fio2070_record_item {
     uint32_t wide;
 };
 
-/* What octets were: the first of these that applies, but _TAKEN is 0. */
+/** What octets were: the first of these that applies, but _TAKEN is 0. */
 enum fio2070_heard_kind {
-    FIO2070_TAKEN = 0,      /* a block with the present number, taken whole: `entries`, `status`, `items` */
-    FIO2070_UNREADABLE = 1, /* no answer: `fault` */
-    FIO2070_OTHER = 2,      /* an answer of another type: `code` */
-    FIO2070_STALE = 3,      /* a block with another number: `number` */
-    FIO2070_NO_ROOM = 4     /* a block with the present number that needs room for `items` */
+    FIO2070_HEARD_TAKEN = 0,      /**< a block with the present number, taken whole: `entries`, `status`, `items` */
+    FIO2070_HEARD_UNREADABLE = 1, /**< no answer: `fault` */
+    FIO2070_HEARD_OTHER = 2,      /**< an answer of another type: `code` */
+    FIO2070_HEARD_STALE = 3,      /**< a block with another number: `number` */
+    FIO2070_HEARD_NO_ROOM = 4,    /**< a block with the present number that needs room for `items` */
+    /* The names of before, which version 2 leaves out. */
+    FIO2070_TAKEN = FIO2070_HEARD_TAKEN, FIO2070_UNREADABLE = FIO2070_HEARD_UNREADABLE,
+    FIO2070_OTHER = FIO2070_HEARD_OTHER, FIO2070_STALE = FIO2070_HEARD_STALE,
+    FIO2070_NO_ROOM = FIO2070_HEARD_NO_ROOM
 };
 
-/* Numbers that a kind does not have are 0. */
+/** What a poller heard. Numbers that a kind does not have are 0. */
 struct fio2070_heard {
     /** 0 a block that was taken, with `entries` and `status`; 1 no answer, with `fault`; 2 another answer,
      *  with its type `code`; 3 a stale block, with its `number`; 4 no room for `items`. */
@@ -343,10 +378,10 @@ struct fio2070_heard {
     struct fio2070_fault fault;
 };
 
-/* Writes a poll with the present number. 2 octets. */
+/** Writes a poll with the present number. 2 octets. */
 size_t fio2070_poller_poll(const struct fio2070_poller *poller, uint8_t *out, size_t room);
 
-/* Hears the octets of a frame. A block answer with the present number is taken whole: what it adds to
+/** Hears the octets of a frame. A block answer with the present number is taken whole: what it adds to
  * the record is written to the front of `items`, a gap mark if F is set and then its entries in order,
  * and the number rises by one modulo 256. In all other cases nothing changes; a block with no room
  * can be heard again with more. 256 items are always enough. */
@@ -355,20 +390,26 @@ struct fio2070_heard fio2070_poller_hear(struct fio2070_poller *poller, const ui
 
 /* ---- The rules of a transcript ---- */
 
-/* The rules, in the order in which they are tried (own profile; docs/FORMATS.md). */
+/** The rules, in the order in which they are tried (own profile; docs/FORMATS.md). */
 enum {
-    FIO2070_READABLE = 1,
-    FIO2070_PAIR = 2,
-    FIO2070_NUMBER = 3,
-    FIO2070_ADVANCE = 4,
-    FIO2070_SAME = 5,
-    FIO2070_SEQUENCE = 6,
-    FIO2070_LIMITS = 7,
-    FIO2070_REST = 8,
-    FIO2070_REFUSAL = 9
+    FIO2070_RULE_READABLE = 1,
+    FIO2070_RULE_PAIR = 2,
+    FIO2070_RULE_NUMBER = 3,
+    FIO2070_RULE_ADVANCE = 4,
+    FIO2070_RULE_SAME = 5,
+    FIO2070_RULE_SEQUENCE = 6,
+    FIO2070_RULE_LIMITS = 7,
+    FIO2070_RULE_REST = 8,
+    FIO2070_RULE_REFUSAL = 9,
+    /* The names of before, which version 2 leaves out. */
+    FIO2070_READABLE = FIO2070_RULE_READABLE, FIO2070_PAIR = FIO2070_RULE_PAIR,
+    FIO2070_NUMBER = FIO2070_RULE_NUMBER, FIO2070_ADVANCE = FIO2070_RULE_ADVANCE,
+    FIO2070_SAME = FIO2070_RULE_SAME, FIO2070_SEQUENCE = FIO2070_RULE_SEQUENCE,
+    FIO2070_LIMITS = FIO2070_RULE_LIMITS, FIO2070_REST = FIO2070_RULE_REST,
+    FIO2070_REFUSAL = FIO2070_RULE_REFUSAL
 };
 
-/* A checker of what the CPU's end sends and hears. Its fields are the library's own. */
+/** A checker of what the CPU's end sends and hears. Its fields are the library's own. */
 struct fio2070_checker {
     /** 1 where a command stands directly above. */
     uint8_t has_awaited;
@@ -390,7 +431,7 @@ struct fio2070_checker {
     uint8_t skips;
 };
 
-/* The first rule that a frame breaks, and what was due. */
+/** The first rule that a frame breaks, and what was due. */
 struct fio2070_breach {
     /** 0 none; 1 readable; 2 pair; 3 number; 4 advance; 5 same; 6 sequence; 7 limits; 8 rest; 9 refusal. */
     uint8_t rule;
@@ -402,18 +443,72 @@ struct fio2070_breach {
     uint8_t got;
 };
 
-/* Above the first frame. */
+/** Above the first frame. */
 void fio2070_checker_start(struct fio2070_checker *checker);
-/* Take a frame that the CPU's end sent or heard: they write its breach, and return the breach's rule. Below
- * a breach the checker goes on as one that starts at the next poll. */
+/** Takes a frame that the CPU's end sent: writes its breach, and returns the breach's rule. Below a breach the
+ * checker goes on as one that starts at the next poll. */
 uint8_t fio2070_checker_sent(struct fio2070_checker *checker, const uint8_t *octets, size_t length,
                              struct fio2070_breach *breach);
+/** Takes a frame that the CPU's end heard, likewise. */
 uint8_t fio2070_checker_heard(struct fio2070_checker *checker, const uint8_t *octets, size_t length,
                               struct fio2070_breach *breach);
 
+/* ---- The rules on content ---- */
+
+/** What an entry of a block may break, in the order in which the rules are tried (own profile; docs/FORMATS.md). They
+ * judge a transcript that keeps the rules above. */
+enum {
+    FIO2070_CONTENT_ORDER = 1,     /**< its time is before that of the entry before it */
+    FIO2070_CONTENT_ALTERNATE = 2, /**< it has the state of the latest entry of its input */
+    FIO2070_CONTENT_APART = 3      /**< it is nearer to that entry than the filter for the change */
+};
+
+/** What the rules on content keep of the frames above. The fields are the library's own. */
+struct fio2070_content_checker {
+    struct {
+        uint32_t times[128];
+        uint32_t before;
+        uint8_t states[128];
+        uint8_t quiet[128];
+        uint8_t named[128];
+        uint8_t leading[128];
+        uint8_t trailing[128];
+        uint8_t has_before;
+        uint8_t asking;
+        uint8_t asked_quiet;
+        uint8_t clear_quiet;
+        uint8_t loaded;
+        uint8_t accepted;
+        uint8_t reserved[2];
+    } above;
+    uint8_t has_number;
+    uint8_t number;
+    uint8_t reserved[2];
+};
+
+/** The first entry of a block that breaks a rule on content. */
+struct fio2070_content_breach {
+    /** 0 none; 1 order; 2 alternate; 3 apart. */
+    uint8_t rule;
+    /** The index of the entry in its block, from 0. */
+    uint8_t entry;
+    /** The input that the entry names. */
+    uint8_t input;
+};
+
+/** Above the first frame. */
+void fio2070_content_start(struct fio2070_content_checker *content);
+/** Takes a frame that the CPU's end sent: no entry is in it. */
+void fio2070_content_sent(struct fio2070_content_checker *content, const uint8_t *octets, size_t length);
+/** Takes a frame that the CPU's end heard: writes the first entry of its block that breaks a rule on content, and returns
+ * the number of the rule, 0 where none does. All entries of the block are taken, below a breach too. Blocks are judged
+ * that a poller takes whose first number is that of the first poll sent, each once. */
+uint8_t fio2070_content_heard(struct fio2070_content_checker *content, const uint8_t *octets, size_t length,
+                              struct fio2070_content_breach *breach);
+
 /* ---- Parts of a module ---- */
 
-/* The millisecond counter. Its fields are the library's own. */
+/** The millisecond counter. Its fields are the library's own. */
 struct fio2070_counter {
     uint32_t value;
     uint32_t load;
@@ -421,18 +516,18 @@ struct fio2070_counter {
     uint8_t reserved[3];
 };
 
-/* At 0 (own profile), with no load asked for. */
+/** At 0 (own profile), with no load asked for. */
 void fio2070_counter_start(struct fio2070_counter *counter);
-/* One step, from 4,294,967,295 to 0. Each scan of a module does it before it samples (own profile). */
+/** One step, from 4,294,967,295 to 0. Each scan of a module does it before it samples (own profile). */
 void fio2070_counter_tick(struct fio2070_counter *counter);
-/* The next line sync loads this number (TEES 2009), and none that was asked for before (own profile). */
+/** The next line sync loads this number (TEES 2009), and none that was asked for before (own profile). */
 void fio2070_counter_ask_load(struct fio2070_counter *counter, uint32_t number);
-/* LINESYNC goes from 0 to 1: a load that was asked for happens now (TEES 2009). */
+/** LINESYNC goes from 0 to 1: a load that was asked for happens now (TEES 2009). */
 void fio2070_counter_line_sync(struct fio2070_counter *counter);
-/* The milliseconds counted, modulo 2^32. */
+/** The milliseconds counted, modulo 2^32. */
 uint32_t fio2070_counter_now(const struct fio2070_counter *counter);
 
-/* The filters of the 64 inputs. Bit i of a word is input i. The fields are the library's own. */
+/** The filters of the 64 inputs. Bit i of a word is input i. The fields are the library's own. */
 struct fio2070_filters {
     uint8_t run_lengths[64];
     uint8_t leading[64];
@@ -442,13 +537,17 @@ struct fio2070_filters {
     uint64_t raw;
 };
 
-/* What became of a configuration. */
+/** What became of a configuration. */
 enum fio2070_configured_kind {
-    FIO2070_APPLIED = 0,
-    FIO2070_ABSENT_INPUT = 1,  /* the item at `place` is the first that names an input above 63 */
-    FIO2070_TOO_MANY_ITEMS = 2 /* more than 255 */
+    FIO2070_CONFIGURED_APPLIED = 0,
+    FIO2070_CONFIGURED_ABSENT_INPUT = 1,   /**< the item at `place` is the first that names an input above 63 */
+    FIO2070_CONFIGURED_TOO_MANY_ITEMS = 2, /**< more than 255 */
+    /* The names of before, which version 2 leaves out. */
+    FIO2070_APPLIED = FIO2070_CONFIGURED_APPLIED, FIO2070_ABSENT_INPUT = FIO2070_CONFIGURED_ABSENT_INPUT,
+    FIO2070_TOO_MANY_ITEMS = FIO2070_CONFIGURED_TOO_MANY_ITEMS
 };
 
+/** What became of a configuration, and where. */
 struct fio2070_configured {
     /** 0 applied; 1 an item names an input above 63; 2 more than 255 items. */
     uint8_t kind;
@@ -458,25 +557,25 @@ struct fio2070_configured {
     uint64_t place;
 };
 
-/* Each input is ignored, both its filters are 5, and its raw level and filtered state are 1 (own
+/** Each input is ignored, both its filters are 5, and its raw level and filtered state are 1 (own
  * profile). */
 void fio2070_filters_start(struct fio2070_filters *filters);
-/* Applies the items in their order; where one names an input above 63, or there are more than 255,
+/** Applies the items in their order; where one names an input above 63, or there are more than 255,
  * none, and nothing changes (own profile). An applied item starts the samples of its input anew from
  * the present filtered state. */
 struct fio2070_configured fio2070_filters_configure(struct fio2070_filters *filters,
                                                     const struct fio2070_configuration_item *items, size_t count);
-/* Takes a sample of each input. The result has a one for each input that is not ignored and whose
+/** Takes a sample of each input. The result has a one for each input that is not ignored and whose
  * filtered state changed (TEES 2009). */
 uint64_t fio2070_filters_scan(struct fio2070_filters *filters, uint64_t raw);
-/* The filtered states, also of ignored inputs. */
+/** The filtered states, also of ignored inputs. */
 uint64_t fio2070_filters_filtered(const struct fio2070_filters *filters);
-/* The levels of the last scan, all 1 before any (own profile). */
+/** The levels of the last scan, all 1 before any (own profile). */
 uint64_t fio2070_filters_raw(const struct fio2070_filters *filters);
 
 /* ---- The module (TEES 2009, in the own profile of 64 inputs and 64 outputs) ---- */
 
-/* The data and control octets of command 55. */
+/** The data and control octets of command 55. */
 struct fio2070_outputs {
     /** The eight data octets. */
     uint8_t levels[8];
@@ -484,7 +583,15 @@ struct fio2070_outputs {
     uint8_t controls[8];
 };
 
-/* A module of which 1,024 entries may wait. The fields are the library's own. */
+/** How many errors the firmware counted, as the answer 177 has them. */
+struct fio2070_error_counts {
+    /** In receiving. */
+    uint8_t receive;
+    /** In transmitting. */
+    uint8_t transmit;
+};
+
+/** A module of which 1,024 entries may wait. The fields are the library's own. */
 struct fio2070_module {
     struct {
         uint8_t id;
@@ -507,37 +614,47 @@ struct fio2070_module {
         uint16_t first;
         uint16_t count;
     } waiting;
-    uint8_t reserved[4];
+    struct fio2070_error_counts errors;
+    uint8_t reserved[2];
 };
 
-/* Starts a module that answers `id` to command 60, and whose blocks have at most `per_block` entries,
+/** Starts a module that answers `id` to command 60, and whose blocks have at most `per_block` entries,
  * 1 to 255 (TEES 2009: 255). Returns 0; where per_block is 0 it returns 1, and nothing changes. */
 uint8_t fio2070_module_start(struct fio2070_module *module, uint8_t id, uint8_t per_block);
-/* Starts it anew with the same id and per_block: the flags are P alone, the counter is 0, and the
- * waiting entries and the block that was sent last are lost (own profile). */
+/** Starts it anew with the same id and per_block: the flags are P alone, the counter and the error counts are 0,
+ * and the waiting entries and the block that was sent last are lost (own profile). */
 void fio2070_module_restart(struct fio2070_module *module);
-/* Steps the counter by one millisecond, then samples each input; bit i of `raw` is the level of input
+/** Steps the counter by one millisecond, then samples each input; bit i of `raw` is the level of input
  * i (own profile: one scan a step). Each reported transition becomes a waiting entry; where 1,024
  * wait it pushes out the oldest. */
 void fio2070_module_scan(struct fio2070_module *module, uint64_t raw);
-/* LINESYNC goes from 0 to 1: a load of the counter that was asked for happens now (TEES 2009). */
+/** LINESYNC goes from 0 to 1: a load of the counter that was asked for happens now (TEES 2009). */
 void fio2070_module_line_sync(struct fio2070_module *module);
-/* Sets the flags whose bits are one: from bit 7 down P, E, K, R, T, M, L, W (own profile). */
+/** Sets the flags whose bits are one: from bit 7 down P, E, K, R, T, M, L, W (own profile). */
 void fio2070_module_raise(struct fio2070_module *module, uint8_t mask);
-/* Takes the octets of a frame, writes the answer to the front of `out`, and returns how many octets it
+/** Sets the error counts that the answer 177 has from now on; both are 0 at the start. TEES 2009 leaves out what
+ * counts as an error: the firmware does. */
+void fio2070_module_set_errors(struct fio2070_module *module, uint8_t receive, uint8_t transmit);
+/** Takes the octets of a frame, writes the answer to the front of `out`, and returns how many octets it
  * has, 1 to 773. 0 where there is no answer, and then `out` is unchanged: octets that spell no
  * command, and commands 56, 57 and 59, get none and change nothing (own profile). */
 size_t fio2070_module_receive(struct fio2070_module *module, const uint8_t *octets, size_t length,
                               uint8_t out[FIO2070_LONGEST_FRAME]);
-/* The outputs, all 0 before the first command 55 (own profile). */
+/** The outputs, all 0 before the first command 55 (own profile). */
 struct fio2070_outputs fio2070_module_outputs(const struct fio2070_module *module);
-/* The timeout of the watchdog in milliseconds, 10 to 100; 0 before the first command 58. */
+/** The timeout of the watchdog in milliseconds, 10 to 100; 0 before the first command 58. */
 uint8_t fio2070_module_watchdog_ms(const struct fio2070_module *module);
-/* The milliseconds counted, modulo 2^32 (TEES 2009). */
+/** The milliseconds counted, modulo 2^32 (TEES 2009). */
 uint32_t fio2070_module_counter(const struct fio2070_module *module);
-/* The filtered states, also of ignored inputs; bit i is input i. */
+/** The filtered states, also of ignored inputs; bit i is input i. */
 uint64_t fio2070_module_filtered(const struct fio2070_module *module);
-/* How many entries wait for a poll, 0 to 1,024. */
+/** The levels of the last scan, all 1 before any (own profile); bit i is input i. */
+uint64_t fio2070_module_raw(const struct fio2070_module *module);
+/** The flags that are up: from bit 7 down P, E, K, R, T, M, L, W (own profile). */
+uint8_t fio2070_module_flags(const struct fio2070_module *module);
+/** The error counts that the answer 177 has. */
+struct fio2070_error_counts fio2070_module_errors(const struct fio2070_module *module);
+/** How many entries wait for a poll, 0 to 1,024. */
 size_t fio2070_module_waiting(const struct fio2070_module *module);
 
 /* ---- Layout: written by tools/generate-layouts ---- */
@@ -602,6 +719,10 @@ FIO2070_SAME(configuration_item, sizeof(struct fio2070_configuration_item) == 4 
              offsetof(struct fio2070_configuration_item, leading) == 2 &&
              offsetof(struct fio2070_configuration_item, trailing) == 3);
 
+FIO2070_SAME(content_breach, sizeof(struct fio2070_content_breach) == 3 &&
+             offsetof(struct fio2070_content_breach, entry) == 1 &&
+             offsetof(struct fio2070_content_breach, input) == 2);
+
 FIO2070_SAME(fault, sizeof(struct fio2070_fault) == 16 &&
              offsetof(struct fio2070_fault, code) == 1 &&
              offsetof(struct fio2070_fault, needed) == 2 &&
@@ -613,6 +734,9 @@ FIO2070_SAME(configured, sizeof(struct fio2070_configured) == 16 &&
              offsetof(struct fio2070_configured, place) == 8);
 
 FIO2070_SAME(module, sizeof(struct fio2070_module) == 4112);
+
+FIO2070_SAME(error_counts, sizeof(struct fio2070_error_counts) == 2 &&
+             offsetof(struct fio2070_error_counts, transmit) == 1);
 
 FIO2070_SAME(poller, sizeof(struct fio2070_poller) == 1);
 
@@ -631,6 +755,8 @@ FIO2070_SAME(heard, sizeof(struct fio2070_heard) == 24 &&
              offsetof(struct fio2070_heard, reserved) == 5 &&
              offsetof(struct fio2070_heard, items) == 6 &&
              offsetof(struct fio2070_heard, fault) == 8);
+
+FIO2070_SAME(content_checker, sizeof(struct fio2070_content_checker) == 1168);
 
 FIO2070_SAME(counter, sizeof(struct fio2070_counter) == 12);
 

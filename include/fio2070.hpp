@@ -26,6 +26,7 @@ using ConfigurationItem = ::fio2070_configuration_item;
 using Answer = ::fio2070_answer;
 using RecordItem = ::fio2070_record_item;
 using Outputs = ::fio2070_outputs;
+using ErrorCounts = ::fio2070_error_counts;
 
 /// A view of objects that someone else owns, as std::span has it: they must outlive it. It is given an
 /// array, a std::array, a std::vector or anything else with data() and size().
@@ -41,8 +42,8 @@ public:
     /// A list that lasts as long as the call that it is given to.
     constexpr View(std::initializer_list<std::remove_const_t<T>> list) : data_(first_of(list)), size_(list.size()) {}
 
-    /// Never null, as the library wants it.
-    constexpr T *data() const { return data_ != nullptr ? data_ : &nothing; }
+    /// Null at most where there are none.
+    constexpr T *data() const { return data_; }
     constexpr std::size_t size() const { return size_; }
     constexpr bool empty() const { return size_ == 0; }
     constexpr T *begin() const { return data(); }
@@ -53,7 +54,6 @@ private:
     static constexpr T *first_of(const std::initializer_list<std::remove_const_t<T>> &list) {
         return list.size() != 0 ? &*list.begin() : nullptr;
     }
-    inline static std::remove_const_t<T> nothing{};
     T *data_ = nullptr;
     std::size_t size_ = 0;
 };
@@ -94,7 +94,7 @@ template <typename Message>
 class Read {
 public:
     Read(const ::fio2070_fault &fault, const Message &message)
-        : fault_(fault), message_(fault.kind == FIO2070_NO_FAULT ? std::optional<Message>(message) : std::nullopt) {}
+        : fault_(fault), message_(fault.kind == FIO2070_FAULT_NONE ? std::optional<Message>(message) : std::nullopt) {}
     explicit operator bool() const { return message_.has_value(); }
     const std::optional<Message> &message() const { return message_; }
     /// The message; throws FaultError where there is none.
@@ -104,7 +104,7 @@ public:
     }
     const Message &operator*() const { return *message_; }
     const Message *operator->() const { return &*message_; }
-    /// Of kind FIO2070_NO_FAULT where there is a message.
+    /// Of kind FIO2070_FAULT_NONE where there is a message.
     const Fault &fault() const { return fault_; }
 
 private:
@@ -146,8 +146,7 @@ inline std::vector<ConfigurationItem> command_items(Octets octets) {
 
 /// What `fio2070 show` writes of a frame, or the words of its fault and a line feed.
 inline std::string show(Octets octets) {
-    std::uint8_t none;
-    std::string text(::fio2070_show(octets.data(), octets.size(), &none, 0), '\0');
+    std::string text(::fio2070_show_length(octets.data(), octets.size()), '\0');
     ::fio2070_show(octets.data(), octets.size(), reinterpret_cast<std::uint8_t *>(&text[0]), text.size());
     return text;
 }
@@ -269,7 +268,7 @@ class Heard {
 public:
     constexpr explicit Heard(::fio2070_heard heard) : heard_(heard) {}
     constexpr ::fio2070_heard_kind kind() const { return static_cast<::fio2070_heard_kind>(heard_.kind); }
-    constexpr bool is_taken() const { return heard_.kind == FIO2070_TAKEN; }
+    constexpr bool is_taken() const { return heard_.kind == FIO2070_HEARD_TAKEN; }
     constexpr std::uint8_t entries() const { return heard_.entries; }
     /// How many items joined the record.
     constexpr std::uint16_t items() const { return heard_.items; }
@@ -336,6 +335,23 @@ private:
     ::fio2070_checker checker_{};
 };
 
+/// A checker of the rules on content: it judges the entries of each block that a poller takes whose first number is that
+/// of the first poll sent.
+class ContentChecker {
+public:
+    ContentChecker() { ::fio2070_content_start(&content_); }
+    void sent(Octets octets) { ::fio2070_content_sent(&content_, octets.data(), octets.size()); }
+    /// The first entry of a block that breaks a rule: its rule is 0 where none does.
+    ::fio2070_content_breach heard(Octets octets) {
+        ::fio2070_content_breach breach;
+        ::fio2070_content_heard(&content_, octets.data(), octets.size(), &breach);
+        return breach;
+    }
+
+private:
+    ::fio2070_content_checker content_{};
+};
+
 /// The millisecond counter.
 class Counter {
 public:
@@ -377,6 +393,9 @@ public:
     void scan(std::uint64_t raw) { ::fio2070_module_scan(&module_, raw); }
     void line_sync() { ::fio2070_module_line_sync(&module_); }
     void raise(std::uint8_t mask) { ::fio2070_module_raise(&module_, mask); }
+    void set_errors(std::uint8_t receive, std::uint8_t transmit) {
+        ::fio2070_module_set_errors(&module_, receive, transmit);
+    }
     /// The answer; none where there is none.
     std::optional<Frame> receive(Octets octets) {
         return Frame::of([&](auto *out, auto) {
@@ -391,6 +410,9 @@ public:
     }
     std::uint32_t counter() const { return ::fio2070_module_counter(&module_); }
     std::uint64_t filtered() const { return ::fio2070_module_filtered(&module_); }
+    std::uint64_t raw() const { return ::fio2070_module_raw(&module_); }
+    std::uint8_t flags() const { return ::fio2070_module_flags(&module_); }
+    ErrorCounts errors() const { return ::fio2070_module_errors(&module_); }
     std::size_t waiting() const { return ::fio2070_module_waiting(&module_); }
 
 private:
@@ -417,4 +439,40 @@ inline bool operator==(const fio2070_record_item &one, const fio2070_record_item
            one.stamp == other.stamp && one.wide == other.wide;
 }
 inline bool operator!=(const fio2070_record_item &one, const fio2070_record_item &other) { return !(one == other); }
+inline bool operator==(const fio2070_block_header &one, const fio2070_block_header &other) {
+    return one.number == other.number && one.status == other.status && one.count == other.count &&
+           one.stamp == other.stamp;
+}
+inline bool operator!=(const fio2070_block_header &one, const fio2070_block_header &other) { return !(one == other); }
+inline bool operator==(const fio2070_outputs &one, const fio2070_outputs &other) {
+    return std::equal(one.levels, one.levels + 8, other.levels) &&
+           std::equal(one.controls, one.controls + 8, other.controls);
+}
+inline bool operator!=(const fio2070_outputs &one, const fio2070_outputs &other) { return !(one == other); }
+inline bool operator==(const fio2070_error_counts &one, const fio2070_error_counts &other) {
+    return one.receive == other.receive && one.transmit == other.transmit;
+}
+inline bool operator!=(const fio2070_error_counts &one, const fio2070_error_counts &other) { return !(one == other); }
+inline bool operator==(const fio2070_breach &one, const fio2070_breach &other) {
+    return one.rule == other.rule && one.has_due == other.has_due && one.due == other.due && one.got == other.got;
+}
+inline bool operator!=(const fio2070_breach &one, const fio2070_breach &other) { return !(one == other); }
+inline bool operator==(const fio2070_content_breach &one, const fio2070_content_breach &other) {
+    return one.rule == other.rule && one.entry == other.entry && one.input == other.input;
+}
+inline bool operator!=(const fio2070_content_breach &one, const fio2070_content_breach &other) { return !(one == other); }
+// Of commands and answers without what follows their fields: items, entries and bodies.
+inline bool operator==(const fio2070_command &one, const fio2070_command &other) {
+    return one.code == other.code && one.clear == other.clear && one.block == other.block &&
+           one.timeout == other.timeout && one.count == other.count && one.body == other.body &&
+           one.load == other.load && std::equal(one.levels, one.levels + 8, other.levels) &&
+           std::equal(one.controls, one.controls + 8, other.controls);
+}
+inline bool operator!=(const fio2070_command &one, const fio2070_command &other) { return !(one == other); }
+inline bool operator==(const fio2070_answer &one, const fio2070_answer &other) {
+    return one.code == other.code && one.flags == other.flags && one.receive_errors == other.receive_errors &&
+           one.transmit_errors == other.transmit_errors && one.status == other.status && one.block == other.block &&
+           one.count == other.count && one.body == other.body && one.stamp == other.stamp && one.inputs == other.inputs;
+}
+inline bool operator!=(const fio2070_answer &one, const fio2070_answer &other) { return !(one == other); }
 #endif

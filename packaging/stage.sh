@@ -6,6 +6,9 @@ fail() {
     exit 1
 }
 
+# say WORD..: says on standard error what is done now.
+say() { echo "packaging: $*" >&2; }
+
 # needs COMMAND..: ends where a command is not there.
 needs() {
     for command in "$@"; do
@@ -13,24 +16,40 @@ needs() {
     done
 }
 
-# The version that the built program tells.
-version() { crates/fio2070/out/fio2070 --version | cut -d ' ' -f 2; }
+# The version that the built program tells; that of CHANGELOG.md where a library alone is packed.
+version() {
+    if [ "$processor" = x86_64 ]; then
+        crates/fio2070/out/fio2070 --version | cut -d ' ' -f 2
+    else
+        sed -n 's/^## \([0-9][0-9.]*\).*/\1/p' CHANGELOG.md | head -n 1
+    fi
+}
 
 # The time that all files of a package have: that of the last commit, or what SOURCE_DATE_EPOCH says.
 epoch() { echo "${SOURCE_DATE_EPOCH:-$(git log -1 --format=%ct 2>/dev/null || stat -c %Y CHANGELOG.md)}"; }
 
-# stage FOLDER SETTING..: installs into a new folder, by `make install` with these settings, without symbols and without
-# the shared library, which has no version for a package. All can be read by everyone, whatever the settings of who
-# cloned the repository.
+# stage FOLDER SETTING..: installs into a new folder, by `make install` with these settings, without symbols. All can be
+# read by everyone, whatever the settings of who cloned the repository.
 stage() {
     folder=$1
     shift
     umask 022
-    env -u MAKEFLAGS -u MAKELEVEL -u MFLAGS make -s install DESTDIR="$folder" shared= "$@" >/dev/null ||
+    env -u MAKEFLAGS -u MAKELEVEL -u MFLAGS make -s install DESTDIR="$folder" "$@" >/dev/null ||
         fail 'make install failed'
     find "$folder" -path '*/bin/fio2070*' -exec strip --strip-unneeded '{}' ';' \
-        -o -name '*.so' -exec strip --strip-unneeded '{}' ';' \
+        -o -type f -name '*.so*' -exec strip --strip-unneeded '{}' ';' \
         -o -name '*.a' -exec strip --strip-debug --enable-deterministic-archives '{}' ';' || fail 'strip failed'
+    chmod -R u=rwX,go=rX "$folder"
+}
+
+# stage_library FOLDER ARCHIVE SETTING..: installs an archive for another processor and its headers into a new folder, by
+# `make install-library` with these settings.
+stage_library() {
+    folder=$1 archive=$2
+    shift 2
+    umask 022
+    env -u MAKEFLAGS -u MAKELEVEL -u MFLAGS make -s install-library DESTDIR="$folder" libraries="$archive" shared= command= \
+        tools= "$@" >/dev/null || fail 'make install-library failed'
     chmod -R u=rwX,go=rX "$folder"
 }
 

@@ -122,6 +122,19 @@ def try_build(check, room):
           and 'crate 1 of 3' in said and 'crate 3 of 3' in said and 'left' in said, said)
 
 
+def try_library(check, room):
+    """A library and those below it, in place of the program."""
+    clone = Clone(room, 'library')
+    done = subprocess.run([os.path.join(clone.top, 'build'), '--library', 'high', '--jobs', '1'], env=clone.environment(),
+                          stdin=subprocess.DEVNULL, stdout=subprocess.PIPE, stderr=subprocess.PIPE, timeout=60)
+    said = done.stderr.decode()
+    check.holds('a line for each crate of a library', (done.returncode, done.stdout) == (0, b'') and len(said.splitlines()) == 2
+                and 'crate 1 of 2, low' in said and 'crate 2 of 2, high' in said, said)
+    with open(os.path.join(clone.out, 'build.log'), encoding='utf-8') as log:
+        check.equal('further words go to rt lib', 2, log.read().count(': rt lib --jobs 1\n'))
+    check.holds('no program', not os.path.exists(os.path.join(clone.out, 'fio2070')))
+
+
 def try_terminal(check, room):
     """A build on a terminal: one line that moves, and goes."""
     clone = Clone(room, 'terminal')
@@ -204,6 +217,7 @@ def main():
     signal.signal(signal.SIGINT, signal.default_int_handler)
     with tempfile.TemporaryDirectory() as room:
         try_build(check, room)
+        try_library(check, room)
         try_terminal(check, room)
         try_faults(check, room)
         try_reading_only(check, room)

@@ -16,7 +16,7 @@ builds() {
         *) language="-x c -D_DEFAULT_SOURCE $*" ;;
     esac
     mkdir -p "$folder"
-    for source in support/c/rows support/c/whole support/c/started support/c/fuzz ../examples/c/decode ../examples/c/poller; do
+    for source in support/c/rows support/c/turns support/c/whole support/c/started support/c/fresh support/c/fuzz ../examples/c/decode ../examples/c/poller; do
         # shellcheck disable=SC2086
         "$compiler" $language $strict -I "$top/include" "$top/tests/$source.c" -x none "$archive" \
             -o "$folder/$(basename "$source")" || return 1
@@ -36,6 +36,41 @@ decodes() {
 polls() {
     "$1/poller" >report && tail -n +5 report | cmp - wave &&
         [ "$(sed -n 3,4p report | tr '\n' ' ')" = 'waiting 0 record 600 ' ]
+}
+
+# gives_up FOLDER: on a line that is never silent its poller ends its first exchange after 100 ms.
+gives_up() {
+    "$1/poller" babble >report && return 1
+    [ "$(cat report)" = 'no answer in 100 ms' ]
+}
+
+# described FOLDER: doxygen's page has words on each call of the header, each struct and each of their public fields.
+described() {
+    python3 - "$1" "$top/include/fio2070.h" <<'end'
+import glob, re, sys
+import xml.etree.ElementTree as xml
+declared = set(re.findall(r'fio2070_\w+(?=\()', open(sys.argv[2]).read()))
+described = set()
+for path in glob.glob(sys.argv[1] + '/xml/*_8h.xml') + glob.glob(sys.argv[1] + '/xml/struct*.xml'):
+    for one in xml.parse(path).iter():
+        words = [''.join(found.itertext()).strip() for found in (one.find('briefdescription'), one.find('detaileddescription'))
+                 if found is not None]
+        if one.tag == 'memberdef' and one.get('kind') == 'function' and any(words):
+            described.add(one.find('name').text)
+        if one.tag == 'compounddef' and one.get('kind') == 'struct' and not any(words):
+            sys.exit('no words on ' + one.find('compoundname').text)
+if declared - described:
+    sys.exit('no words on ' + ', '.join(sorted(declared - described)))
+end
+}
+
+# stacks: docs/STACK.md has what each call takes of the stack, and the others take no more than it says.
+stacks() {
+    "$top/tools/stack-use" "$archive" >used || return 1
+    most=$(sed -n 's/^| at most \([0-9]*\) .*/\1/p' "$top/docs/STACK.md")
+    awk -v most="$most" '$1 > most { print $1, $2 }' used | sort >expected
+    sed -n 's/^| \([0-9][0-9,]*\) | \(.*\) |$/\1 \2/p' "$top/docs/STACK.md" | tr -d '\140,' |
+        awk '{ for (n = 2; n <= NF; n++) print $1, "fio2070_" $n }' | sort | diff - expected
 }
 
 # reads DOCUMENT: its blocks of C, C++ and Python compile; those with a `main` of their own, and Python, run.
@@ -88,9 +123,27 @@ fits_not() {
     ! "$1" -ffreestanding -I "$top/include" -fsyntax-only header.c 2>said && grep -q '#error "libfio2070.a' said
 }
 
+# names_variable: where the archive is not, cargo is told which variable names its folder.
+names_variable() {
+    env -C "$top/bindings/rust/fio2070" FIO2070_LIB_DIR="$room/none" CARGO_TARGET_DIR="$room/target" \
+        cargo build --offline 2>said && return 1
+    grep -q 'set FIO2070_LIB_DIR to the folder that has it' said
+}
+
 holds 'what follows from the structs' "$top/tools/generate-layouts" --check
+if has_command doxygen && has_command python3; then
+    first 'make doc' run_make doc DOC="$room/doc"
+    holds 'the page of doxygen has words on each call' described "$room/doc"
+else
+    skip 'make doc' 'no doxygen here (Debian package doxygen)'
+fi
 first 'make library' run_make library OUT="$room"
 holds 'the library needs no other' alone "$archive"
+if has_command objdump && [ "$(uname -m)" = x86_64 ]; then
+    holds 'the stack of each call' stacks
+else
+    skip 'the stack of each call' 'no objdump here (Debian package binutils)'
+fi
 holds 'the header declares what there is' exports "$archive"
 holds 'the names of the shared library' prefixed "$room/libfio2070.so"
 
@@ -113,12 +166,21 @@ for build in 'gcc -std=c99' 'g++ -std=c++11' 'clang -std=c99 -g -O1 -fsanitize=a
     fi
     first "build by $1" builds "$room/$1" "$@"
     counts "rows by $1" "$room/$1/rows"
+    counts "calls of a module in turn by $1" "$room/$1/turns"
     counts "whole structs by $1" "$room/$1/whole"
     counts "started structs by $1" "$room/$1/started"
+    counts "memory that nothing has written by $1" "$room/$1/fresh"
     holds "decode by $1" decodes "$room/$1"
     holds "poller by $1" polls "$room/$1"
+    holds "poller on a babbling line by $1" gives_up "$room/$1"
     last=$room/$1
 done
+if has_command valgrind && [ -x "$room/gcc/fresh" ]; then
+    counts 'memory that nothing has written, watched' valgrind -q --error-exitcode=9 "$room/gcc/fresh"
+    holds 'a poller that is watched' valgrind -q --error-exitcode=9 "$room/gcc/poller"
+else
+    skip 'memory that nothing has written, watched' 'no valgrind here (Debian package valgrind)'
+fi
 for processor in aarch64-linux-gnu m68k-linux-gnu arm-linux-gnueabihf powerpc-linux-gnu riscv64-linux-gnu; do
     if [ -z "$(command -v "$processor-gcc")" ]; then
         skip "layout on $processor" "$processor-gcc is not installed"
@@ -163,6 +225,7 @@ fi
 if [ -n "$(command -v cargo)" ]; then
     holds 'Rust' env -C "$top/bindings/rust/fio2070" FIO2070_LIB_DIR="$room" CARGO_TARGET_DIR="$room/target" \
         cargo test --offline --quiet
+    holds 'Rust without the library' names_variable
 else
     skip 'Rust' 'cargo is not installed'
 fi

@@ -44,10 +44,30 @@ NAMED = {
     'counter outlasts a restart': 'restart', 'an octet too many is accepted': 'wrong-length',
     'a block without entries leaves the number': 'empty-block',
     'the second poll for a block raises the number': 'same-until-taken', 'there are no gap marks': 'gap-mark',
-    'states are turned': 'items-in-order'}
+    'states are turned': 'items-in-order', 'outputs are 1 at the start': 'outputs-kept',
+    'the number rises by two': 'number-rises', 'blocks with E are refused': 'taken-whole',
+    'blocks with C are refused': 'taken-whole', 'blocks with bit 4 are refused': 'unnamed-bits',
+    'blocks without entries have no gap mark': 'gap-mark', 'gap marks come with E': 'gap-mark'}
+
+# The rule of a frame that is refused for its length.
+OF_LENGTH = {'module': 'frame-length', 'cpu': 'block-length'}
+
+# What runs of short scripts and short frames pass over: the number of events within which each is found here.
+FOUND_WITHIN = {
+    'configurations of over 64 items are refused': 1000, 'configurations of 255 items are refused': 1000,
+    'frames of over 200 octets are refused': 1000, 'frames of over 256 octets are refused': 1000,
+    'filter of 255 acts as 254': 30000, 'filter of 255 never changes a state': 30000, 'filter of 255 acts as 1': 30000,
+    'filters above 200 act as 200': 30000, 'E is set after 130 polls': 30000, 'the 130th poll is not answered': 30000,
+    'the 131st poll raises the number': 30000, 'the 130th block is not taken': 30000,
+    'counter misses the 500th scan': 10000, 'the 500th scan takes no samples': 10000,
+    'the 30,000th entry is dropped': 1000000, 'the record ends at 30,000 items': 300000,
+    'G is set after 256 blocks': 100000, 'E is set for a number that came round': 1000,
+    'the number stands after 257 blocks': 30000, 'a block whose number came round is not taken': 30000,
+    'outputs are 1 at the start': 1000, 'outputs are set once': 1000, 'control octets are not kept': 1000,
+    'shortest timeout is 11': 1000, 'longest timeout is 99': 1000, 'watchdog outlasts a restart': 1000}
 
 # The most events of a script that was shrunk, but for faults that need long runs.
-SHORT = 40
+SHORT = 60
 
 # Faults that are found over a wire in a module with a clock of its own, within 8,000 events.
 BY_BOUNDS = ['E is not set', 'a repeat has a new stamp', 'state of an entry is turned', '1 comes after 255',
@@ -104,7 +124,7 @@ def script_of(report):
 
 def is_long(row):
     """Whether a fault comes only after many events."""
-    return re.search(r'\d\d\dth|00 |filter|after|ends at|\d\d\dst|57 entries', row)
+    return re.search(r'\d\d\dth|00 |filter|after|ends at|\d\d\dst|57 entries|came round', row)
 
 
 def planted_faults(check, program):
@@ -114,9 +134,14 @@ def planted_faults(check, program):
     rows = re.findall(r'^(module|cpu) +(\d+) +(\d+)  (\S+) +(.*)$', run([program])[1], re.M)
     for end in ('module', 'cpu'):
         check.holds('planted faults: more than 100 of a ' + end, sum(row[0] == end for row in rows) > 100)
-    for end, _, length, rule, name in rows:
+    check.equal('planted: events of faults that are none', set(), set(FOUND_WITHIN) - {row[4] for row in rows})
+    for end, events, length, rule, name in rows:
         short = int(length) <= SHORT or is_long(name)
-        check.holds('planted: %s: %s' % (end, name), rule != 'none' and short, '%s by %s events' % (rule, length))
+        soon = int(events) <= FOUND_WITHIN.get(name, int(events))
+        check.holds('planted: %s: %s' % (end, name), rule != 'none' and short and soon, '%s by %s events, at event %s' % (
+            rule, length, events))
+        named = OF_LENGTH[end] if re.match('(lengths of )?frames .*(refused|bits)', name) else NAMED.get(name, rule)
+        check.equal('planted: rule of %s: %s' % (end, name), named, rule)
 
 
 def right_ends(check, program):

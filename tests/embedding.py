@@ -14,20 +14,13 @@ sys.dont_write_bytecode = True
 
 from support.check import Check
 from support.console import row
+from support.copies import link_or_copy
 from support.tables import TOP
 
 # The document's crates are this one and those below it.
 LAST = 'fio_cpu'
 
 BLOCK = re.compile(r'(?:^\*(?P<file>[\w/.]+)\*:\n\n)?^```(?P<kind>sh|rust)\n(?P<text>.*?)^```$', re.M | re.S)
-
-
-def link_or_copy(source, target):
-    """A file of another folder under a further name, or a copy of it on another file system."""
-    try:
-        os.link(source, target)
-    except OSError:
-        shutil.copy2(source, target)
 
 
 def copy_libraries(folder):

@@ -1,6 +1,6 @@
 #!/bin/sh
 # Runs each file of examples/ and compares what is written with the file beside it: a script with its report,
-# a transcript with its verdict, captured frames with what they show. The exit status is 1 where that file tells
+# a transcript with its verdict and its record, captured frames with what they show. The exit status is 1 where that file tells
 # of a fault, else 0. The last line is `N passed, M failed`.
 
 . "$(dirname -- "$(readlink -f -- "$0")")/support/check.sh"
@@ -19,6 +19,7 @@ check() {
 
 for file in examples/*.script; do check simulate "$file" "${file%.script}.report"; done
 for file in examples/*.transcript; do check check "$file" "${file%.transcript}.verdict"; done
+for file in examples/*.record; do check record "${file%.record}.transcript" "$file"; done
 for file in examples/*.frames; do check show "$file" "${file%.frames}.shown"; done
 
 end

@@ -64,7 +64,7 @@ def check_decode(check):
 def check_words(check):
     """What is said on standard error, and the statuses."""
     done = fiolog('decode', text=LOG)
-    check.equal('the form', ('fiolog: form: year first, direction, hex\n', 0), (done.err, done.status))
+    check.equal('the form', ('fiolog: form: year first, direction, hex', 0), (done.err.splitlines()[0], done.status))
     done = fiolog('decode', '-v', text=LOG + 'link down\n')
     check.holds('a line that is passed over', 'line %d: no octets: link down' % (len(SESSION) + 1) in done.err, done.err)
     check.holds('how many are passed over', '1 of %d lines passed over: 1 no octets' % (len(SESSION) + 1) in done.err)
@@ -123,8 +123,10 @@ def check_convert(check):
     check.equal('pcapng', [(direction, octets) for _, direction, octets in timed(SESSION)], frames_of(capture))
     shown = fiolog('convert', '--to', 'vcd', text=LOG).out
     check.holds('VCD', shown.startswith('$version') and shown.count('$var wire 1 i') == 3, shown)
-    record = fiolog('record', text=LOG).out.splitlines()
-    check.equal('the record', 36, len(record))
+    done = fiolog('record', text=LOG)
+    record = done.out.splitlines()
+    check.equal('the record, of which the entries of a block are too near', (36, ['line 11 input 12 breaks apart'], 1),
+                (sum('state' in line for line in record), [line for line in record if 'breaks' in line], done.status))
     check.equal('the first line of the record', '7:     2026-11-22 07:15:02.065 input 12 state 1 stamp 999 wide 999',
                 re.sub(r'02\.\d+', '02.065', record[0]))
 
@@ -152,6 +154,121 @@ def check_check(check):
     middle = '< b6050000000003e8\n> 3606\n< b6060000000003e9\n'
     check.equal('--start-at-poll', 0, fiolog('check', '--start-at-poll', text=middle).status)
     check.equal('no frame', 1, fiolog('check', text='').status)
+
+
+def with_library(name):
+    """A Python that has an optional library; None where there is none."""
+    found = (one for one in dict.fromkeys((sys.executable, '/usr/bin/python3')) if os.path.exists(one) and not subprocess.run(
+        [one, '-c', 'import ' + name], stdout=subprocess.DEVNULL, stderr=subprocess.DEVNULL).returncode)
+    return next(found, None)
+
+
+def without(folder, name):
+    """The environment of a Python in which a library is missing."""
+    os.makedirs(os.path.join(folder, 'none'), exist_ok=True)
+    with open(os.path.join(folder, 'none', name + '.py'), 'w', encoding='ascii') as file:
+        file.write('raise ImportError(%r)\n' % name)
+    return {'PYTHONPATH': os.path.join(folder, 'none') + os.pathsep + ENVIRONMENT['PYTHONPATH']}
+
+
+def on_terminal(python, words, out=None, text='', **settings):
+    """What a run writes on a pseudo-terminal, where its standard error is, and its standard output without `out`."""
+    leader, follower = pty.openpty()
+    environment = {**ENVIRONMENT, 'TERM': 'xterm-256color', 'COLUMNS': '120', 'LINES': '40', **settings}
+    with subprocess.Popen([python, '-m', 'fiolog', *words], stdin=subprocess.PIPE, stdout=out or follower, stderr=follower,
+                          env={name: value for name, value in environment.items() if value is not None}) as done:
+        os.close(follower)
+        done.stdin.write(text.encode())
+        done.stdin.close()
+        written = b''
+        while True:
+            try:
+                part = os.read(leader, 1 << 16)
+            except OSError:
+                break
+            if not part:
+                break
+            written += part
+    os.close(leader)
+    return written.decode()
+
+
+def check_terminal(check, folder):
+    """Colours, drawn tables and the progress bar on a terminal, with `rich` and without."""
+    text = on_terminal(sys.executable, ['decode', '-q'], text=LOG)
+    check.holds('colours on a terminal', '\x1b[36mpoll block 255\x1b[0m' in text and '\x1b[33m' in text, text)
+    for name, value in (('NO_COLOR', '1'), ('TERM', 'dumb')):
+        text = on_terminal(sys.executable, ['decode', '-q'], text=LOG, **{name: value})
+        check.holds('no colours with %s' % name, '\x1b[' not in text, text)
+    text = on_terminal(sys.executable, ['check', '-q'], text='> 36ff\n> 3600\n')
+    check.holds('the colour of a breach', 'line 2: \x1b[31;1madvance\x1b[0m: block 255 was due' in text, text)
+    path, kept = os.path.join(folder, 'long.log'), os.path.join(folder, 'kept')
+    with open(path, 'w', encoding='ascii') as file:
+        file.write(LOG * (5 * 2 ** 20 // len(LOG)))
+    text = on_terminal(sys.executable, ['stats', path], **without(folder, 'rich'))
+    check.holds('without rich a word and a plain table', 'rich is not installed: no progress bar' in text
+                and 'rich is not installed: plain tables' in text and re.search(r'\n  polls +\d+', text), text)
+    python = with_library('rich')
+    if not python:
+        check.skip('the progress bar', 'no rich here (Debian package python3-rich)')
+        return
+    text = on_terminal(python, ['stats', path])
+    bars = re.findall(r'reading [^\n]*?(\d+)%', re.sub(r'\x1b\[[0-9;]*m', '', text))
+    check.holds('a progress bar on a terminal', bars and sorted(map(int, bars)) == list(map(int, bars)), bars)
+    check.holds('it goes, and a table is drawn', text.rindex('\x1b[2K') < text.index('Frames of') and '\u2503' in text, text[-400:])
+    for words in (['record'], ['check'], ['decode']):
+        with open(kept, 'wb') as out:
+            text = on_terminal(python, [*words, path], out=out)
+        check.holds('a bar beside %s into a file' % words[0], 'reading' in text, text[:300])
+        with open(kept, encoding='utf-8') as out:
+            check.equal('what %s writes stays in the file' % words[0], fiolog(*words, path).out, out.read())
+    check.holds('no bar between messages', 'reading' not in on_terminal(python, ['decode', '--type', '60', path]))
+    check.holds('no bar for a short file', 'reading' not in on_terminal(python, ['stats'], text=LOG))
+
+
+# Python that says how many inputs and gap marks the picture of blocks has, and where an input changes.
+LANES = """
+from fiolog import log, plot, record
+from types import SimpleNamespace as Names
+given = Names(files=['-'], quiet=True, format='auto', pattern=None, sdlc=False, verbose=False, at='auto', start_at_poll=False)
+lanes = plot.Lanes()
+for block in record.Record(log.Log(given), given).blocks():
+    lanes.add(block)
+print({number: (list(lanes.times[number]), [str(state) for state in lanes.states[number]]) for number in sorted(lanes.times)})
+print(lanes.gaps)
+"""
+
+
+def check_plot(check, folder):
+    """`record --plot`: a picture, or the word that matplotlib is missing."""
+    text = '> 3600\n< b600018c03e700000003e8\n> 3601\n< b601010c03f304000003fc\n'
+    done = subprocess.run([sys.executable, '-c', LANES], input=text, stdout=subprocess.PIPE, env=ENVIRONMENT, universal_newlines=True)
+    check.equal('the lanes of a picture, unknown in a gap',
+                "{12: ([999.0, 1000.0, 1011.0], ['1.0', 'nan', '0.0'])}\n[(1000, 1011)]\n", done.stdout)
+    path = os.path.join(folder, 'picture.png')
+    missing = {**ENVIRONMENT, **without(folder, 'matplotlib')}
+    done = subprocess.run([sys.executable, '-m', 'fiolog', 'record', '-q', '--plot', path], input=LOG, stderr=subprocess.PIPE,
+                          env=missing, universal_newlines=True)
+    check.equal('--plot without matplotlib', (3, 'fiolog: --plot needs matplotlib (Debian package python3-matplotlib)\n', False),
+                (done.returncode, done.stderr, os.path.exists(path)))
+    python = with_library('matplotlib')
+    if not python:
+        check.skip('a picture', 'no matplotlib here (Debian package python3-matplotlib)')
+        return
+    for ending, begins in (('png', b'\x89PNG\r\n'), ('svg', b'<?xml'), ('pdf', b'%PDF')):
+        path = os.path.join(folder, 'picture.' + ending)
+        done = subprocess.run([python, '-m', 'fiolog', 'record', '-q', '--plot', path], input=LOG, stdout=subprocess.PIPE,
+                              stderr=subprocess.PIPE, env=ENVIRONMENT, universal_newlines=True)
+        with open(path, 'rb') as file:
+            octets = file.read()
+        check.equal('a picture as .' + ending, (1, 'fiolog: line 11 input 12 breaks apart\n', True),
+                    (done.returncode, done.stdout + done.stderr, octets.startswith(begins)))
+    check.equal('the inputs of a picture', {'12', '13', '14'}, set(re.findall(r'<!-- input (\d+) -->', open(
+        os.path.join(folder, 'picture.svg'), encoding='utf-8').read())))
+    for name, words in (('picture.xyz', '.png, .svg and .pdf'), ('no-folder/picture.png', 'No such file')):
+        done = subprocess.run([python, '-m', 'fiolog', 'record', '-q', '--plot', os.path.join(folder, name)], input=LOG,
+                              stderr=subprocess.PIPE, env=ENVIRONMENT, universal_newlines=True)
+        check.equal('--plot ' + name, (3, True), (done.returncode, words in done.stderr and 'Traceback' not in done.stderr))
 
 
 def fault_of_following():
@@ -316,6 +433,9 @@ def main():
         part(check)
     with tempfile.TemporaryDirectory() as folder:
         check_hostile(check, folder)
+    with tempfile.TemporaryDirectory() as folder:
+        check_terminal(check, folder)
+        check_plot(check, folder)
     check.fault('answers while the input goes on', fault_of_following)
     check.fault('bounded memory', fault_of_memory)
     check.fault('a process', fault_of_process)

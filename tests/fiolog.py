@@ -8,6 +8,7 @@ import sys
 sys.dont_write_bytecode = True
 
 from support.check import Check
+from support.damage import DAMAGED
 from support.fiolog import has_library, use_library
 from support.loggers import LOGGERS
 from support.sessions import SESSION, random_session, timed
@@ -91,25 +92,42 @@ def check_lines(check):
         check.equal('the line %r' % line, [expected] if expected else [], [octets.hex() for octets in read.octets])
 
 
+# What damage does to a line, at a place in it. A changed character is another octet where Python writes the octet so.
+DAMAGES = [lambda line, cut: line[:cut], lambda line, cut: line[cut:], lambda line, cut: line + line, lambda line, cut: '',
+           lambda line, cut: line[:cut] + line[cut + 1:], lambda line, cut: line[:cut] + ' ' + line[cut:],
+           lambda line, cut: line[:cut] + '?' + line[cut + 1:]]
+
+
 def fault_of_damage(name, seed):
-    """In a log of polls and blocks of which characters were changed, cut or doubled, no frame is read that was not
-    written, but where what is left of a cut line spells one; each line has an event."""
+    """In a log of which characters were changed, cut or doubled, no frame is read that was not written, but with a
+    remark; each line has an event."""
+    from fiolog.judge import is_loose
     draw = random.Random(seed)
-    frames = timed([octets for octets in random_session(seed, 400) if octets[0] in (54, 182)])
+    frames = timed([octets for octets in random_session(seed, 400) if seed % 2 or octets[0] in (54, 182)])
     lines = LOGGERS[name](frames).removeprefix('\ufeff').split('\n')
-    for _ in range(60):
-        place = draw.randrange(len(lines))
-        line = lines[place]
-        cut = draw.randrange(len(line) + 1)
-        lines[place] = draw.choice([line[:cut], line[cut:], line[:cut] + '?' + line[cut + 1:], line + line, '',
-                                    line[:cut] + line[cut + 1:], line[:cut] + ' ' + line[cut:]])
+    for place in draw.sample(range(len(lines)), min(60, len(lines))):
+        damage = draw.choice(DAMAGES[:-1] if name == 'Python bytes' else DAMAGES)
+        lines[place] = damage(lines[place], draw.randrange(len(lines[place]) + 1))
     read = Read('\n'.join(lines))
     if read.numbers() != list(range(1, read.lines + 1)):
         return 'lines without an event'
-    known = {octets for _, _, octets in frames}
+    known, doubts = {octets for _, _, octets in frames}, read.reader.doubts
     strange = [event for event in read.frames if event.octets not in known]
-    most = 3 if name.startswith('Saleae') else 1    # where a row has one octet, a lost row may leave a message of any length
-    return 'of %d frames %r' % (len(strange), strange[0]) if len(strange) > most else None
+    if strange and doubts.has_rows and 'in each row' in ''.join(doubts.words()):
+        return None
+    if any(is_loose(event.octets) for event in strange) and 'any length' not in ''.join(doubts.words()):
+        return 'no remark on types of any length'
+    silent = [event for event in strange if not is_loose(event.octets)
+              and not any(words.startswith('line %d ' % event.number) for words in doubts.remarks)]
+    return 'of %d frames %r' % (len(silent), silent[0]) if silent else None
+
+
+def check_damaged(check):
+    """Each kind of damage is refused or remarked."""
+    for name, text, count, words in DAMAGED:
+        read = Read(text)
+        said = [event.note for event in read.events] + read.reader.doubts.remarks + list(read.reader.doubts.words())
+        check.equal(name, (count, True), (len(read.frames), any(words in one for one in said)))
 
 
 def fault_of_noise(seed):
@@ -131,8 +149,10 @@ def main():
     use_library()
     check_forms(check)
     check_lines(check)
+    check_damaged(check)
     for place, name in enumerate(LOGGERS):
-        check.fault('damage in %s' % name, fault_of_damage, name, place)
+        for seed in range(2):
+            check.fault('damage in %s, seed %d' % (name, seed), fault_of_damage, name, 2 * place + seed)
     for seed in range(3):
         check.fault('noise, seed %d' % seed, fault_of_noise, seed)
     check.end()

@@ -47,8 +47,8 @@ matches() { printf '%s\n' "$2" | grep -Eqx "$1"; }
 # field NAME: a field of the package's description.
 field() { dpkg-deb -f "$room"/deb.1/fio2070_*.deb "$1"; }
 
-# has_no_errors PACKAGE..: lintian finds no error.
-has_no_errors() { lintian --fail-on error "$@"; }
+# is_clean PACKAGE..: lintian finds no error and gives no warning.
+is_clean() { lintian --fail-on error,warning "$@"; }
 
 # unpacks PACKAGE..: all of them go into the folder `root`.
 unpacks() { for package in "$@"; do dpkg-deb -x "$package" root || return 1; done; }
@@ -56,12 +56,61 @@ unpacks() { for package in "$@"; do dpkg-deb -x "$package" root || return 1; don
 # reads COMMAND..: the command reads a log.
 reads() { [ "$(echo 'TX 36 05' | "$@" decode -q)" = '1:     > poll block 5' ]; }
 
-# links FOLDER OPTION..: a program in C is built with the headers and the archive below the folder, and runs. No shared
-# library is there but the one of the Python packages: it has no version for a package.
+# follows_note: the commands of the note below its first heading, in a folder that has the archive alone.
+follows_note() {
+    mkdir -p noted && cp dist.1/*.tar.gz noted || return 1
+    sed -n '/^Without/,/^For all/s/^    //p' "$place/INSTALL" >noted/commands
+    (cd noted && PATH=/usr/bin:/bin sh -e ./commands >out 2>log) || { cat noted/log; return 1; }
+    tail -n 1 noted/out | grep -qx '1:     > poll block 5'
+}
+
+# without_net COMMAND..: runs a command where there is no network, if the machine allows it.
+without_net() {
+    if unshare --net --map-root-user true 2>log; then unshare --net --map-root-user "$@"; else "$@"; fi
+}
+
+# wheel: pip makes the wheel and installs it into an environment of its own, where the command runs with its own library.
+wheel() {
+    without_net env/bin/pip wheel --quiet --no-index --no-deps --wheel-dir wheels "$top/bindings/python" &&
+        without_net env/bin/pip install --quiet --no-index wheels/*.whl || return 1
+    env/bin/python -c 'import sys, zipfile
+names = zipfile.ZipFile(sys.argv[1]).namelist()
+sys.exit("fio2070/libfio2070.so.1" not in names)' wheels/*.whl &&
+        reads env -i PATH=/usr/bin:/bin env/bin/fiolog &&
+        env -i PATH=/usr/bin:/bin env/bin/python -c 'import fio2070
+assert fio2070.version() == fio2070.constants.VERSION and "site-packages" in fio2070.__file__'
+}
+
+# in_copy COMMAND: runs a command in a copy of this system, whose files stay as they are: what is written goes to a folder.
+in_copy() {
+    mkdir -p copy layers
+    # shellcheck disable=SC2016
+    unshare --mount sh -c '
+        mount -t tmpfs none layers && mkdir layers/upper layers/work layers/root &&
+            mount -t overlay overlay -o lowerdir=/,upperdir=layers/upper,workdir=layers/work layers/root &&
+            mkdir -p layers/root/copy && cp -R copy/. layers/root/copy &&
+            PATH=/usr/sbin:/usr/bin:/sbin:/bin chroot layers/root sh -c "cd /copy && $1"' sh "$1"
+}
+
+# The packages are installed as a user does, their commands run, and the packages taken away.
+mkdir copy
+cat >copy/installs <<'end'
+set -e
+dpkg -i packages/*.deb >log 2>&1 || { cat log; exit 1; }
+[ "$(echo 3605 | fio2070 show)" = 'poll block 5' ]
+[ "$(echo 'TX 36 05' | fiolog decode -q)" = '1:     > poll block 5' ]
+[ "$(echo 'TX 36 05' | fio2070-normalize 2>log)" = 3605 ]
+for command in fio2070-vcd fio2070-transcript fio2070-lossy-script fio2070-test; do $command --help >log 2>&1; done
+ldconfig -p | grep -q 'libfio2070\.so\.1 '
+dpkg -r fio2070-tools python3-fio2070 fio2070 libfio2070-dev libfio2070-1 >log 2>&1 || { cat log; exit 1; }
+[ ! -e /usr/bin/fiolog ]
+end
+
+# links LIBRARY OPTION..: a program in C is built with the headers and a library of a package, and runs. Of a shared library
+# LIBRARY is the folder that it is loaded from; of the archive it is empty, and the program needs no shared library.
 links() {
     folder=$1
     shift
-    [ -z "$(find "$folder" -name '*.so*' ! -path '*/python*')" ] || return 1
     cat >linked.c <<'end'
 #include <fio2070.h>
 int main(void) {
@@ -70,7 +119,57 @@ int main(void) {
 }
 end
     # shellcheck disable=SC2068
-    cc linked.c $@ -o linked && ./linked
+    cc linked.c $@ -o linked && env LD_LIBRARY_PATH="$folder" ./linked || return 1
+    if [ -z "$folder" ]; then ! needs_library; else needs_library; fi
+}
+
+# needs_library: the program loads the shared library by the name with its number.
+needs_library() { readelf -d linked | grep -q 'NEEDED.*\[libfio2070\.so\.1\]'; }
+
+# finds PREFIX FOLDER: CMake finds the library below the prefix, and builds by it a program with the archive and one with
+# the shared library, which run; it finds no version 2.
+finds() {
+    rm -rf found
+    mkdir found
+    printf '%s\n' '#include <fio2070.h>' 'int main(void) { return fio2070_version() != FIO2070_VERSION; }' >found/main.c
+    cat >found/CMakeLists.txt <<'end'
+cmake_minimum_required(VERSION 3.13)
+project(found C)
+find_package(fio2070 2.0 QUIET)
+if(fio2070_FOUND)
+    message(FATAL_ERROR "version 2 was found")
+endif()
+find_package(fio2070 1.0 REQUIRED)
+add_executable(static main.c)
+target_link_libraries(static fio2070::fio2070)
+add_executable(loaded main.c)
+target_link_libraries(loaded fio2070::shared)
+end
+    cmake -S found -B found/build -DCMAKE_PREFIX_PATH="$1" -Dfio2070_DIR="$2/cmake/fio2070" && cmake --build found/build \
+        && found/build/static && found/build/loaded && cp found/build/loaded linked && needs_library
+}
+
+# runs_there FOLDER LIBRARY: a program that was built with this archive, and the headers below the folder, runs.
+runs_there() {
+    echo '#include <fio2070.h>
+int main(void) { return fio2070_version() != FIO2070_VERSION; }' >there.c
+    aarch64-linux-gnu-gcc -static -I "$1/include" there.c "$2" -o there && qemu-aarch64 ./there
+}
+
+# for_aarch64: the archive and the package for AArch64, each made twice, are one, and their libraries run.
+for_aarch64() {
+    for number in 1 2; do
+        run_make dist TARGET=aarch64 DIST="$room/there.$number" || return 1
+        ! has_command dpkg-deb || run_make deb TARGET=aarch64 DIST="$room/there.$number" || return 1
+    done
+    diff -r there.1 there.2 && mkdir there.out && tar -C there.out -xf there.1/fio2070-*-aarch64.tar.gz || return 1
+    folder=$(echo there.out/fio2070-*)
+    has "$folder" share/doc/fio2070/docs/C-LIBRARY.md lib/pkgconfig/fio2070.pc include/fio2070.hpp \
+        lib/cmake/fio2070/fio2070-config.cmake && runs_there "$folder" "$folder/lib/libfio2070.a" || return 1
+    has_command dpkg-deb || return 0
+    dpkg-deb -x there.1/libfio2070-dev_*_arm64.deb there.out/package &&
+        runs_there there.out/package/usr there.out/package/usr/lib/aarch64-linux-gnu/libfio2070.a || return 1
+    ! has_command lintian || is_clean "$(echo there.1/libfio2070-dev_*_arm64.deb)"
 }
 
 # flags FOLDER: what pkg-config says of the fio2070.pc in this folder.
@@ -94,18 +193,40 @@ holds 'the program of the archive' shows "$place/bin/fio2070"
 holds 'an example of the archive' runs_example "$place/bin/fio2070" "$documents"
 holds 'the files of the archive' has "$place" share/man/man1/fio2070.1 share/bash-completion/completions/fio2070 \
     share/zsh/site-functions/_fio2070 share/fish/vendor_completions.d/fio2070.fish bin/fio2070-test \
-    share/man/man1/fio2070-test.1 share/fio2070/rust/fio2070/src/lib.rs share/fio2070/python/fio2070/py.typed
+    share/man/man1/fio2070-test.1 share/man/man1/fiolog.1 INSTALL share/fio2070/rust/fio2070/src/lib.rs share/fio2070/python/fio2070/py.typed
 holds 'the tester of the archive' "$place/bin/fio2070-test" --self module 2000
+holds 'fiolog of the archive' reads "$place/bin/fiolog"
+holds 'what INSTALL says' follows_note
 holds 'the library of the archive' has "$place" lib/libfio2070.a include/fio2070.h include/fio2070.hpp \
-    lib/pkgconfig/fio2070.pc
+    lib/pkgconfig/fio2070.pc lib/cmake/fio2070/fio2070-config.cmake lib/libfio2070.so.1 lib/libfio2070.so
 if has_command pkg-config && has_command cc; then
     # shellcheck disable=SC2046
-    holds 'a program with the library of the archive' links "$place" $(flags "$place/lib/pkgconfig")
+    holds 'a program with the library of the archive' links "$place/lib" $(flags "$place/lib/pkgconfig")
+    # shellcheck disable=SC2046
+    holds 'a program without it' links '' -I "$place/include" "$place/lib/libfio2070.a"
 else
     skip 'a program with the library of the archive' 'no pkg-config or no cc here'
 fi
+if has_command cmake && has_command cc; then
+    holds 'CMake finds the library of the archive' finds "$place" "$place/lib"
+else
+    skip 'CMake finds the library of the archive' 'no cmake or no cc here'
+fi
 holds 'the documents of the archive' has "$documents" README.md CHANGELOG.md LICENSE docs/FORMATS.md
 holds 'the links of the archive' is_linked "$documents"
+
+if python3 -m venv env >log 2>&1; then
+    holds 'the wheel, without a network' wheel
+else
+    skip 'the wheel' 'python3 has no module venv here (Debian package python3-venv)'
+fi
+
+if has_command aarch64-linux-gnu-gcc && has_command qemu-aarch64; then
+    holds 'the library for AArch64 in an archive and in a package' for_aarch64
+else
+    skip 'the library for AArch64' 'no aarch64-linux-gnu-gcc or no qemu-aarch64 here (Debian packages gcc-aarch64-linux-gnu,
+qemu-user)'
+fi
 
 if ! has_command dpkg-deb; then
     skip 'the Debian package' 'no dpkg-deb here (Debian package dpkg)'
@@ -126,24 +247,39 @@ else
         include/fio2070.hpp lib/x86_64-linux-gnu/pkgconfig/fio2070.pc
     holds 'the prefix of the package' grep -qx 'prefix=/usr' \
         "$room/root/usr/lib/x86_64-linux-gnu/pkgconfig/fio2070.pc"
+    library=$room/root/usr/lib/x86_64-linux-gnu
     if has_command cc; then
-        holds 'a program with the library of the package' links "$room/root" -I "$room/root/usr/include" \
-            "$room/root/usr/lib/x86_64-linux-gnu/libfio2070.a"
+        holds 'a program with the archive of the package' links '' -I "$room/root/usr/include" "$library/libfio2070.a"
+        holds 'a program with the library of the package' links "$library" -I "$room/root/usr/include" \
+            "$library/libfio2070.so"
     else
         skip 'a program with the library of the package' 'no cc here'
     fi
+    if has_command cmake && has_command cc; then
+        holds 'CMake finds the library of the package' finds "$room/root/usr" "$library"
+    else
+        skip 'CMake finds the library of the package' 'no cmake or no cc here'
+    fi
     holds 'the links of the package' is_linked "$documents"
     holds 'fiolog of the packages' reads env PYTHONPATH="$room/root/usr/lib/python3/dist-packages" \
-        "$room/root/usr/bin/fiolog"
+        LD_LIBRARY_PATH="$room/root/usr/lib/x86_64-linux-gnu" "$room/root/usr/bin/fiolog"
+    holds 'the manual pages of the tools' sh -c 'for command in "$1"/bin/*; do
+        [ -e "$1/share/man/man1/$(basename "$command").1.gz" ] || exit 1; done' sh "$room/root/usr"
+    if in_copy true 2>"$room/log"; then
+        cp -R deb.1 copy/packages
+        holds 'dpkg installs the packages in a copy of this system, and their commands run' in_copy 'sh installs'
+    else
+        skip 'dpkg installs the packages' 'this machine allows no copy of its system (root, and overlays of folders)'
+    fi
     if unshare --map-root-user true 2>"$room/log"; then
         holds 'the program with the C library alone' shows_alone "$room/root"
     else
         skip 'the program with the C library alone' 'this machine allows no new root'
     fi
     if has_command lintian; then
-        holds 'lintian finds no error' has_no_errors "$room"/deb.1/*.deb
+        holds 'lintian is content' is_clean "$room"/deb.1/*.deb
     else
-        skip 'lintian finds no error' 'no lintian here (Debian package lintian)'
+        skip 'lintian is content' 'no lintian here (Debian package lintian)'
     fi
 fi
 

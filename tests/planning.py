@@ -1,9 +1,9 @@
 #!/usr/bin/env python3
 """Computes the table of docs/PLANNING.md again from its formulas. Computes for the densest traffic of each row, by
-counts alone, which bounds it reaches, and that one scan more loses a transition; and in small settings, by a search of
+counts alone, that it reaches each bound, and that one scan more loses a transition; and in small settings, by a search of
 all states, that the bounds are exact. Runs the densest traffic by
 `simulate`: what arrives at the end of each clean round, how late it is, outages of the length in the table and of one
-scan more, and rounds as far apart as the table says and one scan further. Last line: `N passed, M failed`."""
+scan more, rounds as far apart as the table says and one scan further, and restarts. Last line: `N passed, M failed`."""
 
 import os
 import re
@@ -33,7 +33,7 @@ def planned(inputs, filter_length):
     """The row of the table for so many open inputs with filters of so many samples."""
     every = PER_BLOCK * filter_length // inputs
     kept = list(most_exact(inputs, filter_length, PER_BLOCK, every, False))
-    lost = [most_exact(inputs, filter_length, PER_BLOCK, every, True)[0], 2 * every + filter_length - 2]
+    lost = list(most_exact(inputs, filter_length, PER_BLOCK, every, True))
     outages = [waiting // inputs * filter_length for waiting in WAITING]
     return [inputs, filter_length, every] + kept + lost + outages
 
@@ -82,7 +82,7 @@ def overflows(inputs, filter_length, every, waiting, rounds):
 
 
 def check_bounds(check):
-    """Which bounds the densest traffic reaches, as docs/PLANNING.md says, and that one scan more loses a transition."""
+    """That the densest traffic reaches each bound, as docs/PLANNING.md says, and loses a transition with one scan more."""
     below = [[], [], [], []]
     for inputs in INPUTS:
         for filter_length in FILTERS:
@@ -98,12 +98,7 @@ def check_bounds(check):
                 check.holds('a scan more loses some of %d that wait, %s' % (waiting, name),
                             overflows(inputs, filter_length, row[2] + 1, waiting, 400_000))
             check.holds('the pace loses none, ' + name, not overflows(inputs, filter_length, row[2], WAITING[0], 4_000))
-    waiting, late, waiting_lost, late_lost = [differences.count(0) for differences in below]
-    check.equal('rows in which *Waiting* and *Late* are reached', [24] * 3, [waiting, late, waiting_lost])
-    check.holds('no bound is passed', min(map(min, below)) == 0, below)
-    words = ('except *Late, answers lost* in %d rows, where it stays up to %d scans below' % (24 - late_lost, max(below[3])))
-    with open(os.path.join(TOP, 'docs', 'PLANNING.md'), encoding='utf-8') as page:
-        check.holds('docs/PLANNING.md says: ' + words, words in page.read())
+    check.equal('how far below the bounds of *Waiting* and *Late* it stays', [[0] * 24] * 4, below)
 
 
 def next_states(inputs, filter_length, per_block, every, state):
@@ -257,6 +252,24 @@ def check_room(check):
                     None in script.run()[1])
 
 
+def check_restart(check):
+    """A restart loses without a gap mark what waits, a block whose answer was lost, and what was pushed out: as many
+    transitions as may wait and a block takes, and four scans of them more."""
+    for more, lost in ((0, WAITING[0] + PER_BLOCK), (4, WAITING[0] + PER_BLOCK + 4 * 64)):
+        script = Densest(64, 1, WAITING[0])
+        script.scan(4)
+        script.lost_round()
+        script.scan(15 + more)
+        logged = len(script.logged) + 63
+        script.lines += ['scan ' + 'ff' * 7 + '7f', 'restart', script.lines[1]]
+        script.deliver_to_module()
+        script.to_cpu += 1
+        script.lines.append('scan ' + '00' * 8)
+        script.clean_round()
+        check.equal('a restart: what was logged before it', lost, logged)
+        check.equal('a restart that loses %d: the record' % lost, [1] * 64, script.run()[1])
+
+
 def main():
     check = Check()
     check_table(check)
@@ -264,6 +277,7 @@ def main():
     check_search(check)
     check_polling(check)
     check_room(check)
+    check_restart(check)
     for inputs in INPUTS:
         for filter_length in FILTERS:
             check_rounds(check, inputs, filter_length, False)

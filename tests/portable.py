@@ -1,7 +1,8 @@
 #!/usr/bin/env python3
 """Builds the portable library of `make portable`, and compares what it answers to random frames and lossy links with what
-the library for x86-64 answers: here by each compiler, and on other processors under qemu-user where cross compilers are.
-Two of them are asked for by default, with `--every` all. Last line: `N passed, M failed`."""
+the library for x86-64 answers: here by each compiler, on other processors under qemu-user where cross compilers are, and
+on a Cortex-M4 under qemu-system-arm. Two of those under qemu-user are asked for by default, with `--every` all. Last line:
+`N passed, M failed`."""
 
 import os
 import re
@@ -12,6 +13,7 @@ import tempfile
 
 sys.dont_write_bytecode = True
 
+from support import cortex
 from support.check import Check
 from support.tables import TOP
 from support.translators import WRONG, changed
@@ -34,6 +36,12 @@ USUAL = 2
 # Frames, scripts and seed of a comparison.
 RUN = ['1000', '100', '20261124']
 SHORT = ['-500', '50', '7']
+LONG = ['-5000', '500', '1']
+# The most instructions of calls on a Cortex-M4, compiled with -Os, and the most octets of stack.
+MOST = {'module_scan, nothing changes': 150, 'module_scan, inputs 0 and 1 change': 1500,
+        'module_scan, inputs 0 and 63 change': 1500, 'module_scan, 64 inputs change': 15000,
+        'module_receive, poll, 20 entries': 3000, 'poller_hear, 20 entries': 3000, 'show, 255 entries': 2048,
+        'module_receive, poll': 1152, 'poller_hear, 255 entries': 1024}
 
 check = Check(every=False)
 room = tempfile.mkdtemp()
@@ -107,6 +115,35 @@ def others():
             check.fault(row, on_processor, name, prefix, options, qemu)
 
 
+def on_cortex(options, program, *words):
+    """What a program writes on a Cortex-M4, or why it does not run."""
+    try:
+        return cortex.output_of(room, options, PORTABLE, program, words)
+    except cortex.Failed as why:
+        return str(why)
+
+
+def within_limits():
+    """On a Cortex-M4 no call takes more instructions than docs and users count on."""
+    counted = dict(line.split(' ', 1)[1].rsplit(' ', 1) for line in on_cortex(['-Os'], 'cortex_m/counts.c', 'counts').splitlines())
+    return [(case, counted.get(case)) for case, most in MOST.items() if int(counted.get(case, most + 1)) > most]
+
+
+def cortex_rows():
+    rows = [('frames and links on a Cortex-M4', ['-Os'], SHORT, wanted)]
+    if check.given.every:
+        rows.append(('more frames and links on a Cortex-M4', ['-O2', '-DFIO2070_FAST'], LONG, run(path('native'), *LONG).stdout))
+    for row, options, words, answer in rows:
+        if cortex.missing():
+            check.skip(row, cortex.missing())
+        elif check.wants(row):
+            check.equal(row, answer, on_cortex(options, 'compare.c', 'compare', *words))
+    if cortex.missing():
+        check.skip('limits on a Cortex-M4', cortex.missing())
+    else:
+        check.fault('limits on a Cortex-M4', within_limits)
+
+
 def archive_for_aarch64():
     """The archive of `make library TARGET=aarch64` answers alike."""
     return fault_of('make', '-s', '-C', TOP, 'library', 'TARGET=aarch64') or fault_of(
@@ -125,6 +162,25 @@ def shows():
             with open(os.path.join(TOP, 'examples', name[:-7] + '.shown'), 'rb') as file:
                 fault = None if got == file.read() else name
     return fault
+
+
+def polls():
+    """The CPU's loop of examples/c/poller.c writes over the portable library what it writes over that for x86-64."""
+    for include, library, name in ((PORTABLE, os.path.join(PORTABLE, 'fio2070.c'), 'poller'),
+                                   (os.path.join(TOP, 'include'), os.path.join(TOP, 'libfio2070.a'), 'native-poller')):
+        fault = fault_of('gcc', '-O1', '-I', include, os.path.join(TOP, 'examples/c/poller.c'), library, '-o', path(name))
+        if fault:
+            return fault
+    ours, due = run(path('poller')), run(path('native-poller'))
+    return None if ours.returncode == 0 and ours.stdout == due.stdout != '' else ours.stdout + ours.stderr
+
+
+def is_tested(end):
+    """The tester over the portable library finds nothing at an end of it."""
+    folder = os.path.join(TOP, 'tools/conformance')
+    sources = [os.path.join(folder, name) for name in sorted(os.listdir(folder)) if name.endswith('.c')]
+    return fault_of('gcc', '-O1', '-I', PORTABLE, *sources, os.path.join(PORTABLE, 'fio2070.c'), '-o', path('tester')) or fault_of(
+        path('tester'), '--self', end, '20000')
 
 
 def is_found(wrong):
@@ -167,11 +223,15 @@ for compiler in ('gcc', 'clang'):
     check.fault('alone by ' + compiler, is_alone, compiler)
     check.fault('frames and links by ' + compiler, lambda by: build(by, ['-O1', *FAULTS.get(by, [])], by) or differs([path(by)]), compiler)
 check.fault('the decoder of the examples', shows)
+check.fault('the poller of the examples', polls)
+for end in ('module', 'cpu'):
+    check.fault('the tester: ' + end, is_tested, end)
 others()
-if check.given.every and shutil.which('aarch64-linux-gnu-gcc') and shutil.which('qemu-aarch64'):
+cortex_rows()
+if shutil.which('aarch64-linux-gnu-gcc') and shutil.which('qemu-aarch64'):
     check.fault('the archive for aarch64', archive_for_aarch64)
 else:
-    check.skip('the archive for aarch64', 'it is proved with --every alone, and runs with gcc-aarch64-linux-gnu and qemu-user')
+    check.skip('the archive for aarch64', 'it runs with the Debian packages gcc-aarch64-linux-gnu and qemu-user')
 wrong_translators()
 shutil.rmtree(room)
 check.end()

@@ -14,10 +14,11 @@ import sys
 sys.dont_write_bytecode = True
 
 from support.check import Check
+from support.messages import LENGTHS
 from support.tables import TOP, output_of
 
 PROGRAM = os.path.join(TOP, 'crates', 'fio2070', 'out', 'fio2070')
-TOOLS = ('show', 'simulate', 'check')
+TOOLS = ('show', 'simulate', 'check', 'record')
 SECONDS = 10
 
 FAULT = r'(?:empty|too long got \d+|unknown type \d+|wrong length needed \d+ got \d+)'
@@ -40,6 +41,7 @@ ENDS = [re.compile(word + r' \d+') for word in ('counter', 'number', 'waiting', 
 VERDICT = re.compile(r'good \d+ frames')
 BROKEN = re.compile(r'line \d+ breaks (?:readable|pair|number|advance|same|sequence|limits|rest|refusal)'
                     r'|line \d+: bad line')
+BROKEN_ENTRY = re.compile(r'line \d+ input \d+ breaks (?:order|alternate|apart)')
 
 
 def lines_that_say(text):
@@ -94,7 +96,16 @@ def is_check(text, lines, status):
     return BROKEN.fullmatch(lines[0]) is not None and status == 1
 
 
-FORMS = {'show': is_show, 'simulate': is_simulate, 'check': is_check}
+def is_record(_, lines, status):
+    """A line of `check`; or the record, and the line for an entry that breaks a rule on content where there is one."""
+    if len(lines) == 1 and BROKEN.fullmatch(lines[0]):
+        return status == 1
+    items = lines[1:-1] if status else lines[1:]
+    return (len(lines) > status and lines[0] == 'record %d' % len(items) and all(ITEM.fullmatch(line) for line in items)
+            and (status == 0 or BROKEN_ENTRY.fullmatch(lines[-1]) is not None))
+
+
+FORMS = {'show': is_show, 'simulate': is_simulate, 'check': is_check, 'record': is_record}
 
 
 def is_known(tool, text, told_octets, status):
@@ -107,16 +118,13 @@ def is_known(tool, text, told_octets, status):
     return FORMS[tool](text, written.split('\n')[:-1], status)
 
 
-# Octets that a message of each type may have behind the first: how many, or None where a count says it.
-LENGTHS = {49: 1, 50: 4, 52: 0, 53: 0, 54: 1, 55: 16, 58: 1, 60: 0, 177: 7, 178: 1, 179: 1, 180: 12, 181: 12, 186: 1}
-
-
 class Inputs:
     """Random inputs for the tools."""
 
     def __init__(self, seed):
         self.random = random.Random(seed)
         self.examples = {'show': [], 'simulate': [], 'check': []}
+        self.examples['record'] = self.examples['check']
         kinds = {'.frames': 'show', '.script': 'simulate', '.transcript': 'check'}
         folder = os.path.join(TOP, 'examples')
         for name in sorted(os.listdir(folder)):
@@ -201,7 +209,7 @@ class Inputs:
         """Lines that are right or nearly right."""
         if tool == 'simulate':
             return self.script()
-        if tool == 'check':
+        if tool in ('check', 'record'):
             return self.transcript()
         return [self.digits() for _ in range(self.random.randrange(12))]
 

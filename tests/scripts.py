@@ -93,6 +93,38 @@ waiting 0
 record 0
 '''),
     ('no event', HEADER[:-1], 'counter 0\nnumber 0\nwaiting 0\nrecord 0\n'),
+    ('numbers with zeros before them', 'fio2070 script 2 002 255\n', 'counter 0\nnumber 255\nwaiting 0\nrecord 0\n'),
+    ('an answer that comes twice, and block 0 after block 255', '''fio2070 script 1 2 255
+poll
+to-module 1
+to-cpu 1
+to-cpu 1
+''', '''1 sent 1 36ff
+2 sent 1 b6ff000000000000
+3 block entries 0 status 00
+4 stale 255
+counter 0
+number 0
+waiting 0
+record 0
+'''),
+    ('octets and inputs, in digits of both cases', HEADER + '''raise 0A
+send 3100
+to-module 1
+scan FE00000000000080
+send 34
+to-module 2
+''', '''1 quiet
+2 sent 1 3100
+3 sent 1 b18a000000000000
+4 quiet
+5 sent 2 34
+6 sent 2 b4fe0000000000008000000001
+counter 1
+number 0
+waiting 0
+record 0
+'''),
 ]
 
 REFUSED_EVENTS = [
@@ -102,6 +134,11 @@ REFUSED_EVENTS = [
     # No frame has the number 0, also where a frame was delivered already.
     (HEADER + 'poll\nto-module 1\nto-module 0',
      '1 sent 1 3600\n2 sent 1 b600000000000000\n3 refused not sent 0\n'),
+    (HEADER + 'to-module 000000005', '1 refused not sent 5\n'),
+    (HEADER + 'to-module 999999999', '1 refused not sent 999999999\n'),
+    # The fourth event is refused, and the fifth does not happen.
+    (HEADER + 'poll\npoll\nto-module 2\nto-module 1\npoll\n',
+     '1 sent 1 3600\n2 sent 2 3600\n3 sent 1 b600000000000000\n4 refused out of order 1 after 2\n'),
 ]
 
 BAD_HEADERS = [
@@ -169,6 +206,12 @@ to-cpu 3
     # One line below the header: a word of 1,048,550 digits.
     (HEADER + 'send ' + '38' * 524_275, 'line 2: bad frame too long got 524275'),
 ]
+
+# Words that spell no octets, no octet, no inputs, no number.
+FAULTS += [(HEADER + line, 'line 2: bad line') for line in (
+    'send ', 'send b1fF0', 'send zz', 'send 36 05', 'send 3605\r', 'raise a', 'raise 0a0a', 'raise 0g', 'raise ',
+    'scan 000000000000000000', 'scan 000000000000000g', 'to-cpu 0000000005', 'to-cpu 1000000000', 'to-cpu +5', 'to-cpu 5 ',
+    'to-cpu 5a', 'to-cpu ', 'to-cpu', 'to-module 5 6', 'to-', 'polls', '\r')]
 
 # Faults far down.
 for skipped in (10_001, 13_000, 65_533, 65_534, 65_535, 70_000, 131_072, 500_000, 1_000_000):

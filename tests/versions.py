@@ -22,7 +22,9 @@ PLACES = [
     ('crates/fio_tool/src/command_line.rt', 'VERSION: &str = "%s";\n'),
     ('docs/FORMATS.md', '\nfio2070 %s\n'),
     ('man/fio2070-test.1', '"fio2070 %s"'),
+    ('man/fio2070-tools.1', '"fio2070 %s"'),
     ('man/fio2070.1', '"fio2070 %s"'),
+    ('man/fiolog.1', '"fio2070 %s"'),
 ]
 
 # The places that name it by its three numbers, or by the one number that `fio2070_version` returns.

@@ -8,7 +8,7 @@ import os
 import zipfile
 
 HERE = os.path.dirname(os.path.abspath(__file__))
-LIBRARY = os.path.join(HERE, '..', '..', 'libfio2070.so')
+LIBRARY = os.path.join(HERE, '..', '..', 'libfio2070.so.1')
 NAME = 'fio2070-1.0.0'
 METADATA = """Metadata-Version: 2.1
 Name: fio2070
@@ -37,7 +37,7 @@ def files():
         for path in sorted(glob.glob(os.path.join(HERE, form))):
             found[os.path.dirname(form) + '/' + os.path.basename(path)] = path
     if os.path.exists(LIBRARY):
-        found['fio2070/libfio2070.so'] = LIBRARY
+        found['fio2070/libfio2070.so.1'] = LIBRARY
     contents = {}
     for name, path in found.items():
         with open(path, 'rb') as source:

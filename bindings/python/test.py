@@ -44,6 +44,17 @@ class Rules(unittest.TestCase):
         self.assertEqual(checker.heard(BLOCK), (3, True, 6, 5))
 
 
+    def test_an_entry_that_comes_twice(self):
+        content, again = fio2070.ContentChecker(), encode.block_answer(2, [Entry(13, 0, 11), Entry(12, 0, 12)], 0, 21)
+        content.sent(encode.poll(0))
+        self.assertIsNone(content.heard(encode.block_answer(0, [], 0, 0)))
+        content.sent(encode.poll(1))
+        self.assertIsNone(content.heard(encode.block_answer(1, [Entry(12, 0, 10)], 0, 11)))
+        content.sent(encode.poll(2))
+        self.assertEqual(content.heard(again), (fio2070.constants.CONTENT_ALTERNATE, 1, 12))
+        self.assertIsNone(content.heard(again))
+
+
 class Messages(unittest.TestCase):
     def test_octets(self):
         for octets, expected in MESSAGES:
@@ -92,14 +103,18 @@ class Messages(unittest.TestCase):
             fio2070.decode_command(b'\x33')
         copy = pickle.loads(pickle.dumps(caught.exception))
         self.assertEqual((copy.kind, copy.code, copy.needed, copy.got, str(copy)),
-                         (fio2070.constants.WRONG_LENGTH, 0, 2, 1, 'wrong length needed 2 got 1'))
+                         (fio2070.constants.FAULT_WRONG_LENGTH, 0, 2, 1, 'wrong length needed 2 got 1'))
 
     def test_constants(self):
         header = os.path.join(os.path.dirname(os.path.abspath(__file__)), '../../include/fio2070.h')
         with open(header, encoding='ascii') as text:
-            given = {name: int(number) for name, number in re.findall(
-                r'^(?: +|#define )FIO2070_([A-Z0-9_]+)(?: =)? (\d+)\b', text.read(), re.M)}
+            declared = text.read()
+        given = {name: int(number) for name, number in re.findall(
+            r'^(?: +|#define )FIO2070_([A-Z0-9_]+)(?: =)? (\d+)\b', declared, re.M)}
         self.assertGreater(len(given), 30)
+        older = re.findall(r'\bFIO2070_([A-Z0-9_]+) = FIO2070_([A-Z0-9_]+)', declared)
+        self.assertEqual(len(older), 42)
+        given.update((name, given[new]) for name, new in older)
         ours = {name: number for name, number in vars(fio2070.constants).items() if name.isupper()}
         self.assertEqual(ours, given)
         self.assertEqual(fio2070.version(), fio2070.constants.VERSION)
@@ -130,7 +145,9 @@ class Ends(unittest.TestCase):
         module.receive(encode.watchdog(200))
         self.assertEqual((module.outputs, module.watchdog_ms), ((b'01234567', b'89abcdef'), 100))
         module.raise_flags(1)
-        self.assertEqual(module.receive(encode.status(0))[1], 0x81)
+        module.set_errors(3, 4)
+        self.assertEqual(module.receive(encode.status(0))[1:4], b'\x81\3\4')
+        self.assertEqual((module.errors, module.flags, module.raw), ((3, 4), 0x81, 2**64 - 1 - 2**12))
         module.restart()
         self.assertEqual((module.counter, module.filtered), (0, 2**64 - 1))
 

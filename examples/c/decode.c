@@ -39,7 +39,6 @@ static void print_inputs(const char *name, const struct fio2070_answer *answer) 
 static void print_items(const uint8_t *octets, size_t length) {
     struct fio2070_configuration_item items[FIO2070_MOST_ENTRIES];
     size_t count, place;
-    memset(items, 0, sizeof items);
     count = fio2070_command_items(octets, length, items, FIO2070_MOST_ENTRIES);
     printf("configure inputs %lu\n", (unsigned long)count);
     for (place = 0; place < count; place++) {
@@ -51,7 +50,6 @@ static void print_items(const uint8_t *octets, size_t length) {
 static void print_block(const struct fio2070_answer *answer, const uint8_t *octets, size_t length) {
     struct fio2070_entry entries[FIO2070_MOST_ENTRIES];
     size_t count, place;
-    memset(entries, 0, sizeof entries);
     count = fio2070_block_entries(octets, length, entries, FIO2070_MOST_ENTRIES);
     printf("block %u entries %lu status %02x stamp %lu\n", answer->block, (unsigned long)count, answer->status,
            (unsigned long)answer->stamp);
@@ -63,37 +61,37 @@ static void print_block(const struct fio2070_answer *answer, const uint8_t *octe
 
 static void print_command(const struct fio2070_command *command, const uint8_t *octets, size_t length) {
     switch (command->code) {
-    case FIO2070_STATUS: printf("status clear %02x\n", command->clear); break;
-    case FIO2070_LOAD_COUNTER: printf("load counter %lu\n", (unsigned long)command->load); break;
-    case FIO2070_CONFIGURE_INPUTS: print_items(octets, length); break;
-    case FIO2070_RAW_INPUTS: puts("raw inputs"); break;
-    case FIO2070_FILTERED_INPUTS: puts("filtered inputs"); break;
-    case FIO2070_POLL: printf("poll block %u\n", command->block); break;
-    case FIO2070_SET_OUTPUTS:
+    case FIO2070_TYPE_STATUS: printf("status clear %02x\n", command->clear); break;
+    case FIO2070_TYPE_LOAD_COUNTER: printf("load counter %lu\n", (unsigned long)command->load); break;
+    case FIO2070_TYPE_CONFIGURE_INPUTS: print_items(octets, length); break;
+    case FIO2070_TYPE_RAW_INPUTS: puts("raw inputs"); break;
+    case FIO2070_TYPE_FILTERED_INPUTS: puts("filtered inputs"); break;
+    case FIO2070_TYPE_POLL: printf("poll block %u\n", command->block); break;
+    case FIO2070_TYPE_SET_OUTPUTS:
         printf("set outputs data ");
         print_octets(command->levels, 8);
         printf(" control ");
         print_octets(command->controls, 8);
         puts("");
         break;
-    case FIO2070_WATCHDOG: printf("watchdog ms %u\n", command->timeout); break;
-    case FIO2070_IDENTIFY: puts("identify"); break;
+    case FIO2070_TYPE_WATCHDOG: printf("watchdog ms %u\n", command->timeout); break;
+    case FIO2070_TYPE_IDENTIFY: puts("identify"); break;
     default: print_body(command->code, octets, length);
     }
 }
 
 static void print_answer(const struct fio2070_answer *answer, const uint8_t *octets, size_t length) {
-    switch (answer->code - FIO2070_ANSWER) {
-    case FIO2070_STATUS:
+    switch (answer->code - FIO2070_TYPE_ANSWER) {
+    case FIO2070_TYPE_STATUS:
         printf("status flags %02x receive %u transmit %u stamp %lu\n", answer->flags, answer->receive_errors,
                answer->transmit_errors, (unsigned long)answer->stamp);
         break;
-    case FIO2070_LOAD_COUNTER: printf("counter load status %02x\n", answer->status); break;
-    case FIO2070_CONFIGURE_INPUTS: printf("configure status %02x\n", answer->status); break;
-    case FIO2070_RAW_INPUTS: print_inputs("raw inputs", answer); break;
-    case FIO2070_FILTERED_INPUTS: print_inputs("filtered inputs", answer); break;
-    case FIO2070_POLL: print_block(answer, octets, length); break;
-    case FIO2070_WATCHDOG: printf("watchdog status %02x\n", answer->status); break;
+    case FIO2070_TYPE_LOAD_COUNTER: printf("counter load status %02x\n", answer->status); break;
+    case FIO2070_TYPE_CONFIGURE_INPUTS: printf("configure status %02x\n", answer->status); break;
+    case FIO2070_TYPE_RAW_INPUTS: print_inputs("raw inputs", answer); break;
+    case FIO2070_TYPE_FILTERED_INPUTS: print_inputs("filtered inputs", answer); break;
+    case FIO2070_TYPE_POLL: print_block(answer, octets, length); break;
+    case FIO2070_TYPE_WATCHDOG: printf("watchdog status %02x\n", answer->status); break;
     default: print_body(answer->code, octets, length);
     }
 }
@@ -105,17 +103,14 @@ static int print_frame(unsigned long line, const uint8_t *octets, size_t length)
     struct fio2070_fault fault;
     uint8_t text[FIO2070_LONGEST_FAULT_TEXT];
     size_t count;
-    memset(&command, 0, sizeof command);
-    memset(&answer, 0, sizeof answer);
     if (octets[0] < 128) {
         fault = fio2070_decode_command(octets, length, &command);
-        if (fault.kind == FIO2070_NO_FAULT) print_command(&command, octets, length);
+        if (fault.kind == FIO2070_FAULT_NONE) print_command(&command, octets, length);
     } else {
         fault = fio2070_decode_answer(octets, length, &answer);
-        if (fault.kind == FIO2070_NO_FAULT) print_answer(&answer, octets, length);
+        if (fault.kind == FIO2070_FAULT_NONE) print_answer(&answer, octets, length);
     }
-    if (fault.kind == FIO2070_NO_FAULT) return 0;
-    memset(text, 0, sizeof text);
+    if (fault.kind == FIO2070_FAULT_NONE) return 0;
     count = fio2070_fault_text(&fault, text, sizeof text);
     printf("line %lu: %.*s\n", line, (int)count, (const char *)text);
     return 1;

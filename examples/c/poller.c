@@ -1,10 +1,12 @@
-/* A CPU that polls a module until nothing waits. Its loop needs two functions, one that sends a frame
- * and one that receives a frame or runs out of time. It asks again where no answer comes, and takes an
- * answer that comes twice only once.
+/* A CPU that polls a module until nothing waits. Its loop needs three functions: one that sends a frame,
+ * one that receives a frame or runs out of time, and a clock. It asks again where no answer comes, and takes
+ * an answer that comes twice only once. Each exchange has a deadline, which frames of no use do not move: a
+ * line that is never silent does not hold the CPU.
  *
  * Here the module is the library's own, at the other end of a pair of sockets; every third command
  * is lost, every fifth answer is lost, and every seventh comes twice. Time is counted in the module's
- * milliseconds, so each run prints the same: the record as a report of `fio2070 simulate` has it.
+ * milliseconds, so each run prints the same: the record as a report of `fio2070 simulate` has it. With the
+ * word `babble` the line brings a frame of noise each millisecond, and no answer.
  *
  *     cc -I include examples/c/poller.c libfio2070.a -o poller
  */
@@ -16,14 +18,16 @@
 #include <sys/types.h>
 #include <unistd.h>
 
-enum { ANSWER_MS = 10, MOST_TRIES = 10, MOST_ITEMS = 4096, WAVE_MS = 600 };
+enum { ANSWER_MS = 10, EXCHANGE_MS = 100, MOST_ITEMS = 4096, WAVE_MS = 600 };
 
 /* The CPU's link to a module. */
 struct link {
     void *context;
     void (*send)(void *context, const uint8_t *octets, size_t length);
     /* Returns how many octets came, at most `room`, and 0 where none came in this time. */
-    size_t (*receive)(void *context, uint8_t *octets, size_t room, unsigned milliseconds);
+    size_t (*receive)(void *context, uint8_t *octets, size_t room, unsigned long milliseconds);
+    /* Milliseconds since some start. */
+    unsigned long (*now)(void *context);
 };
 
 /* ---- The CPU ---- */
@@ -31,36 +35,50 @@ struct link {
 static struct fio2070_record_item record[MOST_ITEMS];
 static size_t recorded;
 
-/* Sends a command, again and again, until an answer of its type comes. Returns 1 where one came. */
+/* Receives a frame before this much time has gone by since `start`. Returns 0 where none came, and where the
+ * time is over, whatever else may come. */
+static size_t receive_within(const struct link *link, uint8_t *octets, size_t room, unsigned long start,
+                             unsigned long milliseconds) {
+    unsigned long gone = link->now(link->context) - start;
+    return gone < milliseconds ? link->receive(link->context, octets, room, milliseconds - gone) : 0;
+}
+
+/* Whether the time of an exchange that began at `start` is not over. */
+static int has_time(const struct link *link, unsigned long start) {
+    return link->now(link->context) - start < EXCHANGE_MS;
+}
+
+/* Sends a command, again and again, until an answer of its type comes. Returns 1 where one came in time. */
 static int ask(const struct link *link, const uint8_t *command, size_t length) {
     uint8_t octets[FIO2070_LONGEST_FRAME];
     struct fio2070_answer answer;
-    int tries;
-    memset(&answer, 0, sizeof answer);
-    for (tries = 0; tries < MOST_TRIES; tries++) {
+    unsigned long start = link->now(link->context);
+    while (has_time(link, start)) {
+        unsigned long sent = link->now(link->context);
         size_t count;
         link->send(link->context, command, length);
-        while ((count = link->receive(link->context, octets, sizeof octets, ANSWER_MS)) != 0) {
+        while ((count = receive_within(link, octets, sizeof octets, sent, ANSWER_MS)) != 0) {
             struct fio2070_fault fault = fio2070_decode_answer(octets, count, &answer);
-            if (fault.kind == FIO2070_NO_FAULT && answer.code == command[0] + FIO2070_ANSWER) return 1;
+            if (fault.kind == FIO2070_FAULT_NONE && answer.code == command[0] + FIO2070_TYPE_ANSWER) return 1;
         }
     }
     return 0;
 }
 
-/* Polls until the next block is taken. Returns how many entries it has, -1 where no answer or no room
- * is left. */
+/* Polls until the next block is taken. Returns how many entries it has, -1 where none came in time, and where
+ * there is no room for it. */
 static int take_block(const struct link *link, struct fio2070_poller *poller) {
     uint8_t octets[FIO2070_LONGEST_FRAME];
-    int tries;
-    for (tries = 0; tries < MOST_TRIES; tries++) {
+    unsigned long start = link->now(link->context);
+    while (has_time(link, start)) {
+        unsigned long sent = link->now(link->context);
         size_t count = fio2070_poller_poll(poller, octets, sizeof octets);
         link->send(link->context, octets, count);
-        while ((count = link->receive(link->context, octets, sizeof octets, ANSWER_MS)) != 0) {
+        while ((count = receive_within(link, octets, sizeof octets, sent, ANSWER_MS)) != 0) {
             struct fio2070_heard heard =
                 fio2070_poller_hear(poller, octets, count, record + recorded, MOST_ITEMS - recorded);
-            if (heard.kind == FIO2070_NO_ROOM) return -1;
-            if (heard.kind != FIO2070_TAKEN) continue;
+            if (heard.kind == FIO2070_HEARD_NO_ROOM) return -1;
+            if (heard.kind != FIO2070_HEARD_TAKEN) continue;
             recorded += heard.items;
             return heard.entries;
         }
@@ -72,7 +90,7 @@ static int take_block(const struct link *link, struct fio2070_poller *poller) {
 
 struct bench {
     struct fio2070_module module;
-    int cpu_end, module_end;
+    int cpu_end, module_end, babbles;
     unsigned long ms, commands, answers;
 };
 
@@ -88,8 +106,6 @@ static uint64_t levels_at(unsigned long ms) {
 static void step(struct bench *bench) {
     uint8_t octets[FIO2070_LONGEST_FRAME], answer[FIO2070_LONGEST_FRAME];
     ssize_t length;
-    memset(octets, 0, sizeof octets);
-    memset(answer, 0, sizeof answer);
     fio2070_module_scan(&bench->module, levels_at(++bench->ms));
     while ((length = recv(bench->module_end, octets, sizeof octets, MSG_DONTWAIT)) > 0) {
         size_t count;
@@ -105,8 +121,15 @@ static void send_frame(void *context, const uint8_t *octets, size_t length) {
     (void)!send(((struct bench *)context)->cpu_end, octets, length, 0);
 }
 
-static size_t receive_frame(void *context, uint8_t *octets, size_t room, unsigned milliseconds) {
+static unsigned long milliseconds_now(void *context) { return ((struct bench *)context)->ms; }
+
+static size_t receive_frame(void *context, uint8_t *octets, size_t room, unsigned long milliseconds) {
     struct bench *bench = (struct bench *)context;
+    if (bench->babbles) {
+        step(bench);
+        octets[0] = 0;
+        return 1;
+    }
     for (;;) {
         ssize_t length = recv(bench->cpu_end, octets, room, MSG_DONTWAIT);
         if (length > 0) return (size_t)length;
@@ -146,7 +169,7 @@ static void print_report(const struct bench *bench, const struct fio2070_poller 
     }
 }
 
-int main(void) {
+int main(int count, char **words) {
     static struct bench bench;
     struct link link;
     struct fio2070_poller poller;
@@ -159,8 +182,12 @@ int main(void) {
     link.context = &bench;
     link.send = send_frame;
     link.receive = receive_frame;
-    memset(octets, 0, sizeof octets);
-    if (!ask(&link, octets, configuration(octets, sizeof octets))) return 1;
+    link.now = milliseconds_now;
+    bench.babbles = count == 2 && strcmp(words[1], "babble") == 0;
+    if (!ask(&link, octets, configuration(octets, sizeof octets))) {
+        printf("no answer in %lu ms\n", bench.ms);
+        return 1;
+    }
     poller.number = 0;
     do {
         entries = take_block(&link, &poller);

@@ -15,6 +15,9 @@ import urllib.request
 
 ELEMENT = 'element-6066-11e4-a52e-4f735466cecf'
 STARTED_IN = 40
+# The middle of the part of an element that is in the window.
+MIDDLE = """const it = document.querySelector(arguments[0]).getBoundingClientRect();
+return [Math.round(it.left + it.width / 2), Math.round((Math.max(it.top, 0) + Math.min(it.bottom, innerHeight)) / 2)]"""
 KEYS = {'down': '\ue015', 'up': '\ue013', 'left': '\ue012', 'right': '\ue014', 'home': '\ue011', 'end': '\ue010',
         'enter': '\ue007', 'tab': '\ue004'}
 
@@ -43,6 +46,23 @@ class Browser:
         found = self.ask('POST', 'element', 'WebDriver:FindElement', {'using': 'css selector', 'value': selector})
         return found[ELEMENT]
 
+    def find_all(self, selector):
+        found = self.ask('POST', 'elements', 'WebDriver:FindElements', {'using': 'css selector', 'value': selector})
+        return [one[ELEMENT] for one in found]
+
+    def role(self, found):
+        """The role of an element in the accessibility tree."""
+        return self.ask('GET', 'element/%s/computedrole' % found, 'WebDriver:GetComputedRole', {'id': found})
+
+    def label(self, found):
+        """The name of an element there."""
+        return self.ask('GET', 'element/%s/computedlabel' % found, 'WebDriver:GetComputedLabel', {'id': found})
+
+    def press(self, key):
+        """Presses a key where the focus is."""
+        actions = [{'type': kind, 'value': KEYS[key]} for kind in ('keyDown', 'keyUp')]
+        self.ask('POST', 'actions', 'WebDriver:PerformActions', {'actions': [{'type': 'key', 'id': 'keys', 'actions': actions}]})
+
     def click(self, selector):
         found = self.find(selector)
         self.ask('POST', 'element/%s/click' % found, 'WebDriver:ElementClick', {'id': found})
@@ -62,6 +82,23 @@ class Browser:
         turn = {'type': 'scroll', 'duration': 0, 'x': 0, 'y': 0, 'deltaX': 0, 'deltaY': by,
                 'origin': {ELEMENT: self.find(selector)}}
         self.ask('POST', 'actions', 'WebDriver:PerformActions', {'actions': [{'type': 'wheel', 'id': 'wheel', 'actions': [turn]}]})
+
+    def touch(self, selector, *fingers):
+        """Moves fingers over an element at the same time: for each the points, from the middle of what is seen of it, that it
+        goes through."""
+        middle = self.run(MIDDLE, selector)
+        actions = []
+        for number, points in enumerate(fingers):
+            moves = [{'type': 'pointerMove', 'duration': 40 * (place > 0), 'origin': 'viewport', 'x': middle[0] + x, 'y': middle[1] + y}
+                     for place, (x, y) in enumerate(points)]
+            steps = moves[:1] + [{'type': 'pointerDown', 'button': 0}] + moves[1:]
+            actions.append({'type': 'pointer', 'id': 'finger%d' % number, 'parameters': {'pointerType': 'touch'},
+                            'actions': steps + [{'type': 'pointerUp', 'button': 0}]})
+        self.ask('POST', 'actions', 'WebDriver:PerformActions', {'actions': actions})
+
+    def printed(self):
+        """The page on paper, as PDF."""
+        return base64.b64decode(self.ask('POST', 'print', 'WebDriver:Print', {'background': True}))
 
     def size(self, width, height):
         self.ask('POST', 'window/rect', 'WebDriver:SetWindowRect', {'width': width, 'height': height})
@@ -118,7 +155,7 @@ class Chromium(Browser):
             raise RuntimeError(json.load(fault)['value']['message']) from None
 
     def ask(self, method, path, _, given, **_ignored):
-        return self.sent(method, self.base + '/' + path, given)
+        return self.sent(method, self.base + '/' + path, None if method == 'GET' else given)
 
     def end(self):
         with contextlib.suppress(OSError, RuntimeError):

@@ -3,6 +3,7 @@ commands and answers as a search through the whole transcript finds them."""
 
 import re
 
+from support.messages import FIRST_LINES
 from support.tables import output_of
 from support.tshark import FIELDS
 
@@ -10,19 +11,6 @@ FAULT = re.compile(r'empty|too long got \d+|unknown type \d+|wrong length needed
 ITEM = ('input', 'ignore', 'leading', 'trailing')
 ENTRY = ('input', 'state', 'stamp', 'wide')
 LARGEST_INPUT = 1_000_000
-
-# The first line of `show` for each type, by the names of fields; `:x` is one octet in hexadecimal, `:o` octets.
-FIRST_LINES = {
-    49: 'status clear {clear:x}', 50: 'load counter {load}', 51: 'configure inputs {items}', 52: 'raw inputs',
-    53: 'filtered inputs', 54: 'poll block {block.number}',
-    55: 'set outputs data {outputs.data:o} control {outputs.control:o}', 58: 'watchdog ms {watchdog.timeout}',
-    60: 'identify',
-    177: 'status flags {flags:x} receive {errors.receive} transmit {errors.transmit} stamp {stamp}',
-    178: 'counter load status {status:x}', 179: 'configure status {status:x}',
-    180: 'raw inputs {inputs:o} stamp {stamp}', 181: 'filtered inputs {inputs:o} stamp {stamp}',
-    182: 'block {block.number} entries {block.entries} status {block.flags:x} stamp {stamp}',
-    186: 'watchdog status {watchdog.status:x}',
-}
 
 
 def shown(frames):
@@ -60,11 +48,9 @@ def spelled(row):
         text = row['fio2070.' + match.group(1)]
         if match.group(2) == ':x':
             return '%02x' % int(text, 16)
-        return text.replace(':', '') if match.group(2) == ':o' else text
+        return text.replace(':', '') or '-' if match.group(2) == ':o' else text
 
-    kind = int(row['fio2070.type'])
-    other = 'other %d body %s' % (kind, row['fio2070.body'].replace(':', '') or '-')
-    lines = [re.sub(r'\{([a-z.]+)(:[xo])?\}', word, FIRST_LINES.get(kind, other))]
+    lines = [re.sub(r'\{([a-z.]+)(:[xo])?\}', word, FIRST_LINES[int(row['fio2070.type'])])]
     for group, names in (('item', ITEM), ('entry', ENTRY)):
         columns = [values(row, 'fio2070.%s.%s' % (group, name)) for name in names]
         if len(set(map(len, columns))) != 1:

@@ -7,6 +7,7 @@ import os
 import random
 import re
 
+from support.messages import KNOWN, LENGTHS
 from support.tables import TOP
 
 # Messages of docs/PROTOCOL.md, one or more of each type, and frames with a fault.
@@ -20,10 +21,6 @@ b606020c0001bf00020f000000ff b60701ffffff04ffffffff b60801400000f000000000
 '''.split()
 LONG_MESSAGES = ['b605ff' + '8c03e7' * 255 + '08000003e8', '33ff' + '0c0503' * 255, '38' + '5a' * 772, '30' * 773,
                  '30' * 774, 'b6' * 900, 'bb' + '00' * 773]
-
-# How many octets follow the type; a type that is missing here has a body of any length.
-LENGTHS = {49: 1, 50: 4, 52: 0, 53: 0, 54: 1, 55: 16, 58: 1, 60: 0, 177: 7, 178: 1, 179: 1, 180: 12, 181: 12, 186: 1}
-KNOWN = list(range(49, 61)) + list(range(177, 189))
 
 
 def frame_check(octets):

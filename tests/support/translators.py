@@ -14,7 +14,8 @@ class Wrong(NamedTuple):
     usual: bool = False
 
 
-RULES, FUNCTIONS, MACHINE, CALLS = 'instructions.py', 'functions.py', 'machine.c', 'calls.c'
+RULES, FUNCTIONS, ACCESSES = 'instructions.py', 'functions.py', 'accesses.py'
+MACHINE, CALLS = 'machine.c', 'calls.c'
 WRONG = [
     ('is zero', Wrong(RULES, "'({0} == 0)'", "'({0} != 0)'", True)),
     ('less', Wrong(RULES, "'({0} < {1})'", "'({0} <= {1})'")),
@@ -43,9 +44,26 @@ WRONG = [
     ('store of 64', Wrong(MACHINE, "p[7] = (uint8_t)(w >> 24);", "")),
     ('copy', Wrong(MACHINE, "source, (size_t)count)", "source, (size_t)count - 1)", True)),
     ('fill', Wrong(MACHINE, "(int)(value & 255)", "1")),
-    ('test of an access', Wrong(MACHINE, "low <= it->length - size", "low < it->length - size", True)),
-    ('offset', Wrong(MACHINE, "uint64_t whole = address + offset;", "uint64_t whole = address + (offset & 63);", True)),
+    ('test of an access', Wrong(MACHINE, "size <= it->length - place", "size < it->length - place", True)),
+    ('offset', Wrong(ACCESSES, "self.place.distance + self.offset", "self.place.distance + (self.offset & 63)", True)),
+    ('distance', Wrong(ACCESSES, "(one.distance + other.distance + 2 ** 63)", "(one.distance + 2 ** 63)", True)),
+    ('pointers behind a block', Wrong(ACCESSES, "if it.depth < depth]", "if it.depth <= depth]", True)),
+    ('numbers in a loop', Wrong(FUNCTIONS, "        self.forget(assigned_in(it))\n", "", True)),
+    ('numbers behind a block', Wrong(FUNCTIONS, "            self.forget(block['assigned'])\n", "            pass\n", True)),
+    ('test before a branch', Wrong(FUNCTIONS, "    def branch(self, depth):\n        self.settle()\n", "    def branch(self, depth):\n", True)),
     ('field of a result', Wrong(CALLS, "header->stamp = get32(into + 4);", "header->stamp = get32(into + 3);", True)),
+]
+
+# Those that tests/portable-instructions.py finds: the library never comes to the difference.
+UNSEEN = [
+    ('less, signed', Wrong(RULES, "'(SIGNED{n}({0}) < SIGNED{n}({1}))'", "'({0} < {1})'")),
+    ('narrowing', Wrong(RULES, "'(uint32_t){0}'", "'(uint16_t){0}'")),
+    ('zeros of the high half', Wrong(MACHINE, "32 + trailing32(", "31 + trailing32(")),
+    ('shift to the right, signed', Wrong(MACHINE, "(x >> 63 ? ~(~UINT64_C(0)", "(x >> 62 ? ~(~UINT64_C(0)")),
+    ('length of a test', Wrong(ACCESSES, "address, end - start)", "address, 1)")),
+    ('place of a test', Wrong(MACHINE, "place <= it->length && size <= it->length - place", "place <= it->length")),
+    ('number of an argument', Wrong(MACHINE, "(uint32_t)(address >> 32)", "(uint32_t)(address >> 40)")),
+    ('read-only data', Wrong(MACHINE, "size > DATA_LENGTH - (uint32_t)place", "size > DATA_LENGTH + 999999")),
 ]
 
 

@@ -179,8 +179,8 @@ struct difference {
     uint32_t fields;           /* in which they differ: a FIELD_BIT for each */
     struct rule_set exercised; /* by the event */
     int has_failed;            /* a call returned CONFORMANCE_FAILED, and nothing was compared */
-    size_t command_length;     /* of the frame that came to the module */
-    uint8_t command[CONFORMANCE_LONGEST_FRAME];
+    size_t frame_length;       /* of the frame that came to the end under test */
+    uint8_t frame[CONFORMANCE_LONGEST_FRAME];
     size_t expected_length, got_length; /* of the answers, or of the polls; 0 where the CPU's end heard a frame */
     uint8_t expected[FIO2070_LONGEST_FRAME], got[FIO2070_LONGEST_FRAME];
     uint8_t expected_outputs[16], got_outputs[16];

@@ -127,11 +127,11 @@ static uint32_t repeat_field(const struct observer *observer, struct difference 
     uint32_t field = FIELD_BIT(REPEAT);
     if (length == 0) return 0;
     memcpy(due, observer->kept, length);
-    due[length - 5] = (uint8_t)((due[length - 5] | FIO2070_AGAIN) & ~FIO2070_OUT_OF_SEQUENCE);
+    due[length - 5] = (uint8_t)((due[length - 5] | FIO2070_BIT_AGAIN) & ~FIO2070_BIT_OUT_OF_SEQUENCE);
     if (length != difference->got_length) return because(difference, field, "the block is another one than before");
     while (other < length && due[other] == difference->got[other]) other++;
     if (other == length) return 0;
-    if (other == length - 5 && (due[other] ^ difference->got[other]) == FIO2070_AGAIN) field = FIELD_BIT(AGAIN);
+    if (other == length - 5 && (due[other] ^ difference->got[other]) == FIO2070_BIT_AGAIN) field = FIELD_BIT(AGAIN);
     return because(difference, field, "octet %lu: the repeat of the block before has %02x, got %02x",
                    (unsigned long)other, due[other], difference->got[other]);
 }
@@ -194,24 +194,24 @@ static uint32_t block_field(struct observer *observer, struct span span, uint8_t
     unsigned place;
     uint32_t fields = stamp_field(observer, span, status + 1, FIELD_BIT(BLOCK_STAMP), difference);
     if (got[2] > per_block) return because(difference, FIELD_BIT(COUNT), "the block has %u entries", got[2]);
-    if ((*status & FIO2070_MORE) && got[2] < per_block) {
+    if ((*status & FIO2070_BIT_MORE) && got[2] < per_block) {
         return because(difference, FIELD_BIT(MORE), "C is set, and the block has %u entries", got[2]);
     }
-    if ((*status & FIO2070_LOST) && !(*status & FIO2070_MORE)) {
+    if ((*status & FIO2070_BIT_LOST) && !(*status & FIO2070_BIT_MORE)) {
         return because(difference, FIELD_BIT(LOST), "F is set without C");
     }
-    if (*status & FIO2070_LOST) memset(observer->states, UNKNOWN, 64);
+    if (*status & FIO2070_BIT_LOST) memset(observer->states, UNKNOWN, 64);
     for (place = 0; place < got[2] && fields == 0; place++) {
         fields = entry_field(observer, got + 3 + 3 * place, low, most_counted(observer, span), difference);
     }
-    if (fields == 0 && !(*status & FIO2070_MORE)) fields = drained_field(observer, span, difference);
+    if (fields == 0 && !(*status & FIO2070_BIT_MORE)) fields = drained_field(observer, span, difference);
     return fields;
 }
 
 static uint32_t poll_fields(struct observer *observer, struct span span, uint8_t per_block,
                             struct difference *difference) {
     uint32_t fields;
-    if (difference->expected[difference->expected_length - 5] & FIO2070_AGAIN) return repeat_field(observer, difference);
+    if (difference->expected[difference->expected_length - 5] & FIO2070_BIT_AGAIN) return repeat_field(observer, difference);
     fields = block_field(observer, span, per_block, difference);
     memcpy(observer->kept, difference->got, difference->got_length);
     observer->kept_length = difference->got_length;
@@ -227,22 +227,22 @@ static uint32_t outputs_field(const struct observer *observer, struct span span,
 uint32_t conformance_clock_fields(struct observer *observer, struct span span, uint8_t per_block, uint32_t fields,
                                   struct difference *difference) {
     const uint8_t *stamp = difference->got + difference->got_length - 4;
-    uint8_t code = difference->expected_length > 0 ? (uint8_t)(difference->expected[0] - FIO2070_ANSWER) : 0;
+    uint8_t code = difference->expected_length > 0 ? (uint8_t)(difference->expected[0] - FIO2070_TYPE_ANSWER) : 0;
     difference->observed[0] = '\0';
     if (code == 0 || (fields & (FIELD_BIT(PRESENCE) | FIELD_BIT(TYPE) | FIELD_BIT(LENGTH)))) return fields;
-    if (code == FIO2070_CONFIGURE_INPUTS && (difference->expected[1] & FIO2070_ERROR) == 0) {
-        configure(observer, difference->command);
+    if (code == FIO2070_TYPE_CONFIGURE_INPUTS && (difference->expected[1] & FIO2070_BIT_ERROR) == 0) {
+        configure(observer, difference->frame);
     }
     fields &= ~(uint32_t)CONFORMANCE_CLOCK_FIELDS;
-    if (code == FIO2070_SET_OUTPUTS) fields &= ~FIELD_BIT(BODY);
+    if (code == FIO2070_TYPE_SET_OUTPUTS) fields &= ~FIELD_BIT(BODY);
     switch (code) {
-    case FIO2070_STATUS: return fields | stamp_field(observer, span, stamp, FIELD_BIT(STAMP), difference);
-    case FIO2070_RAW_INPUTS:
-    case FIO2070_FILTERED_INPUTS:
+    case FIO2070_TYPE_STATUS: return fields | stamp_field(observer, span, stamp, FIELD_BIT(STAMP), difference);
+    case FIO2070_TYPE_RAW_INPUTS:
+    case FIO2070_TYPE_FILTERED_INPUTS:
         fields |= stamp_field(observer, span, stamp, FIELD_BIT(STAMP), difference);
-        return fields | inputs_field(observer, span, code == FIO2070_FILTERED_INPUTS, difference);
-    case FIO2070_POLL: return fields | poll_fields(observer, span, per_block, difference);
-    case FIO2070_SET_OUTPUTS: return fields | outputs_field(observer, span, difference);
+        return fields | inputs_field(observer, span, code == FIO2070_TYPE_FILTERED_INPUTS, difference);
+    case FIO2070_TYPE_POLL: return fields | poll_fields(observer, span, per_block, difference);
+    case FIO2070_TYPE_SET_OUTPUTS: return fields | outputs_field(observer, span, difference);
     default: return fields;
     }
 }

@@ -40,6 +40,7 @@ static void saw_taken(struct cpu_history *history, const uint8_t *octets, size_t
     conformance_put(rules, RULE_TAKEN_WHOLE);
     put_if(rules, RULE_EMPTY_BLOCK, heard->entries == 0);
     put_if(rules, RULE_UNNAMED_BITS, heard->status > 15);
+    put_if(rules, RULE_BLOCK_LENGTH, length > CONFORMANCE_SHORT_FRAME);
     put_if(rules, RULE_CASE_LONG_BLOCK, length > 256);
     put_if(rules, RULE_CASE_WHOLE_BLOCK, heard->items == FIO2070_MOST_RECORD_ITEMS);
     put_if(rules, RULE_CASE_256_TAKEN, history->blocks >= 256);
@@ -55,12 +56,12 @@ void conformance_saw_heard(struct cpu_history *history, const uint8_t *octets, s
                            const struct fio2070_heard *heard, const struct fio2070_record_item *items,
                            struct rule_set *rules) {
     switch (heard->kind) {
-    case FIO2070_UNREADABLE:
+    case FIO2070_HEARD_UNREADABLE:
         conformance_put(rules, RULE_UNREADABLE);
         put_if(rules, RULE_CASE_LONG_UNREADABLE, length > 256);
         break;
-    case FIO2070_OTHER: conformance_put(rules, RULE_OTHER_ANSWER); break;
-    case FIO2070_STALE:
+    case FIO2070_HEARD_OTHER: conformance_put(rules, RULE_OTHER_ANSWER); break;
+    case FIO2070_HEARD_STALE:
         conformance_put(rules, RULE_STALE);
         put_if(rules, RULE_TAKEN_ONCE, history->has_taken && heard->number == history->taken);
         break;

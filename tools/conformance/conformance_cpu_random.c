@@ -18,7 +18,7 @@ struct growth {
 
 /* How many events a script has: one of many blocks is long enough for numbers to come round. */
 static size_t random_length(enum theme theme, uint64_t *state) {
-    if (theme == STEADY) return 1000 + conformance_below(state, conformance_below(state, 4) == 0 ? 19000 : 5000);
+    if (theme == STEADY) return conformance_below(state, 8) == 0 ? 20000 : 1000 + conformance_below(state, 6000);
     return 20 + conformance_below(state, conformance_below(state, 16) == 0 ? 2400 : 380);
 }
 

@@ -9,7 +9,7 @@ static uint32_t if_other(uint32_t field, uint64_t expected, uint64_t got) { retu
 
 static int reads(const uint8_t *octets, size_t length, struct fio2070_answer *answer) {
     memset(answer, 0, sizeof *answer);
-    return fio2070_decode_answer(octets, length, answer).kind == FIO2070_NO_FAULT;
+    return fio2070_decode_answer(octets, length, answer).kind == FIO2070_FAULT_NONE;
 }
 
 /* Both are readable blocks. */
@@ -21,12 +21,12 @@ static uint32_t block_fields(const struct difference *both, const struct fio2070
                       if_other(FIELD_BIT(COUNT), expected->count, got->count) |
                       if_other(FIELD_BIT(BLOCK_STAMP), expected->stamp, got->stamp) |
                       if_other(FIELD_BIT(ENTRY), 0, memcmp(both->expected + 3, both->got + 3, 3 * shared) != 0) |
-                      if_other(FIELD_BIT(MORE), 0, other & FIO2070_MORE) |
-                      if_other(FIELD_BIT(LOST), 0, other & FIO2070_LOST) |
-                      if_other(FIELD_BIT(SEQUENCE), 0, other & FIO2070_OUT_OF_SEQUENCE) |
+                      if_other(FIELD_BIT(MORE), 0, other & FIO2070_BIT_MORE) |
+                      if_other(FIELD_BIT(LOST), 0, other & FIO2070_BIT_LOST) |
+                      if_other(FIELD_BIT(SEQUENCE), 0, other & FIO2070_BIT_OUT_OF_SEQUENCE) |
                       if_other(FIELD_BIT(UNNAMED), 0, other & 0xf0);
-    if ((expected->status & FIO2070_AGAIN) && fields != 0) fields = FIELD_BIT(REPEAT);
-    return fields | if_other(FIELD_BIT(AGAIN), 0, other & FIO2070_AGAIN);
+    if ((expected->status & FIO2070_BIT_AGAIN) && fields != 0) fields = FIELD_BIT(REPEAT);
+    return fields | if_other(FIELD_BIT(AGAIN), 0, other & FIO2070_BIT_AGAIN);
 }
 
 uint32_t conformance_answer_fields(const struct difference *both) {
@@ -39,14 +39,14 @@ uint32_t conformance_answer_fields(const struct difference *both) {
     if (!reads(both->expected, both->expected_length, &expected) || !reads(both->got, both->got_length, &got)) {
         return FIELD_BIT(LENGTH);
     }
-    switch (expected.code - FIO2070_ANSWER) {
-    case FIO2070_POLL: return block_fields(both, &expected, &got);
-    case FIO2070_LOAD_COUNTER:
-    case FIO2070_CONFIGURE_INPUTS:
-    case FIO2070_WATCHDOG: return FIELD_BIT(STATUS);
-    case FIO2070_STATUS:
-    case FIO2070_RAW_INPUTS:
-    case FIO2070_FILTERED_INPUTS:
+    switch (expected.code - FIO2070_TYPE_ANSWER) {
+    case FIO2070_TYPE_POLL: return block_fields(both, &expected, &got);
+    case FIO2070_TYPE_LOAD_COUNTER:
+    case FIO2070_TYPE_CONFIGURE_INPUTS:
+    case FIO2070_TYPE_WATCHDOG: return FIELD_BIT(STATUS);
+    case FIO2070_TYPE_STATUS:
+    case FIO2070_TYPE_RAW_INPUTS:
+    case FIO2070_TYPE_FILTERED_INPUTS:
         return if_other(FIELD_BIT(FLAGS), expected.flags, got.flags) |
                if_other(FIELD_BIT(ERRORS), expected.receive_errors * 256u + expected.transmit_errors,
                         got.receive_errors * 256u + got.transmit_errors) |
@@ -105,10 +105,10 @@ static const struct place PLACES[] = {{FIELD_TYPE, "the type", 0, 1, 0},
                                       {FIELD_INPUTS, "the inputs", 1, 8, 0},
                                       {FIELD_NUMBER, "the block number", 1, 1, 0},
                                       {FIELD_COUNT, "the count of entries", 2, 1, 0},
-                                      {FIELD_MORE, "C of the status", -5, 1, FIO2070_MORE},
-                                      {FIELD_LOST, "F of the status", -5, 1, FIO2070_LOST},
-                                      {FIELD_AGAIN, "E of the status", -5, 1, FIO2070_AGAIN},
-                                      {FIELD_SEQUENCE, "G of the status", -5, 1, FIO2070_OUT_OF_SEQUENCE},
+                                      {FIELD_MORE, "C of the status", -5, 1, FIO2070_BIT_MORE},
+                                      {FIELD_LOST, "F of the status", -5, 1, FIO2070_BIT_LOST},
+                                      {FIELD_AGAIN, "E of the status", -5, 1, FIO2070_BIT_AGAIN},
+                                      {FIELD_SEQUENCE, "G of the status", -5, 1, FIO2070_BIT_OUT_OF_SEQUENCE},
                                       {FIELD_UNNAMED, "the bits of the status that have no name", -5, 1, 0},
                                       {FIELD_BLOCK_STAMP, "the stamp of the block", -4, 4, 0}};
 

@@ -114,10 +114,10 @@ static void saw_configuration(struct history *history, const struct view *before
     size_t count = fio2070_command_items(octets, length, items, FIO2070_MOST_ENTRIES), place;
     int is_twice;
     uint64_t named = named_inputs(items, count, &is_twice);
-    conformance_put(rules, status & FIO2070_ERROR ? RULE_ABSENT_INPUT : RULE_ITEMS_APPLY);
+    conformance_put(rules, status & FIO2070_BIT_ERROR ? RULE_ABSENT_INPUT : RULE_ITEMS_APPLY);
     put_if(rules, RULE_CASE_65_ITEMS, count > 64);
     put_if(rules, RULE_CASE_255_ITEMS, count == 255);
-    if (status & FIO2070_ERROR) return;
+    if (status & FIO2070_BIT_ERROR) return;
     put_if(rules, RULE_ITEM_SETS, count > 0);
     put_if(rules, RULE_LAST_ITEM_HOLDS, is_twice);
     put_if(rules, RULE_SAMPLES_ANEW, (named & (history->levels ^ before->filtered)) != 0);
@@ -137,7 +137,7 @@ static void saw_new_block(struct history *history, const struct view *before, ui
     put_if(rules, RULE_CURRENT_NUMBER, history->was_out_of_sequence && is_next);
     put_if(rules, RULE_BLOCK_SIZE, before->waiting >= 255);
     put_if(rules, RULE_MORE, before->waiting >= 255);
-    put_if(rules, RULE_LOST, status & FIO2070_LOST);
+    put_if(rules, RULE_LOST, status & FIO2070_BIT_LOST);
     put_if(rules, RULE_CASE_256_BLOCKS, history->blocks >= 256);
     history->was_out_of_sequence = history->has_polled && !is_next;
     history->is_changed = 0;
@@ -167,9 +167,9 @@ static void saw_block(struct history *history, const struct view *before, const 
 
 static void saw_status(struct history *history, uint8_t clear, struct rule_set *rules) {
     conformance_put(rules, RULE_ERROR_COUNTS);
-    put_if(rules, RULE_FLAGS_CLEARED, history->is_reset_flag_up ? clear & FIO2070_WAS_RESET : 1);
-    put_if(rules, RULE_FLAGS_AT_START, history->is_reset_flag_up && !(clear & FIO2070_WAS_RESET));
-    if (clear & FIO2070_WAS_RESET) history->is_reset_flag_up = 0;
+    put_if(rules, RULE_FLAGS_CLEARED, history->is_reset_flag_up ? clear & FIO2070_BIT_WAS_RESET : 1);
+    put_if(rules, RULE_FLAGS_AT_START, history->is_reset_flag_up && !(clear & FIO2070_BIT_WAS_RESET));
+    if (clear & FIO2070_BIT_WAS_RESET) history->is_reset_flag_up = 0;
 }
 
 static void saw_load(struct history *history, struct rule_set *rules) {
@@ -195,27 +195,28 @@ void conformance_saw_frame(struct history *history, const struct view *before, c
     struct fio2070_fault fault;
     memset(&command, 0, sizeof command);
     fault = fio2070_decode_command(octets, length, &command);
-    if (fault.kind != FIO2070_NO_FAULT) {
+    if (fault.kind != FIO2070_FAULT_NONE) {
         saw_fault(&fault, length, rules);
         return;
     }
     put_if(rules, RULE_CASE_LONG_COMMAND, length > 256);
     put_if(rules, RULE_ANSWER_TYPE, answer_length > 0);
+    put_if(rules, RULE_FRAME_LENGTH, length > CONFORMANCE_SHORT_FRAME || answer_length > CONFORMANCE_SHORT_FRAME);
     put_if(rules, RULE_COUNTER_AT_START,
-           !history->is_loaded && (command.code == FIO2070_STATUS || command.code == FIO2070_RAW_INPUTS ||
-                                   command.code == FIO2070_FILTERED_INPUTS || command.code == FIO2070_SET_OUTPUTS));
+           !history->is_loaded && (command.code == FIO2070_TYPE_STATUS || command.code == FIO2070_TYPE_RAW_INPUTS ||
+                                   command.code == FIO2070_TYPE_FILTERED_INPUTS || command.code == FIO2070_TYPE_SET_OUTPUTS));
     switch (command.code) {
-    case FIO2070_STATUS: saw_status(history, command.clear, rules); break;
-    case FIO2070_LOAD_COUNTER: saw_load(history, rules); break;
-    case FIO2070_CONFIGURE_INPUTS: saw_configuration(history, before, octets, length, answer[1], rules); break;
-    case FIO2070_RAW_INPUTS:
+    case FIO2070_TYPE_STATUS: saw_status(history, command.clear, rules); break;
+    case FIO2070_TYPE_LOAD_COUNTER: saw_load(history, rules); break;
+    case FIO2070_TYPE_CONFIGURE_INPUTS: saw_configuration(history, before, octets, length, answer[1], rules); break;
+    case FIO2070_TYPE_RAW_INPUTS:
         put_if(rules, RULE_RAW_AT_START, !history->has_scanned); /* and as 53 */
     /* fall through */
-    case FIO2070_FILTERED_INPUTS: conformance_put(rules, RULE_INPUTS_ANSWER); break;
-    case FIO2070_POLL: saw_block(history, before, octets, answer, answer_length, rules); break;
-    case FIO2070_SET_OUTPUTS: saw_outputs(rules); break;
-    case FIO2070_WATCHDOG: saw_watchdog(history, rules); break;
-    case FIO2070_IDENTIFY: conformance_put(rules, RULE_IDENTIFICATION); break;
+    case FIO2070_TYPE_FILTERED_INPUTS: conformance_put(rules, RULE_INPUTS_ANSWER); break;
+    case FIO2070_TYPE_POLL: saw_block(history, before, octets, answer, answer_length, rules); break;
+    case FIO2070_TYPE_SET_OUTPUTS: saw_outputs(rules); break;
+    case FIO2070_TYPE_WATCHDOG: saw_watchdog(history, rules); break;
+    case FIO2070_TYPE_IDENTIFY: conformance_put(rules, RULE_IDENTIFICATION); break;
     default: conformance_put(rules, RULE_NO_ANSWER); break;
     }
 }

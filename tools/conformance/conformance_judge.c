@@ -73,18 +73,18 @@ static enum rule first_suspect(const struct suspect *suspects, size_t count, uin
 /* The rule of an answer to a command, where nothing before it is suspect. */
 static enum rule rule_of_command(uint8_t code, uint32_t fields, const struct rule_set *event) {
     switch (code) {
-    case FIO2070_STATUS:
+    case FIO2070_TYPE_STATUS:
         if (fields & FIELD_BIT(ERRORS)) return RULE_ERROR_COUNTS;
         return conformance_has(event, RULE_FLAGS_AT_START) ? RULE_FLAGS_AT_START : RULE_FLAGS_CLEARED;
-    case FIO2070_LOAD_COUNTER: return RULE_LOAD_ANSWER;
-    case FIO2070_CONFIGURE_INPUTS:
+    case FIO2070_TYPE_LOAD_COUNTER: return RULE_LOAD_ANSWER;
+    case FIO2070_TYPE_CONFIGURE_INPUTS:
         return conformance_has(event, RULE_ABSENT_INPUT) ? RULE_ABSENT_INPUT : RULE_ITEMS_APPLY;
-    case FIO2070_RAW_INPUTS: return conformance_has(event, RULE_RAW_AT_START) ? RULE_RAW_AT_START : RULE_INPUTS_ANSWER;
-    case FIO2070_FILTERED_INPUTS: return RULE_INPUTS_ANSWER;
-    case FIO2070_SET_OUTPUTS: return fields & FIELD_BIT(OUTPUTS) ? RULE_OUTPUTS_KEPT : RULE_OUTPUTS_ANSWER;
-    case FIO2070_WATCHDOG: return fields & FIELD_BIT(TIMEOUT) ? RULE_WATCHDOG_TIMEOUT : RULE_WATCHDOG_BEFORE;
-    case FIO2070_IDENTIFY: return RULE_IDENTIFICATION;
-    case FIO2070_POLL: return RULE_NEW_BLOCK;
+    case FIO2070_TYPE_RAW_INPUTS: return conformance_has(event, RULE_RAW_AT_START) ? RULE_RAW_AT_START : RULE_INPUTS_ANSWER;
+    case FIO2070_TYPE_FILTERED_INPUTS: return RULE_INPUTS_ANSWER;
+    case FIO2070_TYPE_SET_OUTPUTS: return fields & FIELD_BIT(OUTPUTS) ? RULE_OUTPUTS_KEPT : RULE_OUTPUTS_ANSWER;
+    case FIO2070_TYPE_WATCHDOG: return fields & FIELD_BIT(TIMEOUT) ? RULE_WATCHDOG_TIMEOUT : RULE_WATCHDOG_BEFORE;
+    case FIO2070_TYPE_IDENTIFY: return RULE_IDENTIFICATION;
+    case FIO2070_TYPE_POLL: return RULE_NEW_BLOCK;
     default: return RULE_NO_ANSWER;
     }
 }
@@ -115,21 +115,25 @@ static void exercised_before(const struct ends *ends, const struct script *scrip
 
 /* A difference at a module. */
 static enum rule judge_module(const struct ends *ends, const struct script *script, const struct difference *both) {
-    uint8_t code = both->command_length > 0 ? both->command[0] : 0;
+    uint8_t code = both->frame_length > 0 ? both->frame[0] : 0;
     struct rule_set exercised;
     enum rule rule;
     int refusal;
     exercised_before(ends, script, &exercised);
     if ((both->fields & ~HIDDEN) == 0 && conformance_has(&exercised, RULE_RESTART)) return RULE_RESTART;
+    if ((both->fields & ~HIDDEN) == 0 && code != FIO2070_TYPE_SET_OUTPUTS && code != FIO2070_TYPE_WATCHDOG) {
+        return both->fields & FIELD_BIT(OUTPUTS) ? RULE_OUTPUTS_KEPT : RULE_WATCHDOG_TIMEOUT;
+    }
     for (refusal = RULE_EMPTY_FRAME; refusal <= RULE_WRONG_LENGTH; refusal++) {
         if (conformance_has(&both->exercised, (enum rule)refusal)) return (enum rule)refusal;
     }
     if (both->fields & FIELD_BIT(TYPE)) return RULE_ANSWER_TYPE;
+    if (both->got_length == 0 && conformance_has(&both->exercised, RULE_FRAME_LENGTH)) return RULE_FRAME_LENGTH;
     if (both->fields & (FIELD_BIT(PRESENCE) | FIELD_BIT(LENGTH))) {
         return rule_of_command(code, both->fields, &both->exercised);
     }
     rule = first_suspect(STRANGERS, sizeof STRANGERS / sizeof STRANGERS[0], both->fields, &exercised);
-    if (rule == RULES && code == FIO2070_POLL) rule = rule_of_block(both->fields, &both->exercised);
+    if (rule == RULES && code == FIO2070_TYPE_POLL) rule = rule_of_block(both->fields, &both->exercised);
     conformance_join(&exercised, &both->exercised);
     if (rule == RULES) rule = first_suspect(STEPS, sizeof STEPS / sizeof STEPS[0], both->fields, &exercised);
     if (rule == RULES && both->fields == FIELD_BIT(BLOCK_STAMP)) rule = RULE_BLOCK_STAMP;
@@ -138,9 +142,34 @@ static enum rule judge_module(const struct ends *ends, const struct script *scri
 
 /* ---- At a CPU's end ---- */
 
+/* Whether the frame was passed over, where a block should have been taken. */
+static int is_left(const struct difference *both) {
+    return both->got_items == 0 && both->expected_number == (uint8_t)(both->got_number + 1);
+}
+
+/* Whether the block is passed over with the status 0 too. */
+static int is_left_with_status_0(const struct ends *ends, const struct script *script, const struct difference *both) {
+    static struct script plain;
+    static struct difference difference;
+    uint8_t octets[CONFORMANCE_LONGEST_FRAME];
+    struct event event;
+    memset(&event, 0, sizeof event);
+    memcpy(octets, both->frame, both->frame_length);
+    octets[both->frame_length - 5] = 0;
+    event.kind = EVENT_HEAR;
+    event.octets = octets;
+    event.length = both->frame_length;
+    conformance_copy(&plain, script);
+    plain.length--;
+    conformance_add(&plain, &event);
+    return conformance_compare(ends, &plain, &difference) == plain.length && is_left(&difference);
+}
+
 static enum rule rule_of_items(const struct difference *both) {
     size_t place = conformance_first_item(both);
     const struct fio2070_record_item *expected = &both->expected_record[place], *got = &both->got_record[place];
+    if (place >= both->expected_items && got->gap) return RULE_GAP_MARK;
+    if (place >= both->got_items && expected->gap && !is_left(both)) return RULE_GAP_MARK;
     if (place < both->expected_items && expected->input > 63 &&
         (place >= both->got_items || expected->input != got->input)) {
         return RULE_HIGH_INPUT;
@@ -151,7 +180,7 @@ static enum rule rule_of_items(const struct difference *both) {
     return conformance_has(&both->exercised, RULE_WIDE_AROUND) ? RULE_WIDE_AROUND : RULE_WIDE_TIME;
 }
 
-static enum rule judge_cpu(const struct difference *both) {
+static enum rule judge_cpu(const struct ends *ends, const struct script *script, const struct difference *both) {
     static const enum rule heard[] = {RULE_UNREADABLE, RULE_OTHER_ANSWER, RULE_TAKEN_ONCE, RULE_STALE};
     size_t row;
     if (both->fields & FIELD_BIT(POLL)) {
@@ -160,16 +189,16 @@ static enum rule judge_cpu(const struct difference *both) {
     for (row = 0; row < sizeof heard / sizeof heard[0]; row++) {
         if (conformance_has(&both->exercised, heard[row])) return heard[row];
     }
-    if (both->got_items == 0 && both->expected_items > 0 && conformance_has(&both->exercised, RULE_UNNAMED_BITS)) {
-        return RULE_UNNAMED_BITS;
-    }
+    if (is_left(both) && conformance_has(&both->exercised, RULE_UNNAMED_BITS)) return RULE_UNNAMED_BITS;
+    if (is_left(both) && !is_left_with_status_0(ends, script, both)) return RULE_TAKEN_WHOLE;
+    if (is_left(both) && conformance_has(&both->exercised, RULE_BLOCK_LENGTH)) return RULE_BLOCK_LENGTH;
     if (both->fields & (FIELD_BIT(ITEMS) | FIELD_BIT(GAP) | FIELD_BIT(ITEM) | FIELD_BIT(WIDE))) {
         return rule_of_items(both);
     }
     if (conformance_has(&both->exercised, RULE_NUMBER_AROUND)) return RULE_NUMBER_AROUND;
-    return conformance_has(&both->exercised, RULE_EMPTY_BLOCK) ? RULE_EMPTY_BLOCK : RULE_NUMBER_RISES;
+    return is_left(both) && conformance_has(&both->exercised, RULE_EMPTY_BLOCK) ? RULE_EMPTY_BLOCK : RULE_NUMBER_RISES;
 }
 
 enum rule conformance_judge(const struct ends *ends, const struct script *script, const struct difference *difference) {
-    return ends->module != NULL ? judge_module(ends, script, difference) : judge_cpu(difference);
+    return ends->module != NULL ? judge_module(ends, script, difference) : judge_cpu(ends, script, difference);
 }

@@ -24,6 +24,11 @@ static int has_failed(struct difference *difference, size_t *count, size_t most,
     return difference->has_failed;
 }
 
+static void keep_frame(struct difference *difference, const uint8_t *octets, size_t length) {
+    difference->frame_length = length;
+    if (length > 0) memcpy(difference->frame, octets, length);
+}
+
 /* Keeps the fields in which the ends differ, without those that the rules of the event pass over. Returns whether one
  * is left. */
 static int differs(const struct link *link, struct difference *difference, uint32_t fields) {
@@ -95,8 +100,7 @@ static int compare_answers(struct link *link, const uint8_t *octets, size_t leng
     const struct maker *maker = link->ends.module;
     struct span span = {link->ends.has_own_clock ? conformance_now_ms() : 0, 0};
     uint32_t fields;
-    difference->command_length = length;
-    if (length > 0) memcpy(difference->command, octets, length);
+    keep_frame(difference, octets, length);
     if (has_failed(difference, &difference->got_length, FIO2070_LONGEST_FRAME,
                    maker->exchange(maker->context, octets, length, difference->got))) {
         return 1;
@@ -200,6 +204,7 @@ static int hear(struct link *link, const uint8_t *octets, size_t length, struct 
         return 0;
     }
     log_frame(link, '<', octets, length);
+    keep_frame(difference, octets, length);
     difference->expected_length = difference->got_length = 0;
     difference->heard = heard.kind;
     difference->expected_items = heard.items;

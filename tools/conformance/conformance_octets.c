@@ -49,12 +49,15 @@ static uint8_t random_filter(uint64_t *state) {
     return (uint8_t)(conformance_below(state, 40) == 0 ? conformance_below(state, 256) : conformance_below(state, 4));
 }
 
-/* Filters from 200 on, with those at both ends of the range; a third is short. */
+/* Filters of the whole range, mostly from 200 on, with those at both ends; a third is short. */
 static uint8_t long_filter(uint64_t *state) {
     static const uint8_t ends[] = {255, 255, 254, 253, 252, 200, 201, 202};
     if (conformance_below(state, 3) == 0) return random_filter(state);
-    if (conformance_below(state, 2) == 0) return ends[conformance_below(state, 8)];
-    return (uint8_t)(200 + conformance_below(state, 56));
+    switch (conformance_below(state, 4)) {
+    case 0: return (uint8_t)conformance_below(state, 256);
+    case 1: return (uint8_t)(200 + conformance_below(state, 56));
+    default: return ends[conformance_below(state, 8)];
+    }
 }
 
 static uint8_t filter_of(enum theme theme, uint64_t *state) {
@@ -64,7 +67,7 @@ static uint8_t filter_of(enum theme theme, uint64_t *state) {
 
 size_t conformance_open(uint8_t *octets, enum theme theme, uint64_t *state) {
     unsigned input;
-    octets[0] = FIO2070_CONFIGURE_INPUTS;
+    octets[0] = FIO2070_TYPE_CONFIGURE_INPUTS;
     octets[1] = 64;
     for (input = 0; input < 64; input++) {
         octets[2 + 3 * input] = (uint8_t)input;
@@ -89,7 +92,7 @@ static unsigned random_count(uint64_t *state) {
 size_t conformance_configuration(uint8_t *octets, uint64_t *state) {
     unsigned count = random_count(state), place;
     unsigned bound = conformance_below(state, 8) == 0 ? 128 : 64;
-    octets[0] = FIO2070_CONFIGURE_INPUTS;
+    octets[0] = FIO2070_TYPE_CONFIGURE_INPUTS;
     octets[1] = (uint8_t)count;
     for (place = 0; place < count; place++) {
         unsigned input = count == 64 && bound == 64 ? place : conformance_below(state, bound);
@@ -99,17 +102,18 @@ size_t conformance_configuration(uint8_t *octets, uint64_t *state) {
     }
     /* One absent input, at any place or at the last, is enough to refuse all. */
     if (count > 0 && bound == 128 && conformance_below(state, 2) == 0) {
+        uint8_t *absent = octets + 2 + 3 * (conformance_below(state, 2) == 0 ? count - 1 : conformance_below(state, count));
         for (place = 0; place < count; place++) octets[2 + 3 * place] &= 0xbf;
-        octets[2 + 3 * (conformance_below(state, 2) == 0 ? count - 1 : conformance_below(state, count))] |= 64;
+        *absent = conformance_below(state, 4) == 0 ? 64 : *absent | 64;
     }
     return 2 + 3 * (size_t)count;
 }
 
-/* A load of the counter near the ends of 16 and 32 bits. */
+/* A load of the counter near the ends of 16, 24, 31 and 32 bits. */
 static size_t random_load(uint8_t *octets, uint64_t *state) {
-    static const uint32_t ends[] = {0, 65536, 4294967295u, 16777216};
+    static const uint32_t ends[] = {0, 65536, 4294967295u, 16777216, 2147483648u};
     uint32_t load = conformance_below(state, 8) == 0 ? (uint32_t)conformance_next(state)
-                                                     : ends[conformance_below(state, 4)] - conformance_below(state, 64);
+                                                     : ends[conformance_below(state, 5)] - conformance_below(state, 64);
     return fio2070_encode_load_counter(load, octets, CONFORMANCE_LONGEST_FRAME);
 }
 
@@ -129,7 +133,7 @@ static void fill(uint8_t *octets, size_t length, uint64_t *state) {
 
 /* A command that is a type and a body. */
 static size_t random_body(uint8_t *octets, uint64_t *state) {
-    static const uint8_t types[] = {FIO2070_TRACK_INPUTS, FIO2070_COMPLEX_OUTPUTS, FIO2070_CONTROLLER_ID};
+    static const uint8_t types[] = {FIO2070_TYPE_TRACK_INPUTS, FIO2070_TYPE_COMPLEX_OUTPUTS, FIO2070_TYPE_CONTROLLER_ID};
     size_t length = body_length(state);
     octets[0] = types[conformance_below(state, 3)];
     fill(octets + 1, length, state);

@@ -5,10 +5,13 @@
 
 const struct mix CONFORMANCE_MIX = {100, 30, 10, 40, 80, 20, 30, 2, 250, 60, 40};
 
-/* How many events a script has. */
+/* Now and then no frame comes for so many scans, as while a CPU restarts. */
+enum { LONGEST_SILENCE = 1200 };
+
+/* How many events a script has, but for a silence. */
 static size_t random_length(enum theme theme, uint64_t *state) {
     if (theme == CALM) return 500 + conformance_below(state, 2500);
-    if (theme == STEADY) return 1000 + conformance_below(state, conformance_below(state, 8) == 0 ? 19000 : 3000);
+    if (theme == STEADY) return conformance_below(state, 16) == 0 ? 20000 : 1000 + conformance_below(state, 4000);
     if (conformance_below(state, 16) == 0) return 400 + conformance_below(state, 2000);
     return 20 + conformance_below(state, 380);
 }
@@ -39,7 +42,7 @@ static struct mix mix_of(const struct mix *mix, enum theme theme) {
 }
 
 static size_t write_poll(uint8_t *octets, unsigned number) {
-    octets[0] = FIO2070_POLL;
+    octets[0] = FIO2070_TYPE_POLL;
     octets[1] = (uint8_t)number;
     return 2;
 }
@@ -106,23 +109,48 @@ static void begin(struct script *script, enum theme theme, uint64_t *state) {
     }
 }
 
+static void add_scan(struct script *script, struct course *course, uint64_t *state) {
+    struct event event;
+    memset(&event, 0, sizeof event);
+    event.kind = EVENT_SCAN;
+    event.inputs = conformance_levels(course, state);
+    conformance_add(script, &event);
+}
+
+/* As many entries as a block takes, or one more, where the inputs that move divide that number; then a poll. */
+static void fill_block(struct script *script, struct course *course, uint64_t *state) {
+    uint8_t octets[2];
+    unsigned inputs = 0, scans;
+    uint64_t left;
+    for (left = course->moving; left != 0; left &= left - 1) inputs++;
+    for (scans = (FIO2070_MOST_ENTRIES + 1) / inputs; scans > 0; scans--) add_scan(script, course, state);
+    add_frame(script, octets, write_poll(octets, ++course->number));
+}
+
 void conformance_random(struct script *script, const struct maker *maker, const struct mix *mix, size_t most,
                         uint64_t *state) {
     uint8_t octets[CONFORMANCE_LONGEST_FRAME];
     struct course course;
     struct mix themed;
-    size_t length;
+    size_t length, silence, first;
     course.theme = random_theme(mix, state);
     course.number = conformance_below(state, 256);
     course.levels = ~(uint64_t)0;
     course.moving = conformance_moving(course.theme, state);
     themed = mix_of(mix, course.theme);
     length = random_length(course.theme, state);
+    silence = conformance_below(state, 12) == 0 ? conformance_below(state, LONGEST_SILENCE) : 0;
+    first = conformance_below(state, (unsigned)length);
     script->id = maker->id;
     script->per_block = maker->per_block;
     begin(script, course.theme, state);
-    while (script->length < length && script->length < most) {
+    if (course.theme == OVERFLOWING && conformance_below(state, 2) == 0) fill_block(script, &course, state);
+    while (script->length < length + silence && script->length < most) {
         struct event event;
+        if (script->length >= first && script->length < first + silence) {
+            add_scan(script, &course, state);
+            continue;
+        }
         memset(&event, 0, sizeof event);
         event.octets = octets;
         random_event(&event, octets, &themed, &course, state);

@@ -52,6 +52,7 @@ enum field {
 #define CONFORMANCE_RULES(RULE) \
     RULE(AT_MODULE, ANSWER_TYPE, "answer-type", TEES, 0, "Frames", \
          "The type of an answer is the type of its command plus 128.") \
+    RULE(AT_MODULE, FRAME_LENGTH, "frame-length", OWN, 0, "Frames", "A frame holds 1 to 773 octets.") \
     RULE(AT_MODULE, EMPTY_FRAME, "empty-frame", OWN, 0, "Refusals", "there is no octet") \
     RULE(AT_MODULE, FRAME_TOO_LONG, "frame-too-long", OWN, 0, "Refusals", "there are more than 773 octets") \
     RULE(AT_MODULE, UNKNOWN_TYPE, "unknown-type", OWN, 0, "Refusals", "the first octet is no type of that direction") \
@@ -130,7 +131,7 @@ enum field {
     RULE(AT_MODULE, FLAGS_CLEARED, "flags-cleared", OWN, FIELD_BIT(FLAGS), "Other commands", \
          "the flags whose bits are one are cleared, then 177 carries those that are left.") \
     RULE(AT_MODULE, ERROR_COUNTS, "error-counts", OWN, FIELD_BIT(ERRORS), "Other commands", \
-         "Both error counts are 0.") \
+         "Both error counts are 0 unless the firmware sets them.") \
     RULE(AT_MODULE, FLAGS_AT_START, "flags-at-start", OWN, FIELD_BIT(FLAGS), "Other commands", \
          "At the start the flags are P alone.") \
     RULE(AT_MODULE, INPUTS_ANSWER, "inputs-answer", TEES, FIELD_BIT(INPUTS), "Other commands", \
@@ -179,6 +180,8 @@ enum field {
     RULE(AT_CPU, OTHER_ANSWER, "other-answer", OWN, 0, "The CPU", "is an answer of another type than 182") \
     RULE(AT_CPU, STALE, "stale", OWN, 0, "The CPU", "is a 182 with another number than the CPU's") \
     RULE(AT_CPU, TAKEN_ONCE, "taken-once", OWN, 0, "The CPU", "So an answer that comes twice is taken once") \
+    RULE(AT_CPU, BLOCK_LENGTH, "block-length", OWN, 0, "Frames", \
+         "773 is the length of a block answer with 255 entries.") \
     RULE(AT_CPU, TAKEN_WHOLE, "taken-whole", OWN, FIELD_BIT(ITEMS), "The CPU", \
          "the block is taken whole, and the number rises") \
     RULE(AT_CPU, EMPTY_BLOCK, "empty-block", OWN, 0, "The CPU", \
@@ -214,6 +217,9 @@ struct rule_row {
 };
 
 extern const struct rule_row CONFORMANCE_RULE_ROWS[RULES];
+
+/* A good frame with more octets than a configuration of each input once exercises the rules of the lengths of frames. */
+enum { CONFORMANCE_SHORT_FRAME = 2 + 3 * 64 };
 
 struct rule_set {
     uint64_t words[2];

@@ -8,6 +8,9 @@
 /* After so many events of trials a script is short enough. */
 enum { MOST_TRIED = 20000000 };
 
+/* A script of so many events is worth another look. */
+enum { LONG = 40 };
+
 /* A script that is shrunk, and the one that is tried in its place. */
 struct shrinking {
     const struct ends *ends;
@@ -136,8 +139,8 @@ static void set_octets(size_t place, const uint8_t *octets, size_t length) {
 /* Where the count stands in the octets of an event: the items of a configuration, or the entries of a block, follow it.
  * 0 where there is none. */
 static size_t count_place(const struct event *event) {
-    if (event->length > 1 && event->kind != EVENT_HEAR && event->octets[0] == FIO2070_CONFIGURE_INPUTS) return 1;
-    if (event->length > 2 && event->octets[0] == FIO2070_POLL + FIO2070_ANSWER) return 2;
+    if (event->length > 1 && event->kind != EVENT_HEAR && event->octets[0] == FIO2070_TYPE_CONFIGURE_INPUTS) return 1;
+    if (event->length > 2 && event->octets[0] == FIO2070_TYPE_POLL + FIO2070_TYPE_ANSWER) return 2;
     return 0;
 }
 
@@ -183,14 +186,19 @@ static int try_octet(struct shrinking *shrinking, size_t place, size_t octet, ui
 /* Makes an octet of a frame as small as it may be, but no smaller than this. */
 static void lower_octet(struct shrinking *shrinking, size_t place, size_t octet, uint8_t low) {
     const struct script *script = shrinking->script;
+    uint8_t bit;
     if (script->events[place].octets[octet] == low || try_octet(shrinking, place, octet, low)) return;
+    for (bit = 128; bit > 0 && place < script->length; bit /= 2) {
+        uint8_t clear = script->events[place].octets[octet] & (uint8_t)~bit;
+        if (clear >= low && clear != script->events[place].octets[octet]) try_octet(shrinking, place, octet, clear);
+    }
     while (place < script->length && script->events[place].octets[octet] > low + 1) {
         uint8_t middle = (uint8_t)(low + (script->events[place].octets[octet] - low) / 2);
         if (!try_octet(shrinking, place, octet, middle)) low = middle;
     }
 }
 
-/* Filters of 1, where they are enough, and inputs that are reported; of one item the lowest input. */
+/* Filters of 1, where they are enough, and inputs that are there and reported; of one item the lowest input. */
 static void lower_items(struct shrinking *shrinking, size_t place) {
     const struct script *script = shrinking->script;
     size_t octet, count = script->events[place].octets[1];
@@ -200,17 +208,20 @@ static void lower_items(struct shrinking *shrinking, size_t place) {
             lower_octet(shrinking, place, octet, 1);
         } else if (count == 1) {
             lower_octet(shrinking, place, octet, 0);
-        } else if (item > 127) {
-            try_octet(shrinking, place, octet, item & 127);
+        } else {
+            if (item & 64) try_octet(shrinking, place, octet, item & 191);
+            if (item & 128 && place < script->length) {
+                try_octet(shrinking, place, octet, script->events[place].octets[octet] & 127);
+            }
         }
     }
 }
 
 /* Loads the last number, so that fewer scans go round. */
 static void raise_load(struct shrinking *shrinking, size_t place) {
-    static const uint8_t last[] = {FIO2070_LOAD_COUNTER, 255, 255, 255, 255};
+    static const uint8_t last[] = {FIO2070_TYPE_LOAD_COUNTER, 255, 255, 255, 255};
     const struct event *event = &shrinking->script->events[place];
-    if (event->length != sizeof last || event->octets[0] != FIO2070_LOAD_COUNTER) return;
+    if (event->length != sizeof last || event->octets[0] != FIO2070_TYPE_LOAD_COUNTER) return;
     begin_trial(shrinking);
     set_octets(place, last, sizeof last);
     take_trial(shrinking);
@@ -242,9 +253,9 @@ static void shift_numbers(struct shrinking *shrinking, uint8_t shift) {
     begin_trial(shrinking);
     for (place = 0; place < trial.length; place++) {
         const struct event *event = &trial.events[place];
-        int is_poll = event->kind == EVENT_FRAME && event->length == 2 && event->octets[0] == FIO2070_POLL;
+        int is_poll = event->kind == EVENT_FRAME && event->length == 2 && event->octets[0] == FIO2070_TYPE_POLL;
         int is_block =
-            event->kind == EVENT_HEAR && event->length > 1 && event->octets[0] == FIO2070_POLL + FIO2070_ANSWER;
+            event->kind == EVENT_HEAR && event->length > 1 && event->octets[0] == FIO2070_TYPE_POLL + FIO2070_TYPE_ANSWER;
         if (!is_poll && !is_block) continue;
         memcpy(octets, event->octets, event->length);
         octets[1] = (uint8_t)(octets[1] - shift);
@@ -260,7 +271,7 @@ static uint8_t first_number(const struct shrinking *shrinking) {
     if (shrinking->ends->cpu != NULL) return script->number;
     for (place = 0; place < script->length; place++) {
         const struct event *event = &script->events[place];
-        if (event->kind == EVENT_FRAME && event->length == 2 && event->octets[0] == FIO2070_POLL) {
+        if (event->kind == EVENT_FRAME && event->length == 2 && event->octets[0] == FIO2070_TYPE_POLL) {
             return event->octets[1];
         }
     }
@@ -288,4 +299,9 @@ void conformance_shrink(const struct ends *ends, struct fresh *fresh, struct scr
         if (has_octets(&script->events[place])) lower_frame(&shrinking, place);
     }
     drop_events(&shrinking);
+    if (script->length < LONG) return;
+    /* With filters of 1 each scan may change all inputs. */
+    while (change_all_inputs(&shrinking) && drop_events(&shrinking)) {
+    }
+    calm_scans(&shrinking);
 }

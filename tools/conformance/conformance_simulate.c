@@ -20,7 +20,7 @@ static void add(struct growth *growth, enum event_kind kind, const struct event 
 }
 
 static int is_poll(const struct event *event) {
-    return event->kind == EVENT_FRAME && event->length == 2 && event->octets[0] == FIO2070_POLL;
+    return event->kind == EVENT_FRAME && event->length == 2 && event->octets[0] == FIO2070_TYPE_POLL;
 }
 
 /* The number of the first poll that comes to the module from this event on; `other` where there is none. */
@@ -43,7 +43,7 @@ static void add_frame(struct growth *growth, const struct script *script, size_t
         add(growth, EVENT_DELIVER, event);
         if (next_poll(script, place + 1, number) == (uint8_t)(number + 1)) add(growth, EVENT_ANSWER, event);
     } else if (!is_poll(event) &&
-               fio2070_decode_command(event->octets, event->length, &command).kind == FIO2070_NO_FAULT) {
+               fio2070_decode_command(event->octets, event->length, &command).kind == FIO2070_FAULT_NONE) {
         add(growth, EVENT_COMMAND, event);
         add(growth, EVENT_DELIVER, event);
     } else {

@@ -6,17 +6,16 @@
 
 enum { WINDOWS = 4 };
 
-/* An argument of a call. */
+/* The stack of a call, or an argument: the low half of the first octet's address, how many octets there are, and how many
+ * of them may be written. */
 struct window {
     uint8_t *octets;
-    uint32_t length;
-    uint8_t is_mutable;
+    uint32_t first, length, writable;
 };
 
-#define MACHINE_FIELDS                \
-    uint8_t *stack;                   \
-    uint32_t stack_size, window_count; \
-    struct window windows[WINDOWS];
+#define MACHINE_FIELDS             \
+    uint32_t count;                \
+    struct window windows[WINDOWS + 1];
 
 @TRANSLATED@
 
@@ -25,18 +24,24 @@ struct window {
     struct machine machine;                      \
     uint8_t stack[STACK_##call + 16];            \
     machine_globals(&machine);                   \
-    machine.stack = stack;                       \
-    machine.stack_size = sizeof stack - 16;      \
-    machine.window_count = 0
+    begin(&machine, stack, sizeof stack - 16)
+
+static void begin(struct machine *m, uint8_t *stack, uint32_t size) {
+    m->windows[0].octets = stack;
+    m->windows[0].first = STACK_TOP - size;
+    m->windows[0].length = m->windows[0].writable = size;
+    m->count = 0;
+}
 
 /* Gives the machine an argument, and returns its address there. */
 static uint64_t window(struct machine *m, const void *octets, size_t length, uint8_t is_mutable) {
-    struct window *it = &m->windows[m->window_count++];
+    struct window *it = &m->windows[++m->count];
     if (sizeof(size_t) > 4 && length > 0xFFFFFFFFu) length = 0xFFFFFFFFu;
     it->octets = (uint8_t *)(uintptr_t)octets;
+    it->first = 0;
     it->length = (uint32_t)length;
-    it->is_mutable = is_mutable;
-    return (uint64_t)m->window_count << 32;
+    it->writable = is_mutable ? it->length : 0;
+    return (uint64_t)m->count << 32;
 }
 #define READS(octets, length) window(&machine, octets, length, 0)
 #define WRITES(octets, length) window(&machine, octets, length, 1)
@@ -50,6 +55,7 @@ static void put64(uint8_t *p, uint64_t v) { put32(p, (uint32_t)v); put32(p + 4, 
 
 /* What the library alone writes is the same octets everywhere; see fio2070.h. */
 #define SAME(name, is, expected) typedef char name[(is) == (expected) ? 1 : -1]
+SAME(size_of_content_checker, sizeof(struct fio2070_content_checker), 1168);
 SAME(size_of_counter, sizeof(struct fio2070_counter), 12);
 SAME(size_of_filters, sizeof(struct fio2070_filters), 216);
 SAME(size_of_module, sizeof(struct fio2070_module), 4112);
@@ -57,6 +63,7 @@ SAME(size_of_outputs, sizeof(struct fio2070_outputs), 16);
 SAME(size_of_item, sizeof(struct fio2070_configuration_item), 4);
 SAME(size_of_entry, sizeof(struct fio2070_entry), 4);
 SAME(size_of_poller, sizeof(struct fio2070_poller), 1);
+SAME(size_of_record_item, sizeof(struct fio2070_record_item), 12);
 
 static struct fio2070_fault fault_in(const uint8_t *p) {
     struct fio2070_fault fault;
@@ -89,6 +96,11 @@ size_t fio2070_show(const uint8_t *octets, size_t length, uint8_t *text, size_t 
     }
 }
 
+size_t fio2070_show_length(const uint8_t *octets, size_t length) {
+    MACHINE(fio2070_show_length);
+    return (size_t)call_fio2070_show_length(&machine, READS(octets, length), length);
+}
+
 uint32_t fio2070_version(void) {
     MACHINE(fio2070_version);
     return call_fio2070_version(&machine);
@@ -103,7 +115,7 @@ struct fio2070_fault fio2070_read_block(const uint8_t *octets, size_t length, st
         uint64_t a = WRITES(fault, 16), b = READS(octets, length), c = WRITES(into, 8);
         call_fio2070_read_block(&machine, a, b, length, c);
     }
-    if (fault[0] == FIO2070_NO_FAULT) {
+    if (fault[0] == FIO2070_FAULT_NONE) {
         memset(header, 0, sizeof *header);
         header->number = into[0];
         header->status = into[1];
@@ -126,7 +138,7 @@ size_t fio2070_block_entries(const uint8_t *octets, size_t length, struct fio207
         uint64_t a = READS(octets, length), b = WRITES(entries, room * sizeof *entries);
         count = (size_t)call_fio2070_block_entries(&machine, a, length, b, room);
     }
-    if (count <= room) settle_entries(entries, count);
+    settle_entries(entries, count);
     return count;
 }
 
@@ -144,7 +156,7 @@ struct fio2070_fault fio2070_decode_command(const uint8_t *octets, size_t length
         uint64_t a = WRITES(fault, 16), b = READS(octets, length), c = WRITES(into, 28);
         call_fio2070_decode_command(&machine, a, b, length, c);
     }
-    if (fault[0] == FIO2070_NO_FAULT) {
+    if (fault[0] == FIO2070_FAULT_NONE) {
         memset(command, 0, sizeof *command);
         command->code = into[0];
         command->clear = into[1];
@@ -173,7 +185,7 @@ struct fio2070_fault fio2070_decode_answer(const uint8_t *octets, size_t length,
         uint64_t a = WRITES(fault, 16), b = READS(octets, length), c = WRITES(into, 24);
         call_fio2070_decode_answer(&machine, a, b, length, c);
     }
-    if (fault[0] == FIO2070_NO_FAULT) {
+    if (fault[0] == FIO2070_FAULT_NONE) {
         memset(answer, 0, sizeof *answer);
         answer->code = into[0];
         answer->flags = into[1];
@@ -248,6 +260,27 @@ size_t fio2070_encode_block_answer(uint8_t block, const struct fio2070_entry *en
     return (size_t)call_fio2070_encode_block_answer(&machine, block, from, count, status, stamp, to, room);
 }
 
+/* Calls that say how long a message would be. */
+size_t fio2070_encode_configure_inputs_length(const struct fio2070_configuration_item *items, size_t count) {
+    MACHINE(fio2070_encode_configure_inputs_length);
+    return (size_t)call_fio2070_encode_configure_inputs_length(&machine, READS(items, count * sizeof *items), count);
+}
+
+size_t fio2070_encode_block_answer_length(const struct fio2070_entry *entries, size_t count) {
+    MACHINE(fio2070_encode_block_answer_length);
+    return (size_t)call_fio2070_encode_block_answer_length(&machine, READS(entries, count * sizeof *entries), count);
+}
+
+size_t fio2070_encode_other_command_length(uint8_t code, size_t length) {
+    MACHINE(fio2070_encode_other_command_length);
+    return (size_t)call_fio2070_encode_other_command_length(&machine, code, length);
+}
+
+size_t fio2070_encode_other_answer_length(uint8_t code, size_t length) {
+    MACHINE(fio2070_encode_other_answer_length);
+    return (size_t)call_fio2070_encode_other_answer_length(&machine, code, length);
+}
+
 /* ---- The CPU's end ---- */
 
 struct fio2070_heard fio2070_poller_hear(struct fio2070_poller *poller, const uint8_t *octets, size_t length,
@@ -255,15 +288,10 @@ struct fio2070_heard fio2070_poller_hear(struct fio2070_poller *poller, const ui
     uint8_t into[24] = {0};
     struct fio2070_heard heard;
     size_t place;
-    /* Where the ABI packs items more tightly, as m68k's does, they are not written in place. */
-    enum { IS_SAME = sizeof(struct fio2070_record_item) == 12 };
-    uint8_t apart[IS_SAME ? 1 : 12 * FIO2070_MOST_RECORD_ITEMS];
-    const uint8_t *from = IS_SAME ? (const uint8_t *)items : apart;
     MACHINE(fio2070_poller_hear);
-    if (!IS_SAME && room > FIO2070_MOST_RECORD_ITEMS) room = FIO2070_MOST_RECORD_ITEMS;
     {
         uint64_t a = WRITES(into, 24), b = WRITES(poller, 1), c = READS(octets, length),
-                 d = WRITES(from, room * 12);
+                 d = WRITES(items, room * sizeof *items);
         call_fio2070_poller_hear(&machine, a, b, c, length, d, room);
     }
     memset(&heard, 0, sizeof heard);
@@ -274,16 +302,10 @@ struct fio2070_heard fio2070_poller_hear(struct fio2070_poller *poller, const ui
     heard.entries = into[4];
     heard.items = get16(into + 6);
     heard.fault = fault_in(into + 8);
-    for (place = 0; heard.kind == FIO2070_TAKEN && place < heard.items; place++) {
+    for (place = 0; heard.kind == FIO2070_HEARD_TAKEN && place < heard.items; place++) {
         struct fio2070_record_item *it = &items[place];
-        const uint8_t *octets_of_it = from + 12 * place;
-        uint16_t stamp = get16(octets_of_it + 6);
-        uint32_t wide = get32(octets_of_it + 8);
-        it->gap = octets_of_it[0];
-        it->input = octets_of_it[1];
-        it->state = octets_of_it[2];
-        it->stamp = stamp;
-        it->wide = wide;
+        it->stamp = get16((const uint8_t *)&it->stamp);
+        it->wide = get32((const uint8_t *)&it->wide);
     }
     return heard;
 }
@@ -316,6 +338,13 @@ OVER(checker, heard, 1, uint8_t, return (uint8_t),
      READS(octets, length), length, WRITES(breach, sizeof *breach))
 /* So far. */
 
+OVER(content, start, 1, void, , (struct fio2070_content_checker * content), it)
+OVER(content, sent, 1, void, , (struct fio2070_content_checker * content, const uint8_t *octets, size_t length), it,
+     READS(octets, length), length)
+OVER(content, heard, 1, uint8_t, return (uint8_t),
+     (struct fio2070_content_checker * content, const uint8_t *octets, size_t length, struct fio2070_content_breach *breach),
+     it, READS(octets, length), length, WRITES(breach, sizeof *breach))
+
 OVER(filters, start, 1, void, , (struct fio2070_filters * filters), it)
 OVER(filters, scan, 1, uint64_t, return, (struct fio2070_filters * filters, uint64_t raw), it, raw)
 OVER(filters, filtered, 0, uint64_t, return, (const struct fio2070_filters *filters), it)
@@ -342,6 +371,10 @@ OVER(module, restart, 1, void, , (struct fio2070_module * module), it)
 OVER(module, scan, 1, void, , (struct fio2070_module * module, uint64_t raw), it, raw)
 OVER(module, line_sync, 1, void, , (struct fio2070_module * module), it)
 OVER(module, raise, 1, void, , (struct fio2070_module * module, uint8_t mask), it, mask)
+OVER(module, set_errors, 1, void, , (struct fio2070_module * module, uint8_t receive, uint8_t transmit), it, receive,
+     transmit)
+OVER(module, flags, 0, uint8_t, return (uint8_t), (const struct fio2070_module *module), it)
+OVER(module, raw, 0, uint64_t, return, (const struct fio2070_module *module), it)
 OVER(module, watchdog_ms, 0, uint8_t, return (uint8_t), (const struct fio2070_module *module), it)
 OVER(module, counter, 0, uint32_t, return, (const struct fio2070_module *module), it)
 OVER(module, filtered, 0, uint64_t, return, (const struct fio2070_module *module), it)
@@ -355,6 +388,16 @@ struct fio2070_outputs fio2070_module_outputs(const struct fio2070_module *modul
         call_fio2070_module_outputs(&machine, a, b);
     }
     return outputs;
+}
+
+struct fio2070_error_counts fio2070_module_errors(const struct fio2070_module *module) {
+    struct fio2070_error_counts errors = {0, 0};
+    MACHINE(fio2070_module_errors);
+    {
+        uint64_t a = WRITES(&errors, sizeof errors), b = READS(module, sizeof *module);
+        call_fio2070_module_errors(&machine, a, b);
+    }
+    return errors;
 }
 
 size_t fio2070_module_receive(struct fio2070_module *module, const uint8_t *octets, size_t length,

@@ -1,11 +1,13 @@
 """A function of the module as a function of C. The entries of WebAssembly's stack are variables, named for their height
-and width: `i3` has 32 bits, `j3` has 64. Locals are v0, v1, ..; blocks end in labels."""
+and width: `i3` has 32 bits, `j3` has 64. Locals are v0, v1, ..; blocks end in labels; p1, p2, .. lead to octets that were
+tested."""
 
+from accesses import NOTHING, Accesses, Place
+from ahead import assigned_in, skip
 from instructions import I32, I64, LETTER, LOADS, NUMERIC, STORES, TYPES
-from module import Octets, Refused
+from module import Refused
 
-# Instructions with one number behind them, which code that cannot be reached is passed over by.
-ONE_NUMBER = (0x0C, 0x0D, 0x10, 0x20, 0x21, 0x22, 0x23, 0x24)
+ADD_64, SUBTRACT_64 = 0x7C, 0x7D
 
 
 class Function:
@@ -17,7 +19,12 @@ class Function:
         self.locals = list(self.takes)
         self.lines, self.stack, self.variables = [], [], {}
         self.blocks, self.labels, self.used = [], 0, set()
-        self.frame, self.calls, self.before = 0, set(), []
+        self.frame, self.calls = 0, set()
+        self.accesses = Accesses()
+        # What is known of the numbers in the locals, and of the stack pointer as long as nothing changes it.
+        self.places = [self.accesses.fresh() for _ in self.takes]
+        self.stack_pointer, self.is_moved = self.accesses.fresh(), False
+        self.frame_test = None
         self.read(module.codes[index])
 
     def say(self, text):
@@ -25,19 +32,22 @@ class Function:
 
     # ---- The stack ----
 
-    def push(self, kind, text):
+    def push(self, kind, text, place=None):
         name = '%s%d' % (LETTER[kind], len(self.stack))
         self.variables[name] = kind
-        self.stack.append((kind, name))
+        self.stack.append((kind, name, place or self.accesses.fresh()))
         self.say('%s = %s;' % (name, text))
 
-    def pop(self, kind=None):
+    def pop_entry(self, kind=None):
         if len(self.stack) <= self.blocks[-1]['height']:
             raise Refused('an empty stack in function %d' % self.index)
-        have, name = self.stack.pop()
+        have, name, place = self.stack.pop()
         if kind not in (None, have):
             raise Refused('a wrong type in function %d' % self.index)
-        return name
+        return name, place
+
+    def pop(self, kind=None):
+        return self.pop_entry(kind)[0]
 
     def pops(self, kinds):
         return [self.pop(kind) for kind in reversed(kinds)][::-1]
@@ -46,9 +56,20 @@ class Function:
 
     def begin(self, kind, results):
         self.labels += 1
-        self.blocks.append({'kind': kind, 'results': results, 'height': len(self.stack), 'label': self.labels})
+        self.blocks.append({'kind': kind, 'results': results, 'height': len(self.stack), 'label': self.labels,
+                            'assigned': set(), 'places': list(self.places)})
+
+    def settle(self):
+        """What follows is not always done after what stands here."""
+        self.accesses.settle(self.lines)
+
+    def forget(self, assigned):
+        """These locals may have other numbers than those known."""
+        for index in assigned:
+            self.places[index] = self.accesses.fresh()
 
     def branch(self, depth):
+        self.settle()
         block = self.blocks[-1 - depth]
         if block['kind'] != 'loop':
             self.move(block)
@@ -80,21 +101,32 @@ class Function:
 
     def end_block(self, reachable):
         block = self.blocks[-1]
+        is_joined = block['kind'] in ('if', 'else') or block['kind'] != 'loop' and block['label'] in self.used
+        if is_joined or block['kind'] == 'function':
+            self.settle()
         if reachable:
             self.move(block)
         if block['kind'] == 'function' and (reachable or not self.lines or not self.lines[-1].startswith('return')):
             self.say('return%s;' % (' r' if self.gives else ''))
         del self.stack[block['height']:]
+        self.accesses.leave(len(self.blocks), is_joined)
         self.blocks.pop()
+        if self.blocks:
+            self.blocks[-1]['assigned'] |= block['assigned']
+        if is_joined:
+            self.forget(block['assigned'])
         if block['kind'] == 'if':
             self.say('e%d:;' % block['label'])
         if block['kind'] in ('block', 'if', 'else') and block['label'] in self.used:
             self.say('l%d:;' % block['label'])
         for place, kind in enumerate(block['results']):
-            self.stack.append((kind, '%s%d' % (LETTER[kind], block['height'] + place)))
+            self.stack.append((kind, '%s%d' % (LETTER[kind], block['height'] + place), self.accesses.fresh()))
 
     def begin_else(self, reachable):
         block = self.blocks[-1]
+        self.settle()
+        self.accesses.leave(len(self.blocks), True)
+        self.places = list(block['places'])
         if reachable:
             self.move(block)
         self.used.add(block['label'])
@@ -111,11 +143,11 @@ class Function:
             if kind not in TYPES:
                 raise Refused('a local that is no integer in function %d' % self.index)
             self.locals += [kind] * count
+            self.places += [Place(NOTHING, 0)] * count
         self.begin('function', self.gives)
         reachable = True
         while self.blocks:
             op = it.octet()
-            self.note_frame(op, it)
             if op == 0x0B:
                 self.end_block(reachable)
                 reachable = True
@@ -125,52 +157,16 @@ class Function:
             else:
                 reachable = self.step(op, it)
                 if not reachable:
-                    self.skip(it)
+                    skip(it)
         if it.place != it.end:
             raise Refused('octets behind function %d' % self.index)
-
-    def note_frame(self, op, it):
-        """A function's frame: the number that is taken from the stack pointer before it is used."""
-        value = Octets(it.octets, it.place).number(signed=True) if op in (0x42, 0x23, 0x24) else None
-        self.before = (self.before + [(op, value)])[-3:]
-        if [o for o, _ in self.before] == [0x23, 0x42, 0x7D] and self.before[0][1] == 0:
-            self.frame = max(self.frame, self.before[1][1])
-
-    def skip(self, it):
-        """Passes over code that cannot be reached, up to the else or end of its block."""
-        depth = 0
-        while True:
-            start = it.place
-            op = it.octet()
-            if op in (0x02, 0x03, 0x04):
-                it.number(signed=True)
-                depth += 1
-            elif op == 0x0B or (op == 0x05 and depth == 0):
-                if depth == 0:
-                    it.place = start
-                    return
-                depth -= 1
-            else:
-                self.pass_over(it, op)
-
-    def pass_over(self, it, op):
-        if op in ONE_NUMBER:
-            it.number()
-        elif op in (0x41, 0x42):
-            it.number(signed=True)
-        elif op in LOADS or op in STORES:
-            it.number(), it.number()
-        elif op == 0x0E:
-            for _ in range(it.number() + 1):
-                it.number()
-        elif op == 0xFC:
-            for _ in range({10: 2, 11: 1}[it.number()]):
-                it.number()
 
     # ---- Instructions ----
 
     def step(self, op, it):
         """Translates an instruction. Returns whether the next one can be reached."""
+        if op in (ADD_64, SUBTRACT_64):
+            return self.sum(op)
         if op in NUMERIC:
             text, kinds, result = NUMERIC[op]
             self.push(result, text.format(*self.pops(kinds)))
@@ -183,10 +179,31 @@ class Function:
             raise Refused('instruction 0x%02x in function %d' % (op, self.index))
         return STEPS[op](self, op, it) is not False
 
+    def sum(self, op):
+        """A sum or a difference of 64 bits, of which more is known than that it is a number. What is taken from the stack
+        pointer is the size of the function's frame."""
+        (second, other), (first, one) = self.pop_entry(I64), self.pop_entry(I64)
+        place = None
+        if op == ADD_64:
+            place = self.accesses.sum_of(one, other)
+        elif other.base == NOTHING:
+            place = self.accesses.sum_of(one, Place(NOTHING, -other.distance))
+        self.push(I64, NUMERIC[op][0].format(first, second), place)
+        if op == SUBTRACT_64 and one == self.stack_pointer and other.base == NOTHING:
+            self.frame = max(self.frame, other.distance)
+            pointer = self.accesses.frame(place, other.distance, len(self.blocks))
+            self.frame_test = len(self.lines)
+            self.say('%s = write_at(%s, m, %du);' % (pointer, self.stack[-1][1], other.distance))
+        return True
+
+    def access(self, address, place, size, offset, writes):
+        """The mark of a pointer to these octets, which the next line has."""
+        return self.accesses.add(len(self.lines), address, place, size, writes, len(self.blocks), offset)
+
     def load(self, size, sign, kind, it):
         it.number()
-        offset = it.number()
-        text = 'load%d(m, %s, %du)' % (8 * size, self.pop(I64), offset)
+        offset, (address, place) = it.number(), self.pop_entry(I64)
+        text = 'load%d(%s)' % (8 * size, self.access(address, place, size, offset, False))
         if sign:
             text = '(%s)extend(%s, %d)' % (TYPES[kind], text, sign)
         self.push(kind, text)
@@ -194,11 +211,12 @@ class Function:
 
     def store(self, size, kind, it):
         it.number()
-        offset, value = it.number(), self.pop(kind)
-        self.say('store%d(m, %s, %du, %s);' % (8 * size, self.pop(I64), offset, value))
+        offset, value, (address, place) = it.number(), self.pop(kind), self.pop_entry(I64)
+        self.say('store%d(%s, %s);' % (8 * size, self.access(address, place, size, offset, True), value))
         return True
 
     def trap(self, op, it):
+        self.settle()
         self.say('trap();')
         return False
 
@@ -207,11 +225,13 @@ class Function:
 
     def loop(self, op, it):
         self.begin('loop', self.block_type(it))
+        self.forget(assigned_in(it))
         self.say('l%d:;' % self.labels)
 
     def condition(self, op, it):
         results = self.block_type(it)
         condition = self.pop(I32)
+        self.settle()
         self.begin('if', results)
         self.say('if (!%s) goto e%d;' % (condition, self.labels))
 
@@ -260,21 +280,27 @@ class Function:
 
     def get_local(self, op, it):
         index = it.number()
-        self.push(self.locals[index], 'v%d' % index)
+        self.push(self.locals[index], 'v%d' % index, self.places[index])
 
     def set_local(self, op, it):
         index = it.number()
-        self.say('v%d = %s;' % (index, self.pop(self.locals[index])))
+        name, self.places[index] = self.pop_entry(self.locals[index])
+        self.blocks[-1]['assigned'].add(index)
+        self.say('v%d = %s;' % (index, name))
 
     def tee_local(self, op, it):
-        self.say('v%d = %s;' % (it.number(), self.stack[-1][1]))
+        index, (_, name, self.places[index]) = it.number(), self.stack[-1]
+        self.blocks[-1]['assigned'].add(index)
+        self.say('v%d = %s;' % (index, name))
 
     def get_global(self, op, it):
         index = it.number()
-        self.push(self.module.globals[index][0], 'm->g%d' % index)
+        is_same = index == 0 and not (self.is_moved or self.calls or any(it['kind'] == 'loop' for it in self.blocks))
+        self.push(self.module.globals[index][0], 'm->g%d' % index, self.stack_pointer if is_same else None)
 
     def set_global(self, op, it):
         index = it.number()
+        self.is_moved = self.is_moved or index == 0
         self.say('m->g%d = %s;' % (index, self.pop(self.module.globals[index][0])))
 
     def constant(self, op, it):
@@ -282,7 +308,7 @@ class Function:
         if op == 0x41:
             self.push(I32, 'UINT32_C(%d)' % (value & 0xFFFFFFFF))
         else:
-            self.push(I64, 'UINT64_C(%d)' % (value & 0xFFFFFFFFFFFFFFFF))
+            self.push(I64, 'UINT64_C(%d)' % (value & 0xFFFFFFFFFFFFFFFF), Place(NOTHING, value))
 
     def many_octets(self, op, it):
         what = it.number()
@@ -310,6 +336,11 @@ class Function:
         if self.gives:
             lines.append('%s r;' % TYPES[self.gives[0]])
         words = ' '.join(self.lines)
+        for pointer in self.accesses.names():
+            if '(%s + ' % pointer in words:
+                lines.append('uint8_t *%s;' % pointer)
+            else:
+                del self.lines[self.frame_test]
         unused = [name for name in ['m'] + ['v%d' % n for n in range(len(self.locals))] if not uses(words, name)]
         return '\n'.join(lines + ['(void)%s;' % name for name in unused] + self.lines + ['}'])
 

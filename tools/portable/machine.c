@@ -11,9 +11,11 @@
 #if defined(__GNUC__)
 #define HOT static inline __attribute__((always_inline))
 #define COLD __attribute__((noinline, cold, noreturn))
+#define COLD_PLACE __attribute__((noinline, cold))
 #else
 #define HOT static inline
 #define COLD
+#define COLD_PLACE
 #endif
 
 /* The module is proved not to come here. A watchdog finds a call that never returns. */
@@ -26,77 +28,78 @@ COLD static void trap(void) {
     }
 }
 
+/* Accesses below 2^32 are always tested, since constants are told from the stack so. */
 #ifdef FIO2070_UNCHECKED
-#define CHECK(holds) ((void)0)
+#define HOLDS(test) (number > 0 || (test))
 #else
-#define CHECK(holds) do { if (!(holds)) trap(); } while (0)
+#define HOLDS(test) (test)
 #endif
 
-/* With FIO2070_FAST each access has its own copy of `at`: on a Cortex-M4 1.4 times the code, and from a third of the time. */
+/* With FIO2070_FAST each access has its own copy of the test: on a Cortex-M4 1.4 times the code, and from a third of the time. */
 #ifdef FIO2070_FAST
 #define PLACE HOT
 #else
 #define PLACE static
 #endif
 
-/* Where these octets lie. */
-PLACE uint8_t *at(struct machine *m, uint64_t address, uint32_t size, int writes) {
-    uint32_t low = (uint32_t)address, window = (uint32_t)(address >> 32);
-    if (window == 0) {
-        uint32_t place = low - (STACK_TOP - m->stack_size);
-        if (place < m->stack_size && size <= m->stack_size - place) return m->stack + place;
-        place = low - STACK_TOP;
-        if (!writes && place < DATA_LENGTH && size <= DATA_LENGTH - place) return (uint8_t *)(uintptr_t)(data_octets + place);
-        trap();
-    }
-    CHECK(window <= WINDOWS);
-    {
-        const struct window *it = &m->windows[window - 1];
-        CHECK(size <= it->length && low <= it->length - size && (!writes || it->is_mutable));
-        return it->octets + low;
-    }
+/* The read-only data of the module. Anything else that is no argument and not the stack is no place. */
+COLD_PLACE static uint8_t *data_at(uint64_t address, uint32_t size) {
+    uint64_t place = address - STACK_TOP;
+    if (address < STACK_TOP || place > DATA_LENGTH || size > DATA_LENGTH - (uint32_t)place) trap();
+    return (uint8_t *)(uintptr_t)(data_octets + (uint32_t)place);
 }
 
-HOT uint8_t *place_of(struct machine *m, uint64_t address, uint32_t offset, uint32_t size, int writes) {
-    uint64_t whole = address + offset;
-    if (offset != 0) CHECK(whole >= address);
-    return at(m, whole, size, writes);
+/* Where these octets are, which are read. */
+PLACE uint8_t *read_at(uint64_t address, const struct machine *m, uint32_t size) {
+    uint32_t number = (uint32_t)(address >> 32);
+    if (number <= WINDOWS) {
+        const struct window *it = &m->windows[number];
+        uint32_t place = (uint32_t)address - it->first;
+        if (HOLDS(place <= it->length && size <= it->length - place)) return it->octets + place;
+    }
+    return data_at(address, size);
 }
 
-HOT uint32_t load8(struct machine *m, uint64_t address, uint32_t offset) {
-    return *place_of(m, address, offset, 1, 0);
+/* Where these octets are, which are written. */
+PLACE uint8_t *write_at(uint64_t address, const struct machine *m, uint32_t size) {
+    uint32_t number = (uint32_t)(address >> 32);
+    if (number <= WINDOWS) {
+        const struct window *it = &m->windows[number];
+        uint32_t place = (uint32_t)address - it->first;
+        if (HOLDS(place <= it->writable && size <= it->writable - place)) return it->octets + place;
+    }
+    trap();
+    return m->windows[0].octets;
 }
-HOT uint32_t load16(struct machine *m, uint64_t address, uint32_t offset) {
-    const uint8_t *p = place_of(m, address, offset, 2, 0);
+
+HOT uint32_t load8(const uint8_t *p) {
+    return *p;
+}
+HOT uint32_t load16(const uint8_t *p) {
     return p[0] | (uint32_t)p[1] << 8;
 }
-HOT uint32_t load32(struct machine *m, uint64_t address, uint32_t offset) {
-    const uint8_t *p = place_of(m, address, offset, 4, 0);
+HOT uint32_t load32(const uint8_t *p) {
     return p[0] | (uint32_t)p[1] << 8 | (uint32_t)p[2] << 16 | (uint32_t)p[3] << 24;
 }
-HOT uint64_t load64(struct machine *m, uint64_t address, uint32_t offset) {
-    const uint8_t *p = place_of(m, address, offset, 8, 0);
+HOT uint64_t load64(const uint8_t *p) {
     return p[0] | (uint32_t)p[1] << 8 | (uint32_t)p[2] << 16 | (uint32_t)p[3] << 24
         | (uint64_t)(p[4] | (uint32_t)p[5] << 8 | (uint32_t)p[6] << 16 | (uint32_t)p[7] << 24) << 32;
 }
-HOT void store8(struct machine *m, uint64_t address, uint32_t offset, uint64_t value) {
-    *place_of(m, address, offset, 1, 1) = (uint8_t)value;
+HOT void store8(uint8_t *p, uint64_t value) {
+    *p = (uint8_t)value;
 }
-HOT void store16(struct machine *m, uint64_t address, uint32_t offset, uint64_t value) {
-    uint8_t *p = place_of(m, address, offset, 2, 1);
+HOT void store16(uint8_t *p, uint64_t value) {
     p[0] = (uint8_t)value;
     p[1] = (uint8_t)(value >> 8);
 }
-HOT void store32(struct machine *m, uint64_t address, uint32_t offset, uint64_t value) {
-    uint8_t *p = place_of(m, address, offset, 4, 1);
+HOT void store32(uint8_t *p, uint64_t value) {
     uint32_t v = (uint32_t)value;
     p[0] = (uint8_t)v;
     p[1] = (uint8_t)(v >> 8);
     p[2] = (uint8_t)(v >> 16);
     p[3] = (uint8_t)(v >> 24);
 }
-HOT void store64(struct machine *m, uint64_t address, uint32_t offset, uint64_t value) {
-    uint8_t *p = place_of(m, address, offset, 8, 1);
+HOT void store64(uint8_t *p, uint64_t value) {
     uint32_t v = (uint32_t)value, w = (uint32_t)(value >> 32);
     p[0] = (uint8_t)v;
     p[1] = (uint8_t)(v >> 8);
@@ -110,15 +113,15 @@ HOT void store64(struct machine *m, uint64_t address, uint32_t offset, uint64_t 
 
 /* memory.copy and memory.fill. At no octets a pointer may lead anywhere. */
 static void copy(struct machine *m, uint64_t to, uint64_t from, uint64_t count) {
-    CHECK(count <= 0xFFFFFFFFu);
+    if (count > 0xFFFFFFFFu) trap();
     if (count > 0) {
-        const uint8_t *source = at(m, from, (uint32_t)count, 0);
-        memmove(at(m, to, (uint32_t)count, 1), source, (size_t)count);
+        const uint8_t *source = read_at(from, m, (uint32_t)count);
+        memmove(write_at(to, m, (uint32_t)count), source, (size_t)count);
     }
 }
 static void fill(struct machine *m, uint64_t to, uint32_t value, uint64_t count) {
-    CHECK(count <= 0xFFFFFFFFu);
-    if (count > 0) memset(at(m, to, (uint32_t)count, 1), (int)(value & 255), (size_t)count);
+    if (count > 0xFFFFFFFFu) trap();
+    if (count > 0) memset(write_at(to, m, (uint32_t)count), (int)(value & 255), (size_t)count);
 }
 
 /* A number whose sign is this bit, as 64 bits. */
@@ -138,9 +141,20 @@ HOT uint64_t divide64(uint64_t x, uint64_t y) { if (y == 0) trap(); return x / y
 HOT uint32_t remainder32(uint32_t x, uint32_t y) { if (y == 0) trap(); return x % y; }
 HOT uint64_t remainder64(uint64_t x, uint64_t y) { if (y == 0) trap(); return x % y; }
 
-HOT uint32_t trailing32(uint32_t x) { uint32_t n = 0; while (n < 32 && !(x >> n & 1)) n++; return n; }
-HOT uint64_t trailing64(uint64_t x) { uint64_t n = 0; while (n < 64 && !(x >> n & 1)) n++; return n; }
+/* The place of the lowest bit that is set. */
+#if defined(__GNUC__)
+#define LOWEST(x) ((uint32_t)__builtin_ctzl(x))
+#else
+#define PLACE_OF(b) (((b) & 0xFFFF0000u ? 16u : 0u) + ((b) & 0xFF00FF00u ? 8u : 0u) + ((b) & 0xF0F0F0F0u ? 4u : 0u) \
+                     + ((b) & 0xCCCCCCCCu ? 2u : 0u) + ((b) & 0xAAAAAAAAu ? 1u : 0u))
+#define LOWEST(x) PLACE_OF((x) & (0u - (x)))
+#endif
+HOT uint32_t trailing32(uint32_t x) { return x ? LOWEST(x) : 32; }
 HOT uint32_t leading32(uint32_t x) { uint32_t n = 0; while (n < 32 && !(x << n >> 31)) n++; return n; }
-HOT uint64_t leading64(uint64_t x) { uint64_t n = 0; while (n < 64 && !(x << n >> 63)) n++; return n; }
-HOT uint32_t ones32(uint32_t x) { uint32_t n = 0; for (; x; x &= x - 1) n++; return n; }
-HOT uint64_t ones64(uint64_t x) { uint64_t n = 0; for (; x; x &= x - 1) n++; return n; }
+HOT uint64_t trailing64(uint64_t x) { return (uint32_t)x ? trailing32((uint32_t)x) : 32 + trailing32((uint32_t)(x >> 32)); }
+HOT uint64_t leading64(uint64_t x) { return x >> 32 ? leading32((uint32_t)(x >> 32)) : 32 + leading32((uint32_t)x); }
+/* How many bits are set: of each two, of each four, of each eight, of all. */
+#define PAIRS(x) ((x) - ((x) >> 1 & 0x55555555u))
+#define FOURS(x) (((x) & 0x33333333u) + ((x) >> 2 & 0x33333333u))
+HOT uint32_t ones32(uint32_t x) { x = PAIRS(x); x = FOURS(x); return (((x + (x >> 4)) & 0x0F0F0F0Fu) * 0x01010101u) >> 24; }
+HOT uint64_t ones64(uint64_t x) { return ones32((uint32_t)x) + ones32((uint32_t)(x >> 32)); }

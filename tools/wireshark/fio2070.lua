@@ -19,6 +19,82 @@ local LAST_INPUT = 63
 local FIRST_ANSWER = 128        -- types from here on are answers
 local POLL, BLOCK = 54, 182
 
+---------------------------------------------------------------- written by tools/generate-messages
+
+local type_names = {
+  [49] = "Request module status",
+  [50] = "Millisecond counter management",
+  [51] = "Configure inputs",
+  [52] = "Poll raw input data",
+  [53] = "Poll filtered input data",
+  [54] = "Poll input transition buffer",
+  [55] = "Set outputs",
+  [56] = "Configure input tracking",
+  [57] = "Configure complex outputs",
+  [58] = "Configure watchdog",
+  [59] = "Controller identification",
+  [60] = "Module identification",
+  [177] = "Request module status, answer",
+  [178] = "Millisecond counter management, answer",
+  [179] = "Configure inputs, answer",
+  [180] = "Poll raw input data, answer",
+  [181] = "Poll filtered input data, answer",
+  [182] = "Poll input transition buffer, answer",
+  [183] = "Set outputs, answer",
+  [184] = "Configure input tracking, answer",
+  [185] = "Configure complex outputs, answer",
+  [186] = "Configure watchdog, answer",
+  [187] = "Controller identification, answer",
+  [188] = "Module identification, answer",
+}
+
+-- The words of the text, each followed by the field behind it where there is one.
+local layouts = {
+  [49] = { "status clear", "clear" },
+  [50] = { "load counter", "load" },
+  [51] = { "configure inputs", "items" },
+  [52] = { "raw inputs" },
+  [53] = { "filtered inputs" },
+  [54] = { "poll block", "block.number" },
+  [55] = { "set outputs data", "outputs.data", "control", "outputs.control" },
+  [56] = { "other 56 body", "body" },
+  [57] = { "other 57 body", "body" },
+  [58] = { "watchdog ms", "watchdog.timeout" },
+  [59] = { "other 59 body", "body" },
+  [60] = { "identify" },
+  [177] = { "status flags", "flags", "receive", "errors.receive", "transmit", "errors.transmit", "stamp", "stamp" },
+  [178] = { "counter load status", "status" },
+  [179] = { "configure status", "status" },
+  [180] = { "raw inputs", "inputs", "stamp", "stamp" },
+  [181] = { "filtered inputs", "inputs", "stamp", "stamp" },
+  [182] = { "block", "block.number", "entries", "block.entries", "status", "block.flags", "stamp", "stamp" },
+  [183] = { "other 183 body", "body" },
+  [184] = { "other 184 body", "body" },
+  [185] = { "other 185 body", "body" },
+  [186] = { "watchdog status", "watchdog.status" },
+  [187] = { "other 187 body", "body" },
+  [188] = { "other 188 body", "body" },
+}
+
+local octets_of = {
+  ["clear"] = 1,
+  ["load"] = 4,
+  ["block.number"] = 1,
+  ["outputs.data"] = 8,
+  ["outputs.control"] = 8,
+  ["watchdog.timeout"] = 1,
+  ["flags"] = 1,
+  ["errors.receive"] = 1,
+  ["errors.transmit"] = 1,
+  ["stamp"] = 4,
+  ["status"] = 1,
+  ["inputs"] = 8,
+  ["block.flags"] = 1,
+  ["watchdog.status"] = 1,
+}
+
+---------------------------------------------------------------- end of what is written
+
 ---------------------------------------------------------------- fields, experts
 
 local field = {}        -- by filter name without "fio2070."
@@ -51,14 +127,17 @@ declare_notice("gap", "SEQUENCE", "WARN", "a block was skipped")
 -- A part has two functions: `size` finds the number of its octets, `read` adds
 -- it to the tree and returns its text.
 
+local parts = {}        -- by the name of the field
+
 local function always(size)
   return function() return size end
 end
 
 -- A number, most significant octet first, written in decimal.
-local function number(name, label, size)
+local function number(name, label)
+  local size = octets_of[name]
   local made = declare("uint" .. 8 * size, name, label, base.DEC)
-  return { size = always(size), read = function(range, tree)
+  parts[name] = { size = always(size), read = function(range, tree)
     tree:add(made, range)
     return ("%d"):format(range:uint())
   end }
@@ -73,7 +152,7 @@ local function flags(name, label, bits)
     flag[k] = declare("bool", name .. "." .. bit[1]:lower(), bit[1] .. ", " .. bit[3], 8, nil, bit[2])
     if bit[4] then declare_notice(bit[4], "SEQUENCE", bit[5], bit[1] .. ": " .. bit[3]) end
   end
-  return { size = always(1), read = function(range, tree)
+  parts[name] = { size = always(octets_of[name]), read = function(range, tree)
     local value, branch = range:uint(), tree:add(made, range)
     for k, bit in ipairs(bits) do
       local leaf = branch:add(flag[k], range)
@@ -83,11 +162,11 @@ local function flags(name, label, bits)
   end }
 end
 
--- Octets kept as they come, written in hexadecimal; without a size, all the rest.
-local function octets(name, label, size)
-  local made = declare("bytes", name, label)
+-- Octets kept as they come, written in hexadecimal: as many as the table has, or all the rest.
+local function octets(name, label)
+  local size, made = octets_of[name], declare("bytes", name, label)
   local function rest(tvb, offset) return tvb:len() - offset end
-  return { size = size and always(size) or rest, read = function(range, tree)
+  parts[name] = { size = size and always(size) or rest, read = function(range, tree)
     if range:len() == 0 then return "-" end
     tree:add(made, range)
     return range:bytes():tohex(true)
@@ -97,7 +176,7 @@ end
 -- A count and as many elements of three octets, each read by `read_element`.
 local function list(name, label, read_element)
   local count = declare("uint8", name, label, base.DEC)
-  return { size = function(tvb, offset)
+  parts[name] = { size = function(tvb, offset)
     return 1 + 3 * (offset < tvb:len() and tvb(offset, 1):uint() or 0)
   end, read = function(range, tree, tvb)
     tree:add(count, range(0, 1))
@@ -157,60 +236,40 @@ end
 -- with the words of the text between them.
 
 local function module_flags(name, label, ...)
-  return flags(name, label, {
+  flags(name, label, {
     { "P", 128, "the module was reset", ... }, { "E", 64, "status flag" }, { "K", 32, "status flag" }, { "R", 16, "status flag" },
     { "T", 8, "status flag" }, { "M", 4, "status flag" }, { "L", 2, "status flag" }, { "W", 1, "status flag" },
   })
 end
 
-local clear = module_flags("clear", "Flags to clear")
-local remaining = module_flags("flags", "Flags that remain", "reset", "NOTE")
-local done = flags("status", "Status", { { "S", 1, "error", "refused", "WARN" } })
-local watchdog_status = flags("watchdog.status", "Status", { { "Y", 1, "the watchdog had been set before" } })
-local block_flags = flags("block.flags", "Status", {
+module_flags("clear", "Flags to clear")
+module_flags("flags", "Flags that remain", "reset", "NOTE")
+number("errors.receive", "Errors in receiving")
+number("errors.transmit", "Errors in transmitting")
+number("load", "Number to load into the counter")
+flags("status", "Status", { { "S", 1, "error", "refused", "WARN" } })
+list("items", "Items", read_item)
+number("block.number", "Block number")
+list("block.entries", "Entries", read_entry)
+flags("block.flags", "Status", {
   { "C", 8, "more entries waited than a block takes", "more", "NOTE" },
   { "F", 4, "entries between the block before and this one were pushed out", "lost", "WARN" },
   { "E", 2, "the same block number was asked for again", "again", "NOTE" },
   { "G", 1, "the number is not the one before plus one", "out_of_sequence", "WARN" },
 })
-local block_number = number("block.number", "Block number", 1)
-local stamp = number("stamp", "Stamp", 4)
-local inputs = octets("inputs", "Inputs, input 0 in the lowest bit of the first octet", 8)
-local body = octets("body", "Body")
-local items = list("items", "Items", read_item)
-local entries = list("block.entries", "Entries", read_entry)
+number("stamp", "Stamp")
+octets("inputs", "Inputs, input 0 in the lowest bit of the first octet")
+octets("outputs.data", "Data octets")
+octets("outputs.control", "Control octets")
+number("watchdog.timeout", "Timeout in milliseconds")
+flags("watchdog.status", "Status", { { "Y", 1, "the watchdog had been set before" } })
+octets("body", "Body")
 
-local messages = {
-  [49] = { "status clear", clear },
-  [50] = { "load counter", number("load", "Number to load into the counter", 4) },
-  [51] = { "configure inputs", items },
-  [52] = { "raw inputs" },
-  [53] = { "filtered inputs" },
-  [POLL] = { "poll block", block_number },
-  [55] = { "set outputs data", octets("outputs.data", "Data octets", 8),
-           "control", octets("outputs.control", "Control octets", 8) },
-  [58] = { "watchdog ms", number("watchdog.timeout", "Timeout in milliseconds", 1) },
-  [60] = { "identify" },
-  [177] = { "status flags", remaining, "receive", number("errors.receive", "Errors in receiving", 1),
-            "transmit", number("errors.transmit", "Errors in transmitting", 1), "stamp", stamp },
-  [178] = { "counter load status", done },
-  [179] = { "configure status", done },
-  [180] = { "raw inputs", inputs, "stamp", stamp },
-  [181] = { "filtered inputs", inputs, "stamp", stamp },
-  [BLOCK] = { "block", block_number, "entries", entries, "status", block_flags, "stamp", stamp },
-  [186] = { "watchdog status", watchdog_status },
-}
-for _, code in ipairs { 56, 57, 59, 183, 184, 185, 187, 188 } do
-  messages[code] = { ("other %d body"):format(code), body }
+local messages = {}     -- by type: words and parts, in the order of the frame
+for code, layout in pairs(layouts) do
+  messages[code] = {}
+  for k, word in ipairs(layout) do messages[code][k] = k % 2 == 1 and word or parts[word] end
 end
-
-local type_names = {
-  [49] = "Request module status", [50] = "Millisecond counter management", [51] = "Configure inputs",
-  [52] = "Poll raw input data", [53] = "Poll filtered input data", [54] = "Poll input transition buffer",
-  [55] = "Set outputs", [56] = "Configure input tracking", [57] = "Configure complex outputs",
-  [58] = "Configure watchdog", [59] = "Controller identification", [60] = "Module identification",
-}
-for code = 49, 60 do type_names[code + FIRST_ANSWER] = type_names[code] .. ", answer" end
 
 declare("uint8", "type", "Type", base.DEC, type_names)
 declare("bool", "type.answer", "Direction", 8, { "answer of the module", "command of the CPU" }, FIRST_ANSWER)

@@ -14,11 +14,11 @@ from typing import List, NamedTuple, Optional, Sequence, Tuple
 from . import _library as c
 from . import constants, encode
 from .encode import Octets
-from .records import Answer, Breach, Command, ConfigurationItem, Entry, Fault, RecordItem
+from .records import Answer, Breach, Command, ConfigurationItem, ContentBreach, Entry, Fault, RecordItem
 
-__all__ = ['Answer', 'Breach', 'Checker', 'Command', 'ConfigurationItem', 'Counter', 'Entry', 'Fault', 'Filters',
-           'Heard', 'Module', 'Octets', 'Poller', 'RecordItem', 'constants', 'decode_answer', 'decode_command', 'encode',
-           'version', 'widen']
+__all__ = ['Answer', 'Breach', 'Checker', 'Command', 'ConfigurationItem', 'ContentBreach', 'ContentChecker', 'Counter',
+           'Entry', 'Fault', 'Filters', 'Heard', 'Module', 'Octets', 'Poller', 'RecordItem', 'constants', 'decode_answer',
+           'decode_command', 'encode', 'version', 'widen']
 
 
 def _text_of(fault: c.CFault) -> str:
@@ -52,7 +52,7 @@ def decode_command(octets: Octets) -> Command:
 def show(octets: Octets) -> str:
     """What `fio2070 show` writes of a frame, or the words of its fault and a line feed."""
     octets = bytes(octets)
-    text = (c.c_uint8 * c.library.fio2070_show(octets, len(octets), (c.c_uint8 * 1)(), 0))()
+    text = (c.c_uint8 * c.library.fio2070_show_length(octets, len(octets)))()
     c.library.fio2070_show(octets, len(octets), text, len(text))
     return bytes(text).decode('ascii')
 
@@ -144,6 +144,27 @@ class Checker:
         return Breach(rule, bool(found.has_due), found.due, found.got) if rule else None
 
 
+class ContentChecker:
+    """A checker of the rules on content: it judges the entries of each block that a poller takes whose first number is
+    that of the first poll sent."""
+
+    def __init__(self) -> None:
+        self._content, self._breach = c.CContentChecker(), c.CContentBreach()
+        c.library.fio2070_content_start(self._content)
+
+    def sent(self, octets: Octets) -> None:
+        """Takes a frame that the CPU sent."""
+        octets = bytes(octets)
+        c.library.fio2070_content_sent(self._content, octets, len(octets))
+
+    def heard(self, octets: Octets) -> Optional[ContentBreach]:
+        """The first entry of a block that breaks a rule, in a frame that the CPU heard; None where none does. All its
+        entries are taken."""
+        octets = bytes(octets)
+        rule = c.library.fio2070_content_heard(self._content, octets, len(octets), self._breach)
+        return ContentBreach(rule, self._breach.entry, self._breach.input) if rule else None
+
+
 class Counter:
     """The millisecond counter."""
 
@@ -229,6 +250,11 @@ class Module:
         encode.check_range(256, mask)
         c.library.fio2070_module_raise(self._module, mask)
 
+    def set_errors(self, receive: int, transmit: int) -> None:
+        """Sets the error counts that the answer 177 has from now on."""
+        encode.check_range(256, receive, transmit)
+        c.library.fio2070_module_set_errors(self._module, receive, transmit)
+
     def receive(self, octets: Octets) -> Optional[bytes]:
         """The answer to a frame; None where there is none."""
         octets = bytes(octets)
@@ -256,6 +282,22 @@ class Module:
     def filtered(self) -> int:
         """The filtered states, also of ignored inputs."""
         return int(c.library.fio2070_module_filtered(self._module))
+
+    @property
+    def raw(self) -> int:
+        """The levels of the last scan, all 1 before any."""
+        return int(c.library.fio2070_module_raw(self._module))
+
+    @property
+    def flags(self) -> int:
+        """The flags that are up."""
+        return int(c.library.fio2070_module_flags(self._module))
+
+    @property
+    def errors(self) -> Tuple[int, int]:
+        """The error counts, in receiving and in transmitting."""
+        errors = c.library.fio2070_module_errors(self._module)
+        return errors.receive, errors.transmit
 
     @property
     def waiting(self) -> int:

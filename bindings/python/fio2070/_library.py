@@ -12,9 +12,9 @@ def _load() -> ctypes.CDLL:
     """The library that FIO2070_LIBRARY names, or the one beside this file, or at the top of the repository that this
     file is in, or the installed one."""
     here = os.path.dirname(os.path.abspath(__file__))
-    places = [os.path.join(here, 'libfio2070.so'), os.path.join(here, '..', '..', '..', 'libfio2070.so')]
+    places = [os.path.join(here, 'libfio2070.so.1'), os.path.join(here, '..', '..', '..', 'libfio2070.so.1')]
     named = [os.environ['FIO2070_LIBRARY']] if os.environ.get('FIO2070_LIBRARY') else []
-    return ctypes.CDLL((named + list(filter(os.path.exists, places)) + ['libfio2070.so'])[0])
+    return ctypes.CDLL((named + list(filter(os.path.exists, places)) + ['libfio2070.so.1'])[0])
 
 
 class CFault(ctypes.Structure):
@@ -74,12 +74,25 @@ class CBreach(ctypes.Structure):
     _fields_ = [('rule', c_uint8), ('has_due', c_uint8), ('due', c_uint8), ('got', c_uint8)]
 
 
+class CContentBreach(ctypes.Structure):
+    _fields_ = [('rule', c_uint8), ('entry', c_uint8), ('input', c_uint8)]
+
+
+class CContentChecker(ctypes.Structure):
+    """The octets of struct fio2070_content_checker."""
+    _fields_ = [('words', c_uint64 * 146)]
+
+
 class CFilters(ctypes.Structure):
     _fields_ = [('words', c_uint64 * 27)]
 
 
 class COutputs(ctypes.Structure):
     _fields_ = [('levels', c_uint8 * 8), ('controls', c_uint8 * 8)]
+
+
+class CErrorCounts(ctypes.Structure):
+    _fields_ = [('receive', c_uint8), ('transmit', c_uint8)]
 
 
 class CModule(ctypes.Structure):
@@ -103,6 +116,7 @@ _declare('fault_text', c_size_t, POINTER(CFault), *_OUT)
 _declare('decode_command', CFault, *_OCTETS, POINTER(CCommand))
 _declare('command_items', c_size_t, *_OCTETS, POINTER(CItem), c_size_t)
 _declare('show', c_size_t, *_OCTETS, *_OUT)
+_declare('show_length', c_size_t, *_OCTETS)
 _declare('decode_answer', CFault, *_OCTETS, POINTER(CAnswer))
 _declare('block_entries', c_size_t, *_OCTETS, POINTER(CEntry), c_size_t)
 _declare('version', c_uint32)
@@ -122,6 +136,9 @@ _declare('poller_hear', CHeard, POINTER(CPoller), *_OCTETS, POINTER(CRecordItem)
 _declare('checker_start', None, POINTER(CChecker))
 _declare('checker_sent', c_uint8, POINTER(CChecker), *_OCTETS, POINTER(CBreach))
 _declare('checker_heard', c_uint8, POINTER(CChecker), *_OCTETS, POINTER(CBreach))
+_declare('content_start', None, POINTER(CContentChecker))
+_declare('content_sent', None, POINTER(CContentChecker), *_OCTETS)
+_declare('content_heard', c_uint8, POINTER(CContentChecker), *_OCTETS, POINTER(CContentBreach))
 _declare('counter_start', None, POINTER(CCounter))
 _declare('counter_tick', None, POINTER(CCounter))
 _declare('counter_ask_load', None, POINTER(CCounter), c_uint32)
@@ -138,8 +155,12 @@ _declare('module_scan', None, POINTER(CModule), c_uint64)
 _declare('module_line_sync', None, POINTER(CModule))
 _declare('module_raise', None, POINTER(CModule), c_uint8)
 _declare('module_receive', c_size_t, POINTER(CModule), *_OCTETS, POINTER(c_uint8))
+_declare('module_set_errors', None, POINTER(CModule), c_uint8, c_uint8)
 _declare('module_outputs', COutputs, POINTER(CModule))
 _declare('module_watchdog_ms', c_uint8, POINTER(CModule))
 _declare('module_counter', c_uint32, POINTER(CModule))
 _declare('module_filtered', c_uint64, POINTER(CModule))
+_declare('module_raw', c_uint64, POINTER(CModule))
+_declare('module_flags', c_uint8, POINTER(CModule))
+_declare('module_errors', CErrorCounts, POINTER(CModule))
 _declare('module_waiting', c_size_t, POINTER(CModule))

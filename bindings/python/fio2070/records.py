@@ -47,6 +47,13 @@ class Breach(NamedTuple):
     got: int
 
 
+class ContentBreach(NamedTuple):
+    """An entry that breaks a rule on content: 1 order, 2 alternate, 3 apart; its index in its block, and its input."""
+    rule: int
+    entry: int
+    input: int
+
+
 class Command(NamedTuple):
     """A command, 49 to 60."""
     code: int

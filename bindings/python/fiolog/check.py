@@ -26,11 +26,16 @@ WORDS = {
     'refusal': 'done, to a configuration that names an input above 63'}
 
 
-def add_arguments(parser):
-    log.add_arguments(parser)
+def add_place(parser):
+    """The options of where and when a log was taken."""
     parser.add_argument('--at', choices=('auto', 'cpu', 'module', 'bus'), default='auto',
                         help='where the log was taken; auto: at the CPU where directions say so, else on the bus')
     parser.add_argument('--start-at-poll', action='store_true', help='leave out what comes before the first poll')
+
+
+def add_arguments(parser):
+    log.add_arguments(parser)
+    add_place(parser)
     parser.add_argument('--json', action='store_true', help='an object for each breach, and one for the summary')
 
 
@@ -54,11 +59,15 @@ class Judge:
         is_own = event.text[:2] in ('> ', '< ')
         return 'module' if read.reader.reversed > read.reader.agreeing and not is_own else 'cpu'
 
+    def direction(self, read, event):
+        """Whether the CPU sent a frame (`>`) or heard it (`<`)."""
+        direction = direction_of(event)
+        is_turned = self.place(read, event) == 'module' and event.direction
+        return {'>': '<', '<': '>'}[direction] if is_turned else direction
+
     def breach(self, read, event):
         """The breach of a frame, as its rule and words; nothing where it keeps the rules."""
-        place, direction = self.place(read, event), direction_of(event)
-        if place == 'module' and event.direction:
-            direction = {'>': '<', '<': '>'}[direction]
+        place, direction = self.place(read, event), self.direction(read, event)
         hear = self.checker.sent if direction == '>' else self.checker.heard
         found = hear(event.octets)
         is_poll, before = len(event.octets) == 2 and event.octets[0] == POLL, self.polled
@@ -92,7 +101,7 @@ def run(option):
     if not has_checker():
         terminal.say('this libfio2070 has no checker; a later one has')
         return 3
-    paint, read, counts = terminal.painter('auto'), log.Log(option, sys.stdout.flush), Counts()
+    paint, read, counts = terminal.painter('auto'), log.Log(option, sys.stdout.flush, writes=option.json), Counts()
     judge, name, is_open, breaches = Judge(option.at), None, not option.start_at_poll, 0
     for event in read.events():
         if event.kind not in (FRAME, DAMAGED):

@@ -57,7 +57,7 @@ def run(option):
     out = open(option.output, 'wb' if is_binary else 'w') if option.output else (
         sys.stdout.buffer if is_binary else sys.stdout)
     try:
-        read = log.Log(option, out.flush)
+        read = log.Log(option, out.flush, writes=not option.output)
         write(option, read, out)
     finally:
         if option.output:

@@ -7,6 +7,8 @@ from . import judge, times
 _MASK = str.maketrans('123456789', '0' * 9)
 MOST = 64
 MOST_STARTS = 4096
+# Octets of a frame that are looked at for how they are written.
+SOME = 32
 
 
 class Head(NamedTuple):
@@ -15,7 +17,7 @@ class Head(NamedTuple):
     time: Optional[Tuple[int, int]]
     second: Optional[Tuple[int, int]]
     parts: Tuple[Tuple[str, int, int], ...]
-    has_count: bool
+    count: Optional[Tuple[int, int]]    # where it is
 
 
 class Quick:
@@ -23,6 +25,7 @@ class Quick:
 
     def __init__(self):
         self.heads, self.count, self.starts = {}, 0, {}
+        self.padded = 0     # frames with a zero before a digit
 
     def learn(self, text, length, head):
         """Lines that begin like this one, but for digits, have this head."""
@@ -42,7 +45,10 @@ class Quick:
                 octets = bytes.fromhex(text[length:])
             except ValueError:
                 continue
-            if judge.fits_surely(octets) or head.direction and not head.has_count and judge.fits_short(octets):
+            if head.count and int(text[slice(*head.count)]) != len(octets):
+                continue
+            if judge.fits_surely(octets) or head.direction and not head.count and judge.fits_short(octets):
+                self.padded += min(octets[:SOME]) < 16
                 return head, octets, self.time(text, head) if head.time else None
         return None
 

@@ -29,6 +29,7 @@ class Reading(NamedTuple):
     offset: Optional[str] = None
     said: str = ''              # the words of the direction
     start: int = 0              # where the octets begin
+    count_at: Optional[Tuple[int, int]] = None
     spans: Tuple[Tuple[str, int, int], ...] = ()    # where the parts of the time are; `time` is all of it
 
     @property
@@ -101,7 +102,7 @@ class _Walk:
         if name == 'offset':
             return step._replace(offset=parts['offset'])
         if name in COUNTS:
-            return step._replace(count=int(parts['count']))
+            return step._replace(count=int(parts['count']), count_at=piece.span('count'))
         return step
 
     def note(self, rest, so_far):
@@ -134,7 +135,7 @@ def in_marks(text) -> List[Reading]:
     found = []
     for start, octets in delimited(text):
         time, direction = _head(text[:start])
-        found.append(Reading(('text',), 'marks', octets, time, direction))
+        found.append(Reading(('text',), 'marks', octets, time, direction, start=start))
     return found
 
 
@@ -150,4 +151,4 @@ def head_of(reading):
         return None
     spans = {name: (start, end) for name, start, end in reading.spans}
     return Head(reading.direction, spans.get('time'), spans.get('second') if 'minute' in spans else None,
-                reading.spans[1:], reading.count is not None)
+                reading.spans[1:], reading.count_at)

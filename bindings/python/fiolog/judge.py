@@ -31,6 +31,11 @@ def spells(octets):
 _LOOSE = frozenset(octet for octet in range(256) if spells(bytes([octet])) and spells(bytes([octet, 0])))
 
 
+def is_loose(octets):
+    """Whether octets are of a type whose messages have any length: a cut is not seen."""
+    return octets[0] in _LOOSE
+
+
 def is_sure(octets):
     """Whether a message can hardly be other text: its length is that of its type, and above 1."""
     return len(octets) > 1 and octets[0] not in _LOOSE

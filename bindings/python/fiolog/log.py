@@ -34,10 +34,11 @@ def reader_of(option):
 
 
 class Log:
-    """Goes through the events of the files. `idle` is called before each read that may wait."""
+    """Goes through the events of the files. `idle` is called before each read that may wait. Where the command writes
+    as it reads, `writes` is true: then a terminal has no progress bar beside what is written."""
 
-    def __init__(self, option, idle=lambda: None):
-        self.option, self.idle = option, idle
+    def __init__(self, option, idle=lambda: None, writes=True):
+        self.option, self.idle, self.writes = option, idle, writes
         self.name, self.reader, self.lines = '-', None, 0
         self.kinds, self.reasons = Counter(), Counter()
         self.agreeing = self.reversed = 0
@@ -59,7 +60,7 @@ class Log:
     def _of_file(self, name):
         is_silent, feed, number = self.option.quiet or self.option.format != 'auto', self.reader.feed, 0
         descriptor = source.opened(name)
-        with Progress(descriptor, self.option.quiet) as progress:
+        with Progress(descriptor, self.option.quiet, self.writes) as progress:
             for number, text in enumerate(source.lines_of(descriptor, progress.add, self.idle), 1):
                 for event in feed(number, text):
                     if not is_silent and self.reader.taken:
@@ -72,11 +73,18 @@ class Log:
                 if event.kind == PASSED and self.option.verbose:
                     self.name_passed(event)
                 yield event
+        self.say_doubts()
         if not is_silent and self.reader.taken:
             say('form: %s' % self.reader.taken)
         if descriptor != sys.stdin.fileno():
             os.close(descriptor)
         self.lines += number
+
+    def say_doubts(self):
+        """Says what may have been read wrongly."""
+        doubts = self.reader.doubts
+        for words in () if self.option.quiet else (*doubts.remarks, *doubts.words()):
+            say(words)
 
     def name_passed(self, event):
         """Names a line that is passed over."""

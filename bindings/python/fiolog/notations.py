@@ -11,6 +11,7 @@ _QUOTED = re.compile(r'''(?P<prefix>\b(?:b|rb|br|u8))?(?P<quote>["'])(?P<text>(?
 _LISTED = re.compile(r'\{(?P<braces>[^{}]*)\}|\[(?P<brackets>[^\[\]]*)\]|\((?P<rounds>[^()]*)\)')
 _COMMENT = re.compile(r'/\*.*?\*/|//.*$')
 _ESCAPE = re.compile(r'\\(?:x([0-9a-fA-F]{1,2})|([0-7]{1,3})|(.))', re.DOTALL)
+_HALF_ESCAPE = re.compile(r'(?<!\\)(?:\\\\)*\\x(?![0-9a-fA-F]{2})')
 _ESCAPED = {'n': '\n', 'r': '\r', 't': '\t', 'a': '\a', 'b': '\b', 'f': '\f', 'v': '\v', 'e': '\x1b'}
 
 
@@ -123,6 +124,9 @@ def delimited(text):
         inner = quoted['text'].strip()
         if not quoted['prefix'] and HEX_LIST.fullmatch(inner) and '\\' not in inner and from_digits(inner):
             yield quoted.start(), from_digits(inner)
+        is_python = quoted['prefix'] and quoted['prefix'].lower() != 'u8'
+        if is_python and _HALF_ESCAPE.search(quoted['text']):
+            continue    # Python writes two digits behind each \x
         literal = from_literal(quoted['text']) if quoted['prefix'] or '\\' in quoted['text'] else None
         if literal:
             yield quoted.start(), literal

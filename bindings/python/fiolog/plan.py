@@ -64,9 +64,9 @@ def row(option):
     waits, late = most_exact(inputs, length, per_block, every, every)
     yield 'entries that wait, at most', waits, '`few_wait` of `KeepsUpExactly`'
     yield 'late, at most', '%d ms' % late, '`young` of `KeepsUpExactly`'
-    yield ('entries that wait, at most, answers lost', most_exact(inputs, length, per_block, every, 2 * every)[0],
-           '`few_wait` of `KeepsUpExactly`')
-    yield 'late, at most, answers lost', '%d ms' % (2 * every + length - 2), '`never_late` of `Delivers`'
+    waits, late = most_exact(inputs, length, per_block, every, 2 * every)
+    yield 'entries that wait, at most, answers lost', waits, '`few_wait` of `KeepsUpExactly`'
+    yield 'late, at most, answers lost', '%d ms' % late, '`exactly` of `Delivers`'
     longest = waiting // inputs * length
     yield 'outage without loss, at most', '%d ms' % longest, '`room` of `IsOutage`; `outage` of `Delivers`'
     within = waiting * length // inputs - (length - 1)

@@ -8,6 +8,7 @@ import re
 from collections import Counter
 
 from . import joins, judge, rows
+from .doubts import Doubts
 from .events import DAMAGED, FRAME, PART, PASSED, REMARK, Line
 from .fast import Quick
 from .fitting import AUTO, ORDERED, PLAIN, Framing
@@ -37,7 +38,7 @@ class _Waiting:
 
     def __init__(self, number, text, fits=(), join=None, time=None):
         self.lines, self.fits, self.join, self.time = [(number, text)], list(fits), join, time
-        self.events = None
+        self.events, self.is_uneven = None, False
 
 
 class Reader:
@@ -50,7 +51,7 @@ class Reader:
         self.framing = Framing(sdlc)
         self.shapes = Counter(OWN if form in _OWN_LINE else ())
         self.has_dumps = False
-        self.quick, self.queue, self.noise = Quick(), [], {}
+        self.quick, self.queue, self.noise, self.doubts = Quick(), [], {}, Doubts()
         self.table = self.pauses = self.above = None
         self.kinds, self.reasons = Counter(), Counter()
         self.agreeing = self.reversed = 0
@@ -72,6 +73,7 @@ class Reader:
         for one in self.queue:
             if isinstance(one, _Waiting) and one.events is None:
                 self._close(one, at_end=True)
+        self._note_quick()
         return self._certain()
 
     def _certain(self):
@@ -99,6 +101,8 @@ class Reader:
             return None
         head, octets, time = found
         self.kinds[FRAME] += 1
+        self.doubts.loose += judge.is_loose(octets)
+        self.doubts.heads += bool(head.direction or head.time)
         return Line(number, FRAME, text, octets, time, self._noted(head.direction, octets))
 
     def _noted(self, direction, octets):
@@ -223,12 +227,31 @@ class Reader:
         best = max(same, key=lambda fit: (bool(fit.reading.direction), fit.reading.time is not None))
         number, text = waiting.lines[0]
         reading = best.reading
+        reason = self._doubt(waiting, same)
+        if reason:
+            return Line(number, PASSED, text, note=reason)
         self._know(same, best)
         head = head_of(reading) if best.message == reading.octets and self.framing.mode in (AUTO, PLAIN) else None
         if head and waiting.join is None and not self.pattern and self.form in ('auto', 'log'):
             self.quick.learn(text, reading.start, head)
         time = reading.time if reading.time is not None else waiting.time
         return Line(number, FRAME, text, best.message, time, self._noted(reading.direction, best.message))
+
+    def _doubt(self, waiting, same):
+        """What speaks against the frame of these readings."""
+        if self.form in _OWN_LINE or self.pattern:
+            return ''
+        self._note_quick()
+        readings = [fit.reading for fit in same]
+        if isinstance(waiting.join, bytearray):
+            return self.doubts.in_rows(same[0].message, waiting.direction, waiting.is_uneven)
+        text = ' '.join(line for _, line in waiting.lines)
+        return self.doubts.reason(waiting.lines[0][0], text, readings, readings[0].octets,
+                                  any(self._is_usual(reading.shape) for reading in readings))
+
+    def _note_quick(self):
+        self.doubts.note_padded(self.quick.padded)
+        self.quick.padded = 0
 
     def _know(self, same, best):
         if not self.taken:
@@ -326,6 +349,7 @@ class Reader:
         is_pause = self.pauses.is_one(reading.time)
         channel = self.table.channel(text)
         last = self._open_join()
+        self.doubts.has_rows = True
         if last and (is_pause or last.channel != channel or len(last.join) > joins.MOST_OCTETS
                      or reading.time is None and judge.spells(bytes(last.join))):
             self._close(last)
@@ -336,6 +360,7 @@ class Reader:
             self.queue.append(last)
         last.lines.append((number, text))
         last.join += reading.octets
+        last.is_uneven |= self.pauses.is_long and len(last.join) > 1
 
     # ---- frames on several lines ----
 

@@ -1,24 +1,55 @@
-"""`fiolog record`: what the CPU learned: the record of the proved CPU's end, which heard the answers of the log."""
+"""`fiolog record`: what the CPU learned: the record of the proved CPU's end, which heard the answers of the log, and each
+entry that breaks a rule on content. Those rules are judged where the nine rules are kept: below a breach from the next poll
+on."""
 
 import json
+import shutil
 import sys
+import tempfile
+from typing import NamedTuple
 
 import fio2070
 
-from . import log, terminal
+from . import log, plot, terminal
+from .check import Judge, add_place
 from .decode import clock
-from .events import FRAME
+from .events import DAMAGED, FRAME, Line
 from .message import BLOCK, LOST, POLL, message_of
 from .waveform import Block, draw
 
 COLUMNS = ['line', 'time', 'input', 'state', 'stamp', 'wide']
+RULES = [None, 'order', 'alternate', 'apart']
+LOAD = 50
 
 
 def add_arguments(parser):
     log.add_arguments(parser)
-    parser.add_argument('--json', action='store_true', help='one object a line')
-    parser.add_argument('--vcd', action='store_true', help='a VCD file')
-    parser.add_argument('--plot', metavar='FILE', help='a picture of the inputs over time (by matplotlib)')
+    add_place(parser)
+    form = parser.add_mutually_exclusive_group()
+    form.add_argument('--text', action='store_true', help='as `fio2070 record` writes it, to the first breach')
+    form.add_argument('--json', action='store_true', help='one object a line: an item, or with `breaks` a breach')
+    form.add_argument('--vcd', action='store_true', help='a VCD file; breaches on standard error')
+    form.add_argument('--plot', metavar='FILE', help='a picture of the inputs over time, as .png, .svg or .pdf (by matplotlib)')
+
+
+class Breach(NamedTuple):
+    """A breach in a line: of a rule on content by an entry, with its index in the block and its input, or of one of the nine
+    rules by the frame."""
+    rule: str
+    entry: int = -1
+    input: int = -1
+
+    def words(self, line):
+        """As `fio2070 record` says it."""
+        return 'line %d %sbreaks %s' % (line, 'input %d ' % self.input if self.input >= 0 else '', self.rule)
+
+
+class Taken(NamedTuple):
+    """What a frame added to the record, and its breach; `is_block` is true where the CPU takes it."""
+    event: Line
+    items: list
+    breach: Breach = None
+    is_block: bool = False
 
 
 class Hearing:
@@ -28,11 +59,12 @@ class Hearing:
         self.poller = None
 
     def note(self, event):
-        """What is strange in a poll: it asks for another number than the proved CPU's end."""
+        """What is strange in a poll: it asks for another number than the proved CPU's end. Where that is the number of the
+        block before, its answer was not heard, or is not taken again."""
         asked = message_of(event.octets).fields['block']
         if self.poller is None:
             self.poller = fio2070.Poller(asked)
-        if asked == self.poller.number:
+        if (self.poller.number - asked) % 256 < 2:
             return None
         due, self.poller = self.poller.number, fio2070.Poller(asked)
         return 'line %d: block %d was due by what was heard, the CPU asked for %d' % (event.number, due, asked)
@@ -45,80 +77,159 @@ class Hearing:
         return heard.kind == 'taken', items
 
 
-def taken(read):
-    """For each block that the CPU takes: the event, and what it adds to the record."""
-    hearing = Hearing()
+class Rules:
+    """The library's two checkers over a log."""
+
+    def __init__(self, option):
+        self.judge, self.load = Judge(option.at), None
+        self.content = None if option.start_at_poll else fio2070.ContentChecker()
+
+    def breach(self, read, event):
+        """The breach of a frame; None where it keeps all rules."""
+        is_poll = len(event.octets) == 2 and event.octets[0] == POLL
+        found = self.judge.breach(read, event)
+        if found:
+            self.content = None
+            return Breach(found[0])
+        if self.judge.direction(read, event) == '<':
+            return self.heard(event.octets)
+        if self.content is None and is_poll:
+            self.begin()
+        if event.octets[:1] == bytes([LOAD]):
+            self.load = event.octets
+        if self.content is not None:
+            self.content.sent(event.octets)
+        return None
+
+    def heard(self, octets):
+        """The breach of an entry in a frame that the CPU heard."""
+        found = self.content and self.content.heard(octets)
+        return Breach(RULES[found.rule], found.entry, found.input) if found else None
+
+    def begin(self):
+        """Goes on below a breach. A load of the counter that was sent above still counts."""
+        self.content = fio2070.ContentChecker()
+        if self.load:
+            self.content.sent(self.load)
+
+
+def frames_judged(read, option):
+    """Each frame with its breach, file after file; with --start-at-poll from the first poll on."""
+    rules, name, is_open = Rules(option), None, not option.start_at_poll
     for event in read.events():
-        if event.kind != FRAME:
+        if event.kind not in (FRAME, DAMAGED):
             continue
-        if event.octets[0] == POLL:
+        if name != read.name:
+            rules, name, is_open = Rules(option), read.name, not option.start_at_poll
+        is_open = is_open or event.octets[:1] == bytes([POLL])
+        if is_open:
+            yield event, rules.breach(read, event)
+
+
+def taken(read, option):
+    """What each frame adds to the record or breaks, where it does either."""
+    hearing = Hearing()
+    for event, breach in frames_judged(read, option):
+        is_taken, items = False, []
+        if event.kind == FRAME and event.octets[0] == POLL:
             words = hearing.note(event)
-            if words:
+            if words and not breach:
                 terminal.say(words)
-        elif event.octets[0] == BLOCK:
+        elif event.kind == FRAME and event.octets[0] == BLOCK:
             is_taken, items = hearing.hear(event.octets)
-            if is_taken:
-                yield event, items
+        if is_taken or breach:
+            yield Taken(event, items, breach, is_taken)
 
 
-def as_blocks(read):
-    """The blocks that were taken, as they are drawn."""
-    for event, items in taken(read):
-        message = message_of(event.octets)
-        yield Block(message.fields['block'], message.fields['stamp'], bool(message.fields['status'] & LOST),
-                    [(item.input, item.state, item.wide) for item in items if not item.gap])
+class Record:
+    """The record of a log as it is read: what was broken is counted."""
+
+    def __init__(self, read, option):
+        self.breaches, self.all = 0, taken(read, option)
+
+    def __iter__(self):
+        for one in self.all:
+            self.breaches += one.breach is not None
+            yield one
+
+    def blocks(self):
+        """The blocks that were taken, as they are drawn; breaches are said."""
+        for one in self:
+            if one.breach:
+                terminal.say(one.breach.words(one.event.number))
+            if one.is_block:
+                message = message_of(one.event.octets)
+                yield Block(message.fields['block'], message.fields['stamp'], bool(message.fields['status'] & LOST),
+                            [(item.input, item.state, item.wide) for item in one.items if not item.gap],
+                            one.breach.entry if one.breach else -1)
+
+    def parts(self):
+        """The items and the breaches with their lines: an entry's breach above its item."""
+        for one in self:
+            above = one.items and one.items[0].gap
+            place = one.breach.entry + above if one.breach and one.breach.entry >= 0 else len(one.items)
+            yield from ((one.event, item, None) for item in one.items[:place])
+            if one.breach:
+                yield one.event, None, one.breach
+            yield from ((one.event, item, None) for item in one.items[place:])
 
 
-def write(read, is_json):
-    """The items, one a line."""
-    for event, items in taken(read):
-        for item in items:
-            if is_json:
-                fields = {'gap': True} if item.gap else {name: getattr(item, name) for name in COLUMNS[2:]}
-                print(json.dumps({'line': event.number, 'time': event.time, **fields}))
-            else:
-                words = 'gap' if item.gap else 'input %d state %d stamp %d wide %d' % item[1:]
-                print('%-6s %s' % ('%d:' % event.number, (clock(event.time) + ' ' if event.time else '') + words))
+def item_words(item):
+    """An item as `fio2070 record` writes it."""
+    return 'gap' if item.gap else 'input %d state %d stamp %d wide %d' % item[1:]
 
 
-def plot(read, name):
-    """A picture of the inputs over time; false without matplotlib."""
-    try:
-        import matplotlib
-    except ImportError:
-        terminal.say('--plot needs matplotlib (Debian package python3-matplotlib)')
-        return False
-    matplotlib.use('Agg')
-    from matplotlib import pyplot
-    inputs, gaps, last = {}, [], 0
-    for _, items in taken(read):
-        for item in items:
-            if item.gap:
-                gaps.append(last)
-            else:
-                last = item.wide
-                inputs.setdefault(item.input, ([], []))[0].append(item.wide)
-                inputs[item.input][1].append(item.state)
-    figure, axes = pyplot.subplots(max(len(inputs), 1), sharex=True, squeeze=False, figsize=(10, 1 + 0.5 * len(inputs)))
-    for row, (number, (times, states)) in zip(axes[:, 0], sorted(inputs.items())):
-        row.step(times, states, where='post')
-        row.set_ylabel(str(number), rotation=0)
-        row.set_yticks([])
-        for gap in gaps:
-            row.axvline(gap, color='red')
-    axes[-1, 0].set_xlabel('milliseconds of the counter')
-    figure.savefig(name)
-    return True
+def write(record):
+    """A table: the items with their lines, and the breaches in between."""
+    for event, item, breach in record.parts():
+        if breach:
+            print(breach.words(event.number))
+        else:
+            print('%-6s %s' % ('%d:' % event.number, (clock(event.time) + ' ' if event.time else '') + item_words(item)))
+
+
+def write_json(record):
+    """An object a line."""
+    for event, item, breach in record.parts():
+        if breach:
+            fields = {'input': breach.input, 'entry': breach.entry} if breach.input >= 0 else {}
+            fields['breaks'] = breach.rule
+        else:
+            fields = {'gap': True} if item.gap else {name: getattr(item, name) for name in COLUMNS[2:]}
+        print(json.dumps({'line': event.number, 'time': event.time, **fields}))
+
+
+def write_text(record):
+    """What `fio2070 record` writes: the items above the first entry that breaks a rule, then that breach; where one of the
+    nine rules is broken, the first such breach alone."""
+    count, broken, verdict = 0, '', ''
+    with tempfile.TemporaryFile('w+') as items:
+        for event, item, breach in record.parts():
+            words = breach.words(event.number) + '\n' if breach else ''
+            if breach and breach.input < 0:
+                verdict = verdict or words
+            broken = broken or words
+            if not broken:
+                count += 1
+                items.write(item_words(item) + '\n')
+        if verdict:
+            sys.stdout.write(verdict)
+            return
+        print('record %d' % count)
+        items.seek(0)
+        shutil.copyfileobj(items, sys.stdout)
+    sys.stdout.write(broken)
 
 
 def run(option):
-    """Writes the record; status 1 where no frame is there."""
-    read = log.Log(option, sys.stdout.flush)
+    """Writes the record; status 1 where a rule is broken or no frame is there."""
+    read = log.Log(option, sys.stdout.flush, writes=not option.plot)
+    record = Record(read, option)
     if option.plot:
-        if not plot(read, option.plot):
+        if not plot.write(record.blocks(), option.plot):
             return 3
     elif option.vcd:
-        draw(as_blocks(read), sys.stdout)
+        draw(record.blocks(), sys.stdout)
     else:
-        write(read, option.json)
-    return 0 if read.summary() else 1
+        (write_text if option.text else write_json if option.json else write)(record)
+    return 0 if read.summary() and not record.breaches else 1

@@ -12,6 +12,8 @@ from .notations import delimited, readings
 DELIMITERS = '\t;,|'
 # How much longer than the shortest step between two octets a pause is that ends a frame.
 PAUSE = 2.5
+# How much longer a step is in which a row may be missing.
+LONG = 1.5
 
 
 def time_of(value):
@@ -145,9 +147,11 @@ class Pauses:
 
     def __init__(self):
         self.last = self.shortest = None
+        self.is_long = False    # whether the last step was long, and no pause
 
     def is_one(self, time):
         """Whether there was a pause before this octet."""
+        self.is_long = False
         if time is None or self.last is None:
             self.last = time
             return False
@@ -155,6 +159,7 @@ class Pauses:
         if step <= 0:
             return False
         is_pause = self.shortest is not None and step > PAUSE * self.shortest
+        self.is_long = self.shortest is not None and not is_pause and step > LONG * self.shortest
         if not is_pause:
             self.shortest = step if self.shortest is None else min(self.shortest, step)
         return is_pause

@@ -48,7 +48,7 @@ def flat(one, above=''):
 
 def run(option):
     """Counts the logs; status 1 where no frame is there."""
-    read, counts = log.Log(option), Counts()
+    read, counts = log.Log(option, writes=False), Counts()
     for event in read.events():
         if event.kind in (FRAME, DAMAGED):
             counts.add(event, message_of(event.octets) if event.kind == FRAME else None)

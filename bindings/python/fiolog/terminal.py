@@ -61,22 +61,24 @@ def table(title, names, rows):
 
 
 class Progress:
-    """A bar for a long file, where standard error is a terminal and standard output is none."""
+    """A bar for a long file on a terminal. Where standard output is the terminal too, a command that `writes` as it
+    reads has none."""
 
-    def __init__(self, descriptor, is_quiet=False):
+    def __init__(self, descriptor, is_quiet=False, writes=True):
         self.bar = self.task = None
         try:
             size = os.fstat(descriptor).st_size
         except OSError:
             size = 0
-        if is_quiet or size < SHORT or not sys.stderr.isatty() or sys.stdout.isatty():
+        if is_quiet or size < SHORT or not sys.stderr.isatty() or writes and sys.stdout.isatty():
             return
         if not rich:
             say_once('rich is not installed: no progress bar (Debian package python3-rich)')
             return
         from rich.console import Console
         from rich.progress import Progress as Bar
-        self.bar = Bar(console=Console(stderr=True), transient=True)
+        # What is written to a file or a pipe stays there; what is written to the terminal stands above the bar.
+        self.bar = Bar(console=Console(stderr=True), transient=True, redirect_stdout=sys.stdout.isatty())
         self.task = self.bar.add_task('reading', total=size)
 
     def __enter__(self):

@@ -2,8 +2,9 @@
 
 Signals: `input_N` for each input that occurs, unknown (x) before its first entry and between a gap mark and its next
 one; `block`, the number of the block that carries the entries; `gap`, 1 ms at the first entry below a gap mark; `back`,
-1 ms where the counter went back, by a load or a restart: times then go on from the last one. Times are the wide ones,
-continued beyond 2^32. A block that is repeated is drawn once."""
+1 ms where the counter went back, by a load or a restart: times then go on from the last one; `breach`, where there is one,
+1 ms at an entry that breaks a rule on content. Times are the wide ones, continued beyond 2^32. A block that is repeated is
+drawn once."""
 
 import shutil
 import tempfile
@@ -17,14 +18,40 @@ class Block(NamedTuple):
     stamp: int
     is_lost: bool       # F: entries before this block are missing
     entries: list       # input, state and wide time of each
+    broken: int = -1    # the index of the first entry that breaks a rule on content
+
+
+class Clock:
+    """The times of blocks, continued beyond 2^32 and where the counter went back."""
+
+    def __init__(self):
+        self.stamp = self.time = None
+
+    def go_on(self, stamp, ages, now):
+        """Sets the time of a block, whose entries are so much older; `now` is the latest time so far. Returns whether the
+        counter went back. The stamp says in which turn of the counter an entry stands, since no entry is a turn older."""
+        step = (stamp - (self.stamp or 0)) % TURN
+        is_back = self.stamp is not None and step >= TURN // 2
+        if self.stamp is None:
+            self.time = stamp if ages[0] <= stamp else stamp + TURN
+        else:
+            self.time = now + 1 + max(ages) if is_back else self.time + step
+        self.stamp = stamp
+        return is_back
+
+
+def ages_of(block):
+    """How much older than their block its entries are; a zero where there is none."""
+    return [(block.stamp - wide) % TURN for _, _, wide in block.entries] or [0]
 
 
 class Wave:
     """Value changes in the order of time, and what the header has to know of them."""
 
     def __init__(self, body):
-        self.body, self.pulses, self.inputs = body, [], set()
-        self.first = self.now = self.stamp = self.time = None
+        self.body, self.pulses, self.inputs, self.clock = body, [], set(), Clock()
+        self.first = self.now = None
+        self.is_broken = False
 
     def go_to(self, time):
         """Value changes that follow are at this time, or now where it has passed. Pulses end after 1 ms."""
@@ -41,25 +68,24 @@ class Wave:
         self.pulses.append(name)
 
     def draw(self, block):
-        """The stamp says in which turn of the counter an entry stands, since no entry is a turn older than it."""
-        ages = [(block.stamp - wide) % TURN for _, _, wide in block.entries] or [0]
-        step = (block.stamp - (self.stamp or 0)) % TURN
-        is_back = self.stamp is not None and step >= TURN // 2
-        if self.stamp is None:
-            self.time = block.stamp if ages[0] <= block.stamp else block.stamp + TURN
-            self.first, self.now = self.time - ages[0], self.time - ages[0] - 1
-        else:
-            self.time = self.now + 1 + max(ages) if is_back else self.time + step
-        self.stamp = block.stamp
-        self.go_to(self.time - ages[0])
+        """Draws the block and its entries, each at its time."""
+        ages = ages_of(block)
+        is_back = self.clock.go_on(block.stamp, ages, self.now)
+        time = self.clock.time
+        if self.first is None:
+            self.first, self.now = time - ages[0], time - ages[0] - 1
+        self.go_to(time - ages[0])
         if is_back:
             self.pulse('r')
         self.body.write(''.join('%dn%d\n' % (block.number >> bit & 1, bit) for bit in range(8)))
         if block.is_lost:
             self.pulse('g')
             self.body.write(''.join('xi%d\n' % number for number in sorted(self.inputs)))
-        for (number, state, _), age in zip(block.entries, ages):
-            self.go_to(self.time - age)
+        for place, ((number, state, _), age) in enumerate(zip(block.entries, ages)):
+            self.go_to(time - age)
+            if place == block.broken:
+                self.is_broken = True
+                self.pulse('b')
             self.body.write('%di%d\n' % (state, number))
             self.inputs.add(number)
 
@@ -67,9 +93,10 @@ class Wave:
         inputs = sorted(self.inputs)
         yield '$version fio2070 waveform $end\n$timescale 1 ms $end\n$scope module fio2070 $end\n'
         yield from ('$var wire 1 n%d block [%d] $end\n' % (bit, bit) for bit in reversed(range(8)))
-        yield '$var wire 1 g gap $end\n$var wire 1 r back $end\n'
+        yield '$var wire 1 g gap $end\n$var wire 1 r back $end\n' + '$var wire 1 b breach $end\n' * self.is_broken
         yield from ('$var wire 1 i%d input_%d $end\n' % (number, number) for number in inputs)
         yield '$upscope $end\n$enddefinitions $end\n#%d\n$dumpvars\n0g\n0r\n' % max((self.first or 0) - 1, 0)
+        yield '0b\n' * self.is_broken
         yield from ('x%s\n' % name for name in ['n%d' % bit for bit in range(8)] + ['i%d' % n for n in inputs])
         yield '$end\n'
 

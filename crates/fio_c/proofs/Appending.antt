@@ -1,7 +1,7 @@
 -- Octets that are written one after the other, where there is room for them.
 use Rattle.std.proofs.Common.{◌≡◌, ℕ, ◌+◌, ◌≤◌, List, [], ◌∷◌, ◌*◌, ◌<◌, refl, ◌++◌, length, take, drop, sym, ap, ◌∙◌, arith, length-drop}
 use Rattle.std.proofs.lemmas.List.{length-append, length-take-le, take-append-drop}
-use Rattle.hex.specs.Hex.{encode_lower, encode_with}
+use Rattle.hex.specs.Hex.{encode_with}
 use Rattle.fio_show.specs.CommandLines.{body_text}
 use Rattle.fio_show.specs.Digits.{digits_of}
 use Rattle.fio_c.specs.Written.{Appends, overwritten}
@@ -54,3 +54,18 @@ length-encoded table (octet ∷ octets) = let rest = length-encoded table octets
 pub length-digits : (octets : List ℕ) → length (digits_of octets) ≡ 2 * length octets
 unfolding digits_of
 length-digits octets = length-encoded _ octets
+
+encoded-append : (table front back : List ℕ) → encode_with table (front ++ back) ≡ encode_with table front ++ encode_with table back
+unfolding encode_with
+encoded-append table [] back = refl
+encoded-append table (octet ∷ front) back = rw (encoded-append table front back) refl
+
+-- the digits of two parts, one after the other
+pub digits-append : (front back : List ℕ) → digits_of (front ++ back) ≡ digits_of front ++ digits_of back
+unfolding digits_of
+digits-append front back = encoded-append _ front back
+
+-- an empty body has no digits
+pub digits-none : digits_of [] ≡ []
+unfolding digits_of encode_with
+digits-none = refl

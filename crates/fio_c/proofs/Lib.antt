@@ -4,3 +4,5 @@ pub mod Needs
 pub mod Overwriting
 pub mod Replies
 pub mod Checkers
+pub mod Calls
+mod Errors

@@ -1,13 +1,12 @@
 -- What a decoder needs in place of octets of a wrong length fits in a frame.
-use Rattle.std.proofs.Common.{◌≡◌, ℕ, ◌+◌, ◌*◌, ◌<◌, ◌≤◌, Bool, true, false, if◌then◌else◌, List, [], ◌∷◌, length, Option, Some, None, Result, Ok, Err, ap, arith}
+use Rattle.std.proofs.Common.{◌≡◌, ℕ, ◌+◌, ◌*◌, ◌<◌, ◌≤◌, Bool, true, false, if◌then◌else◌, List, [], ◌∷◌, length, Option, Some, None, Err, arith}
 use Rattle.std.specs.Prelude.{◌==◌, slice_index_or}
-use Rattle.fio_message.specs.declared.answers.Answer.{Answer}
 use Rattle.fio_message.specs.declared.faults.DecodeError.{DecodeError}
 use Rattle.fio_message.specs.declared.faults.DecodeError.TheVariants.{Empty, TooLong, UnknownType, WrongLength}
 use Rattle.fio_message.specs.Octets.{IsOctets}
 use Rattle.fio_message.specs.Commands.{command_length}
 use Rattle.fio_message.specs.Answers.{answer_length, block_length}
-use Rattle.fio_message.specs.Decoding.{answer_type_of, decoded_answer}
+use Rattle.fio_message.specs.Decoding.{decoded_answer}
 use Rattle.fio_message.specs.Reading.{answer_at}
 use Rattle.fio_message.specs.Refusals.{Refuses}
 use Rattle.fio_message.proofs.DecodingLaws.{refused-decoded}
@@ -96,14 +95,7 @@ pub block-need_fits : (octets : List ℕ) → IsOctets octets → (error : Decod
 block-need_fits octets are error refuses =
     need_fits (block_length octets) octets error (block-within octets are) refuses
 
--- an answer that has no type has a fault
-no_type : (decoded : Result Answer DecodeError) (error : DecodeError)
-    → answer_type_of decoded ≡ Err error → decoded ≡ Err error
-no_type (Ok answer) error is = absurd (cc is)
-no_type (Err other) error is = let same : other ≡ error = cc is in ap Err same
-
-pub type-need_fits : (octets : List ℕ) → IsOctets octets → (error : DecodeError)
-    → answer_type_of (decoded_answer octets) ≡ Err error → NeedFitsFrame error
-type-need_fits octets are error is =
-    answer-need_fits octets are error
-    (refused-decoded answer_length answer_at octets error (no_type (decoded_answer octets) error is))
+pub decoded-need_fits : (octets : List ℕ) → IsOctets octets → (error : DecodeError)
+    → decoded_answer octets ≡ Err error → NeedFitsFrame error
+decoded-need_fits octets are error is =
+    answer-need_fits octets are error (refused-decoded answer_length answer_at octets error is)

@@ -4,10 +4,14 @@ use Rattle.fio_message.specs.Bits.{bit_of}
 use Rattle.fio_check.specs.declared.checker.Breach.{Breach as BreachOf}
 use Rattle.fio_check.specs.declared.checker.Checker.{Checker as CheckerOf}
 use Rattle.fio_check.specs.declared.checker.Due.{Due}
+use Rattle.fio_check.specs.declared.content.ContentBreach.{ContentBreach as ContentBreachOf}
+use Rattle.fio_check.specs.declared.content_rules.ContentRule.{ContentRule}
+use Rattle.fio_check.specs.declared.content_rules.ContentRule.TheVariants as content_rules
 use Rattle.fio_check.specs.declared.rules.Rule.{Rule}
 use Rattle.fio_check.specs.declared.rules.Rule.TheVariants as rules
 use Rattle.fio_c.specs.declared.checker.Breach.{Breach}
 use Rattle.fio_c.specs.declared.checker.Checker.{Checker}
+use Rattle.fio_c.specs.declared.content.ContentBreach.{ContentBreach}
 
 -- a number that there may be
 abbrev pub octet_in : ℕ → ℕ → Option ℕ
@@ -72,3 +76,15 @@ with_due rule (Some due) = record { rule = rule; has_due = 1; due = due.due; got
 abbrev pub flat_breach : Option BreachOf → Breach
 flat_breach None = record { rule = 0; has_due = 0; due = 0; got = 0 }
 flat_breach (Some breach) = with_due (rule_number breach.rule) breach.due
+
+-- the place of a rule on content in the order in which they are tried, from 1
+abbrev pub content_rule_number : ContentRule → ℕ
+content_rule_number content_rules.Order = 1
+content_rule_number content_rules.Alternate = 2
+content_rule_number content_rules.Apart = 3
+
+-- a breach of a rule on content as C sees it, with its numbers 0 where there is none
+abbrev pub flat_content_breach : Option ContentBreachOf → ContentBreach
+flat_content_breach None = record { rule = 0; entry = 0; input = 0 }
+flat_content_breach (Some breach) =
+    record { rule = content_rule_number breach.rule; entry = breach.entry; input = breach.input }

@@ -1,21 +1,18 @@
 -- Messages and their parts as C sees them: numbers side by side, those that a message lacks 0.
-use Rattle.std.specs.Prelude.{ℕ, ◌==◌, ◌&&◌, nat_le, nat_lt, Bool, not, List, [], ◌∷◌, length, map, Option, Some, None, if◌then◌else◌, replicate}
+use Rattle.std.specs.Prelude.{ℕ, ◌==◌, ◌&&◌, nat_le, nat_lt, Bool, not, List, [], ◌∷◌, length, map, Option, Some, replicate}
 use Rattle.std.specs.List.{list_all, position}
 use Rattle.fio_message.specs.Bits.{bit_of}
 use Rattle.fio_message.specs.Blocks.{Block as BlockOf}
 use Rattle.fio_message.specs.Commands.{command_code}
 use Rattle.fio_message.specs.Answers.{answer_code}
+use Rattle.fio_message.specs.declared.fields.TheConstants.{INPUT_NUMBERS}
 use Rattle.fio_message.specs.declared.limits.TheConstants.{BLOCK_ENTRIES, CONFIGURATION_ITEMS, INPUTS}
 use Rattle.fio_message.specs.declared.fields.Entry.{Entry as EntryOf}
 use Rattle.fio_message.specs.declared.fields.InputItem.{InputItem}
 use Rattle.fio_message.specs.declared.commands.Command.{Command as CommandOf}
 use Rattle.fio_message.specs.declared.commands.Command.TheVariants as commands
-use Rattle.fio_message.specs.declared.commands.OtherCommand.{OtherCommand}
-use Rattle.fio_message.specs.declared.commands.OtherCommand.TheVariants as other_commands
 use Rattle.fio_message.specs.declared.answers.Answer.{Answer as AnswerOf}
 use Rattle.fio_message.specs.declared.answers.Answer.TheVariants as answers
-use Rattle.fio_message.specs.declared.answers.OtherAnswer.{OtherAnswer}
-use Rattle.fio_message.specs.declared.answers.OtherAnswer.TheVariants as other_answers
 use Rattle.fio_c.specs.declared.blocks.BlockHeader.{BlockHeader}
 use Rattle.fio_c.specs.declared.blocks.Entry.{Entry}
 use Rattle.fio_c.specs.declared.commands.ConfigurationItem.{ConfigurationItem}
@@ -107,7 +104,7 @@ read_items items = map read_item items
 
 -- a message can name an input below 128
 abbrev pub can_be_named : ℕ → Bool
-can_be_named input = nat_lt input 128
+can_be_named input = nat_lt input INPUT_NUMBERS
 
 -- the items of a configuration: at most 255, each of them of an input below 128
 abbrev pub are_items : List ConfigurationItem → Bool
@@ -121,13 +118,6 @@ first_absent items = position (λ item. nat_le INPUTS item.input) items
 -- what became of a configuration: its kind, and the place of an item
 abbrev pub outcome : ℕ → ℕ → Configured
 outcome kind place = record { kind = kind; reserved = replicate 7 0; place = place }
-
--- which command of this type has a body only
-abbrev pub kind_of_command : ℕ → Option OtherCommand
-kind_of_command code =
-    if code == 56 then Some other_commands.TrackInputs
-    else (if code == 57 then Some other_commands.ComplexOutputs
-    else (if code == 59 then Some other_commands.ControllerId else None))
 
 -- an answer of which its type alone is known
 abbrev pub answer_of_type : ℕ → Answer
@@ -185,12 +175,3 @@ read_entries entries = map read_entry entries
 abbrev pub are_entries : List Entry → Bool
 are_entries entries =
     nat_le (length entries) BLOCK_ENTRIES && list_all (λ entry. can_be_named entry.input) entries
-
--- which answer of this type has a body only
-abbrev pub kind_of_answer : ℕ → Option OtherAnswer
-kind_of_answer code =
-    if code == 183 then Some other_answers.SetOutputs
-    else (if code == 184 then Some other_answers.TrackInputs
-    else (if code == 185 then Some other_answers.ComplexOutputs
-    else (if code == 187 then Some other_answers.ControllerId
-    else (if code == 188 then Some other_answers.Identify else None))))

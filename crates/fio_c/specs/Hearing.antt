@@ -1,13 +1,13 @@
 -- What the poller of a caller in C makes of octets.
-use Rattle.std.specs.Prelude.{◌≡◌, ℕ, ◌<◌, ◌≤◌, List, [], ◌++◌, length, map, drop, Option, replicate}
+use Rattle.std.specs.Prelude.{◌≡◌, ℕ, ◌<◌, ◌≤◌, List, ◌++◌, length, map, drop, replicate}
+use Rattle.std.specs.Borrow.{MutBor}
 use Rattle.fio_message.specs.Bits.{bit_of}
-use Rattle.fio_message.specs.Blocks.{Block}
 use Rattle.fio_message.specs.Decoding.{decoded_answer, block_in}
 use Rattle.fio_cpu.specs.declared.poller.Heard.{Heard as HeardOf}
 use Rattle.fio_cpu.specs.declared.poller.Heard.TheVariants as outcomes
 use Rattle.fio_cpu.specs.declared.record.Item.{Item}
 use Rattle.fio_cpu.specs.declared.record.Item.TheVariants as items
-use Rattle.fio_cpu.specs.Hearing.{heard_as, after_hearing}
+use Rattle.fio_cpu.specs.Hearing.{added, heard_as, next_number}
 use Rattle.fio_c.specs.Faults.{no_fault, fault_of}
 use Rattle.fio_c.specs.declared.poller.Heard.{Heard}
 use Rattle.fio_c.specs.declared.poller.RecordItem.{RecordItem}
@@ -51,25 +51,25 @@ flat_heard count (outcomes.Stale block) = record (heard_nothing count) { kind = 
 abbrev pub heard_no_room : ℕ → Heard
 heard_no_room count = record (heard_nothing count) { kind = 4 }
 
--- A poller with this number, which finds a block in octets or none, and hears this: what it adds to
--- its record is written to the front of the caller's items, and its number is the next if a block
--- was taken. Where there is no room for all of what it adds, that is heard, and nothing changes.
-pub record HearsFound (number : ℕ) (found : Option Block) (heard_of : HeardOf)
-    (before after : List RecordItem) (next : ℕ) (heard : Heard) : Type 0 where
+-- the caller's places after items were written to their front, for which there was room
+pub record Gain (before : MutBor (List RecordItem)) (items : List Item)
+    (after : MutBor (List RecordItem)) : Type 0 where
+  pub same : after.ghost_name ≡ before.ghost_name
+  pub room : length items ≤ length before.now
+  pub written : after.now ≡ map flat_record_item items ++ drop (length items) before.now
+
+-- A poller with this number hears octets: what it adds to its record is written to the front of the
+-- caller's items, and its number is the next if a block was taken. Where there is no room for all of
+-- what it adds, that is heard, and nothing changes.
+pub record Hears (number : ℕ) (octets : List ℕ) (before after : List RecordItem)
+    (next : ℕ) (heard : Heard) : Type 0 where
   pub room :
-      let polling = after_hearing (record { number = number; items = [] }) found in
-      let count = length polling.items in
-      count ≤ length before →
-      (heard ≡ flat_heard count heard_of)
-      × (next ≡ polling.number)
-      × (after ≡ map flat_record_item polling.items ++ drop count before)
+      let items = added number (block_in octets) in
+      length items ≤ length before →
+      (heard ≡ flat_heard (length items) (heard_as number (decoded_answer octets)))
+      × (next ≡ next_number number (block_in octets))
+      × (after ≡ map flat_record_item items ++ drop (length items) before)
   pub no_room :
-      let count = length (after_hearing (record { number = number; items = [] }) found).items in
+      let count = length (added number (block_in octets)) in
       length before < count →
       (heard ≡ heard_no_room count) × (next ≡ number) × (after ≡ before)
-
--- the same of the octets that it hears
-abbrev pub Hears : ℕ → List ℕ → List RecordItem → List RecordItem → ℕ → Heard → Type 0
-Hears number octets before after next heard =
-    HearsFound number (block_in octets) (heard_as number (decoded_answer octets))
-    before after next heard

@@ -4,4 +4,5 @@ pub mod Flat
 pub mod Hearing
 pub mod Checkers
 pub mod Module
+pub mod Calls
 pub mod Version

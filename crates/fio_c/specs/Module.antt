@@ -1,13 +1,50 @@
 -- Which history a module in memory of the caller stands for.
-use Rattle.std.specs.Prelude.{ℕ, List, ◌∷◌, replicate}
+use Rattle.std.specs.Prelude.{◌≡◌, ℕ, List, [], ◌∷◌, replicate, Option, Some}
+use Rattle.fio_message.specs.declared.answers.Answer.{Answer}
+use Rattle.fio_message.specs.declared.answers.Answer.TheVariants as answers
 use Rattle.fio_message.specs.declared.commands.Command.{Command}
 use Rattle.fio_module.specs.Settings.{Settings}
-use Rattle.fio_module.specs.Life.{History, Life, Commanded}
+use Rattle.fio_module.specs.Life as lives
+use Rattle.fio_module.specs.Life.{Life, Commanded, Restart, life_of}
 use Rattle.fio_module.specs.Rings.{empty_ring, held_in}
-use Rattle.fio_module.specs.Replies.{answer_to}
+use Rattle.fio_module.specs.Replies.{answer_to, reply_to}
 use Rattle.fio_module.specs.State.{IsAfter, IsAfterHistory, state_at_start}
 use Rattle.fio_c.specs.Written.{WritesAnswer}
+use Rattle.fio_c.specs.declared.module.ErrorCounts.{ErrorCounts}
 use Rattle.fio_c.specs.declared.module.Module.{Module}
+
+-- what happens to a module of C: something reaches it, or its firmware sets the error counts
+pub data Event : Type 0 where
+  Reached : (event : lives.Event) → Event
+  ErrorsSet : (receive transmit : ℕ) → Event
+
+-- all that has happened to it since it was started, newest first
+abbrev pub History : Type 0
+History = List Event
+
+-- what has reached it
+abbrev pub reached : History → lives.History
+reached [] = []
+reached (Reached event ∷ history) = event ∷ reached history
+reached (ErrorsSet receive transmit ∷ history) = reached history
+
+-- the error counts: those that the firmware set last, 0 before; a restart clears them
+abbrev pub errors_of : History → ErrorCounts
+errors_of [] = record { receive = 0; transmit = 0 }
+errors_of (ErrorsSet receive transmit ∷ history) = record { receive = receive; transmit = transmit }
+errors_of (Reached Restart ∷ history) = record { receive = 0; transmit = 0 }
+errors_of (Reached other ∷ history) = errors_of history
+
+-- an answer 177 with these error counts, any other as it is
+abbrev pub with_errors : ErrorCounts → Option Answer → Option Answer
+with_errors errors (Some (answers.Status flags receive transmit stamp)) =
+    Some (answers.Status flags errors.receive errors.transmit stamp)
+with_errors errors other = other
+
+-- the reply to octets after a history: that of the module, with the error counts
+abbrev pub reply_after : Settings → History → List ℕ → Option Answer
+reply_after settings history octets =
+    with_errors (errors_of history) (reply_to settings (reached history) octets)
 
 -- what a module is made with: 1,024 entries may wait, as TEES 2009 has it
 abbrev pub settings_of : ℕ → ℕ → Settings
@@ -18,18 +55,34 @@ abbrev pub module_at_start : ℕ → ℕ → Module
 module_at_start id per_block = record {
   state = state_at_start id per_block;
   waiting = empty_ring;
-  reserved = replicate 4 0;
+  errors = errors_of [];
+  reserved = replicate 2 0;
 }
 
 -- the module was started with these settings, and has been through this history since
-abbrev pub IsModuleAfter : Settings → Module → History → Type 0
-IsModuleAfter settings value history =
-    IsAfterHistory settings value.state (held_in value.waiting) history
+pub record IsModuleAfter (settings : Settings) (value : Module) (history : History) : Type 0 where
+  pub state : IsAfterHistory settings value.state (held_in value.waiting) (reached history)
+  pub errors : value.errors ≡ errors_of history
 
--- After a command the module has had it too, and the answer to it is written. A private step cites
--- it: the exports speak of histories.
-abbrev pub Commands : Module → Module → Command → List ℕ → List ℕ → ℕ → Type 0
-Commands old new command before after count =
-    (settings : Settings) (life : Life) → IsAfter settings old.state (held_in old.waiting) life →
-    IsAfter settings new.state (held_in new.waiting) (Commanded command ∷ life)
-    × WritesAnswer (answer_to settings life command) before after count
+-- after a call the module has had one event more, whatever it has been through
+abbrev pub HasHad : Event → Module → Module → Type 0
+HasHad event old new = (settings : Settings) (history : History)
+    → IsModuleAfter settings old history → IsModuleAfter settings new (event ∷ history)
+
+-- the reply to a frame is written, whatever the module has been through
+abbrev pub Replies : List ℕ → Module → List ℕ → List ℕ → ℕ → Type 0
+Replies octets old before after count = (settings : Settings) (history : History)
+    → IsModuleAfter settings old history
+    → WritesAnswer (reply_after settings history octets) before after count
+
+-- After a command the module has had it too, with the error counts of before, and the answer to it is
+-- written. A private step cites it: the exports speak of histories.
+pub record Commands (old new : Module) (command : Command) (before after : List ℕ) (count : ℕ)
+    : Type 0 where
+  pub stands :
+      (settings : Settings) (life : Life) → IsAfter settings old.state (held_in old.waiting) life
+      → IsAfter settings new.state (held_in new.waiting) (Commanded command ∷ life)
+  pub errors : new.errors ≡ old.errors
+  pub reply :
+      (settings : Settings) (life : Life) → IsAfter settings old.state (held_in old.waiting) life
+      → WritesAnswer (with_errors old.errors (answer_to settings life command)) before after count

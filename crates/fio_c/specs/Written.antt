@@ -3,13 +3,13 @@ use Rattle.std.specs.Prelude.{◌≡◌, ◌<◌, ◌≤◌, ℕ, List, ◌+◌,
 use Rattle.fio_message.specs.declared.answers.Answer.{Answer}
 use Rattle.fio_message.specs.Answers.{answer_octets}
 
--- Octets are written to the front of the buffer, and the count is how many they are. Where the
--- buffer is shorter nothing is written, and the count is 0.
-pub record Writes (octets before after : List ℕ) (count : ℕ) : Type 0 where
+-- Octets, entries or items are written to the front of the array, and the count is how many they
+-- are. Where the array is shorter nothing is written, and the count is 0.
+pub record Writes {T : Type 0} (items before after : List T) (count : ℕ) : Type 0 where
   pub room :
-      length octets ≤ length before
-      → (count ≡ length octets) × (after ≡ octets ++ drop (length octets) before)
-  pub no_room : length before < length octets → (count ≡ 0) × (after ≡ before)
+      length items ≤ length before
+      → (count ≡ length items) × (after ≡ items ++ drop (length items) before)
+  pub no_room : length before < length items → (count ≡ 0) × (after ≡ before)
 
 -- the buffer with these octets in it from the place on
 abbrev pub overwritten : ℕ → List ℕ → List ℕ → List ℕ
@@ -32,10 +32,3 @@ abbrev pub WritesAnswer : Option Answer → List ℕ → List ℕ → ℕ → Ty
 WritesAnswer None before after count = WritesNothing before after count
 WritesAnswer (Some answer) before after count =
     Writes (answer_octets answer) before after count
-
--- A list is copied to the front of the array, and the count is its length. Where the array is
--- shorter nothing is copied, and the count is the length all the same.
-pub record Copies {T : Type 0} (items before after : List T) (count : ℕ) : Type 0 where
-  pub counted : count ≡ length items
-  pub room : length items ≤ length before → after ≡ items ++ drop (length items) before
-  pub no_room : length before < length items → after ≡ before

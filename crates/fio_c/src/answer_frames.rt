@@ -1,20 +1,21 @@
 //! Answers, written into a buffer of the caller.
-ghost use Rattle.std.specs.Prelude.{◌≡◌, ◌<◌, ◌≤◌, ◌+◌, ◌*◌, length, Some, None, true, false};
+ghost use Rattle.std.specs.Prelude.{◌≡◌, ◌<◌, ◌≤◌, ◌+◌, ◌*◌, ℕ, List, length, Some, None, true, false};
 ghost use Rattle.std.specs.List.{flat_map, list_all};
+ghost use Rattle.fio_message.specs.declared.fields.TheConstants.{INPUT_NUMBERS};
 ghost use Rattle.fio_message.specs.declared.limits.TheConstants.{BODY_OCTETS};
-ghost use Rattle.fio_message.specs.Answers.{answer_octets};
+ghost use Rattle.fio_message.specs.Answers.{answer_octets, other_answer_of};
 ghost use Rattle.fio_message.specs.Octets.{entry_octets};
 ghost use Rattle.fio_message.specs.declared.answers.Answer.TheVariants as answers;
 ghost use Rattle.fio_message.specs.declared.answers.OtherAnswer.{OtherAnswer as Kind};
-ghost use Rattle.fio_c.specs.Flat.{are_entries, can_be_named, read_entry, read_entries, kind_of_answer};
+ghost use Rattle.fio_c.specs.Flat.{are_entries, can_be_named, read_entry, read_entries};
 ghost use Rattle.fio_c.specs.Written.{Writes, WritesNothing, overwritten};
 
 use crate::blocks::Entry;
-use crate::written::{write_at, write_front, write_with_body};
-use fio_message::{Answer, BLOCK_ENTRIES, EntryOctets, InputNumber, OtherAnswer, encode_answer};
-
-/// The type of a block answer (TEES 2009).
-const BLOCK: u8 = 182;
+use crate::written::{length_with_body, write_at, write_front, write_with_body};
+use fio_message::{
+    Answer, BLOCK_ENTRIES, EntryOctets, INPUT_NUMBERS, InputNumber, OtherAnswer, before_entries,
+    encode_answer, status_and_stamp,
+};
 
 /// Writes an answer, and returns how many octets it has: 0 where there is no room. Inlined, so that no
 /// answer and no frame is made where the type is known.
@@ -89,6 +90,7 @@ pub extern "C" fn fio2070_encode_filtered_inputs_answer(
 
 /// Writes a block answer (TEES 2009, answer 182). Returns how many octets it has: 0 where there is
 /// no room, where there are more than 255 entries, and where one names an input above 127.
+/// `fio2070_encode_block_answer_length` tells these apart.
 #[unsafe(no_mangle)]
 pub extern "C" fn fio2070_encode_block_answer(
     block: u8,
@@ -110,11 +112,26 @@ pub extern "C" fn fio2070_encode_block_answer(
     if out.len() < length {
         return 0;
     }
-    let [a, b, c, d] = stamp.to_be_bytes();
-    write_at(0, &[BLOCK, block, entries.len() as u8], out);
+    write_at(0, &before_entries(block, entries.len() as u8), out);
     write_entries(entries, 3, out);
-    write_at(length - 5, &[status, a, b, c, d], out);
+    write_at(length - 5, &status_and_stamp(status, stamp), out);
     length
+}
+
+/// How many octets the block answer with these entries has (TEES 2009, answer 182): 0 where there are
+/// more than 255 entries, and where one names an input above 127, since no message has these.
+#[unsafe(no_mangle)]
+pub extern "C" fn fio2070_encode_block_answer_length(entries: &[Entry]) -> usize
+    ensures written { (block status stamp : ℕ) → are_entries entries.now ≡ true
+        → result ≡ length (answer_octets
+        (answers.Block block (record { items = read_entries entries.now }) status stamp)) }
+    ensures refused { are_entries entries.now ≡ false → result ≡ 0 }
+{
+    if are_entries(entries) {
+        8 + 3 * entries.len()
+    } else {
+        0
+    }
 }
 
 /// Whether these are the entries of a block: no more than there may be, each of an input below 128.
@@ -131,7 +148,7 @@ fn are_named(entries: &[Entry]) -> bool
 {
     let mut named = true;
     for entry in entries {
-        named = named & (entry.input < 128);
+        named = named & (entry.input < INPUT_NUMBERS);
     }
     named
 }
@@ -151,7 +168,7 @@ fn write_entries(entries: &[Entry], from: usize, out: &mut [u8])
 
 /// The octets of an entry.
 fn octets_of(entry: &Entry) -> EntryOctets
-    requires { entry.now.input < 128 }
+    requires { entry.now.input < INPUT_NUMBERS }
     ensures { result ≡ entry_octets (read_entry entry.now) }
 {
     match InputNumber::new(entry.input) {
@@ -176,31 +193,33 @@ pub extern "C" fn fio2070_encode_watchdog_answer(status: u8, out: &mut [u8]) -> 
 
 /// Writes an answer of type 183, 184, 185, 187 or 188 with the octets after its type (TEES 2009).
 /// Returns how many octets it has: 0 where there is no room, for any other type, and for more than
-/// 772 octets.
+/// 772 octets. `fio2070_encode_other_answer_length` tells these apart.
 #[unsafe(no_mangle)]
 pub extern "C" fn fio2070_encode_other_answer(code: u8, body: &[u8], out: &mut [u8]) -> usize
-    ensures written { (kind : Kind) → kind_of_answer code ≡ Some kind → length body.now ≤ BODY_OCTETS
+    ensures written { (kind : Kind) → other_answer_of code ≡ Some kind → length body.now ≤ BODY_OCTETS
         → Writes (answer_octets (answers.Other kind (record { items = body.now })))
         out.old out.new result }
-    ensures unknown { kind_of_answer code ≡ None → WritesNothing out.old out.new result }
+    ensures unknown { other_answer_of code ≡ None → WritesNothing out.old out.new result }
     ensures long { BODY_OCTETS < length body.now → WritesNothing out.old out.new result }
 {
-    match kind_of(code) {
+    match OtherAnswer::of_type(code) {
         Some(kind) => write_with_body(kind.code(), body, out),
         None => 0,
     }
 }
 
-/// Which answer of this type has a body only.
-fn kind_of(code: u8) -> Option<OtherAnswer>
-    ensures { result ≡ kind_of_answer code }
+/// How many octets an answer of type 183, 184, 185, 187 or 188 has with so many octets after its type
+/// (TEES 2009): 0 for any other type, and for more than 772 octets, since no message has these.
+#[unsafe(no_mangle)]
+pub extern "C" fn fio2070_encode_other_answer_length(code: u8, count: usize) -> usize
+    ensures written { (kind : Kind) (body : List ℕ) → other_answer_of code ≡ Some kind
+        → length body ≡ count → count ≤ BODY_OCTETS
+        → result ≡ length (answer_octets (answers.Other kind (record { items = body }))) }
+    ensures unknown { other_answer_of code ≡ None → result ≡ 0 }
+    ensures long { BODY_OCTETS < count → result ≡ 0 }
 {
-    match code {
-        183 => Some(OtherAnswer::SetOutputs),
-        184 => Some(OtherAnswer::TrackInputs),
-        185 => Some(OtherAnswer::ComplexOutputs),
-        187 => Some(OtherAnswer::ControllerId),
-        188 => Some(OtherAnswer::Identify),
-        _ => None,
+    match OtherAnswer::of_type(code) {
+        Some(_) => length_with_body(count),
+        None => 0,
     }
 }

@@ -1,11 +1,12 @@
 //! Answers, read into a struct of the caller.
 ghost use Rattle.std.specs.Prelude.{◌≡◌};
 ghost use Rattle.fio_message.specs.Decoding.{decoded_answer};
+ghost use Rattle.fio_message.specs.Views.{answer_of};
 ghost use Rattle.fio_c.specs.Faults.{Reads};
 ghost use Rattle.fio_c.specs.Flat.{answer_of_type, flat_answer};
 
 use crate::faults::{Fault, NO_FAULT, fault_from};
-use fio_message::decode_answer;
+use fio_message::{AnswerView, read_answer};
 
 /// An answer of the module: the fields of its type, the others 0.
 #[derive(Clone, Copy)]
@@ -56,42 +57,41 @@ const fn answer_of_type(code: u8) -> Answer
 }
 
 /// An answer in its flat form.
-fn flat_answer(answer: &fio_message::Answer) -> Answer
-    ensures { result ≡ flat_answer answer.now }
+fn flat_answer(answer: AnswerView<'_>) -> Answer
+    ensures { result ≡ flat_answer (answer_of answer.entry) }
 {
     let mut flat = answer_of_type(answer.code());
     match answer {
-        fio_message::Answer::Status {
+        AnswerView::Status {
             flags,
             receive_errors,
             transmit_errors,
             stamp,
         } => {
-            flat.flags = *flags;
-            flat.receive_errors = *receive_errors;
-            flat.transmit_errors = *transmit_errors;
-            flat.stamp = *stamp;
+            flat.flags = flags;
+            flat.receive_errors = receive_errors;
+            flat.transmit_errors = transmit_errors;
+            flat.stamp = stamp;
         }
-        fio_message::Answer::LoadCounter { status }
-        | fio_message::Answer::ConfigureInputs { status }
-        | fio_message::Answer::Watchdog { status } => flat.status = *status,
-        fio_message::Answer::RawInputs { inputs, stamp }
-        | fio_message::Answer::FilteredInputs { inputs, stamp } => {
-            flat.inputs = *inputs;
-            flat.stamp = *stamp;
+        AnswerView::LoadCounter { status }
+        | AnswerView::ConfigureInputs { status }
+        | AnswerView::Watchdog { status } => flat.status = status,
+        AnswerView::RawInputs { inputs, stamp } | AnswerView::FilteredInputs { inputs, stamp } => {
+            flat.inputs = inputs;
+            flat.stamp = stamp;
         }
-        fio_message::Answer::Block {
+        AnswerView::Block {
             block,
             entries,
             status,
             stamp,
         } => {
-            flat.block = *block;
+            flat.block = block;
             flat.count = entries.len() as u8;
-            flat.status = *status;
-            flat.stamp = *stamp;
+            flat.status = status;
+            flat.stamp = stamp;
         }
-        fio_message::Answer::Other { body, .. } => flat.body = body.len() as u16,
+        AnswerView::Other { body, .. } => flat.body = body.len() as u16,
     }
     flat
 }
@@ -102,9 +102,9 @@ fn flat_answer(answer: &fio_message::Answer) -> Answer
 pub extern "C" fn fio2070_decode_answer(octets: &[u8], answer: &mut Answer) -> Fault
     ensures { Reads flat_answer (decoded_answer octets.now) answer.old answer.new result }
 {
-    match decode_answer(octets) {
-        Ok(message) => {
-            *answer = flat_answer(&message);
+    match read_answer(octets) {
+        Ok(view) => {
+            *answer = flat_answer(view);
             NO_FAULT
         }
         Err(error) => fault_from(error),

@@ -6,7 +6,7 @@ ghost use Rattle.fio_message.specs.Refusals.{Refuses};
 ghost use Rattle.fio_message.specs.declared.faults.DecodeError.{DecodeError};
 ghost use Rattle.fio_c.specs.Faults.{ReadsBlock};
 ghost use Rattle.fio_c.specs.Flat.{flat_header, flat_entry};
-ghost use Rattle.fio_c.specs.Written.{Copies};
+ghost use Rattle.fio_c.specs.Written.{Writes};
 
 use crate::faults::{Fault, NO_FAULT, fault_from};
 use fio_message::{BlockView, read_block};
@@ -79,21 +79,22 @@ pub extern "C" fn fio2070_read_block(octets: &[u8], header: &mut BlockHeader) ->
     }
 }
 
-/// Copies the entries of a block answer where there is room for all of them, and returns how many
-/// it has: 0 where the octets are no block answer.
+/// Copies the entries of a block answer, and returns how many they are: 0 where there is no room for
+/// all of them, and where the octets are no block answer. The block's header says how many it has.
 #[unsafe(no_mangle)]
 pub extern "C" fn fio2070_block_entries(octets: &[u8], entries: &mut [Entry]) -> usize
     ensures block { (block : Block) → SpellsBlock block octets.now
-        → Copies (map flat_entry block.entries) entries.old entries.new result }
+        → Writes (map flat_entry block.entries) entries.old entries.new result }
     ensures refused { (error : DecodeError) → Refuses (block_length octets.now) octets.now error
         → (result ≡ 0) × (entries.new ≡ entries.old) }
 {
     match read_block(octets) {
         Ok(view) => {
             let count = view.len();
-            if count <= entries.len() {
-                copy_entries(&view, entries);
+            if entries.len() < count {
+                return 0;
             }
+            copy_entries(&view, entries);
             count
         }
         Err(_) => 0,

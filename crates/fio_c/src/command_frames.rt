@@ -1,23 +1,21 @@
 //! Commands, written into a buffer of the caller.
-ghost use Rattle.std.specs.Prelude.{◌≡◌, ◌<◌, ◌≤◌, ◌+◌, ◌*◌, length, Some, None, true, false, if◌then◌else◌};
+ghost use Rattle.std.specs.Prelude.{◌≡◌, ◌<◌, ◌≤◌, ◌+◌, ◌*◌, ℕ, List, length, Some, None, true, false};
 ghost use Rattle.std.specs.List.{flat_map, list_all};
+ghost use Rattle.fio_message.specs.declared.fields.TheConstants.{INPUT_NUMBERS};
 ghost use Rattle.fio_message.specs.declared.limits.TheConstants.{BODY_OCTETS};
-ghost use Rattle.fio_message.specs.Commands.{command_octets};
+ghost use Rattle.fio_message.specs.Commands.{command_octets, other_command_of};
 ghost use Rattle.fio_message.specs.Octets.{item_octets};
 ghost use Rattle.fio_message.specs.declared.commands.OtherCommand.{OtherCommand as Kind};
 ghost use Rattle.fio_message.specs.declared.commands.Command.TheVariants as commands;
-ghost use Rattle.fio_c.specs.Flat.{are_items, can_be_named, read_item, read_items, kind_of_command};
+ghost use Rattle.fio_c.specs.Flat.{are_items, can_be_named, read_item, read_items};
 ghost use Rattle.fio_c.specs.Written.{Writes, WritesNothing, overwritten};
 
 use crate::commands::ConfigurationItem;
-use crate::written::{write_at, write_front, write_with_body};
-use arrayvec::ArrayVec;
+use crate::written::{length_with_body, write_at, write_front, write_with_body};
 use fio_message::{
-    CONFIGURATION_ITEMS, Command, InputItem, InputNumber, OtherCommand, encode_command,
+    CONFIGURATION_ITEMS, Command, INPUT_NUMBERS, InputItem, InputNumber, OtherCommand,
+    before_items, encode_command,
 };
-
-/// The type of the command that configures inputs (TEES 2009).
-const CONFIGURE_INPUTS: u8 = 51;
 
 /// Writes a command, and returns how many octets it has: 0 where there is no room. Inlined, so that no
 /// command and no frame is made where the type is known.
@@ -48,7 +46,7 @@ pub extern "C" fn fio2070_encode_load_counter(load: u32, out: &mut [u8]) -> usiz
 
 /// Writes the configuration of inputs (TEES 2009, command 51). Returns how many octets it has: 0
 /// where there is no room, where there are more than 255 items, and where one names an input above
-/// 127.
+/// 127. `fio2070_encode_configure_inputs_length` tells these apart.
 #[unsafe(no_mangle)]
 pub extern "C" fn fio2070_encode_configure_inputs(
     items: &[ConfigurationItem],
@@ -66,9 +64,24 @@ pub extern "C" fn fio2070_encode_configure_inputs(
     if out.len() < length {
         return 0;
     }
-    write_at(0, &[CONFIGURE_INPUTS, items.len() as u8], out);
+    write_at(0, &before_items(items.len() as u8), out);
     write_items(items, 2, out);
     length
+}
+
+/// How many octets the configuration of these items has (TEES 2009, command 51): 0 where there are more
+/// than 255 items, and where one names an input above 127, since no message has these.
+#[unsafe(no_mangle)]
+pub extern "C" fn fio2070_encode_configure_inputs_length(items: &[ConfigurationItem]) -> usize
+    ensures written { are_items items.now ≡ true
+        → result ≡ length (command_octets (commands.ConfigureInputs (record { items = read_items items.now }))) }
+    ensures refused { are_items items.now ≡ false → result ≡ 0 }
+{
+    if are_items(items) {
+        2 + 3 * items.len()
+    } else {
+        0
+    }
 }
 
 /// Whether these are the items of a configuration: no more than there may be, each of an input below
@@ -86,7 +99,7 @@ fn are_named(items: &[ConfigurationItem]) -> bool
 {
     let mut named = true;
     for item in items {
-        named = named & (item.input < 128);
+        named = named & (item.input < INPUT_NUMBERS);
     }
     named
 }
@@ -106,31 +119,27 @@ fn write_items(items: &[ConfigurationItem], from: usize, out: &mut [u8])
 
 /// The octets of an item.
 fn octets_of(item: &ConfigurationItem) -> [u8; 3]
-    requires { item.now.input < 128 }
+    requires { item.now.input < INPUT_NUMBERS }
     ensures { result ≡ item_octets (read_item item.now) }
 {
-    let ignore = if item.ignore == 0 { 0 } else { 128 };
-    [ignore + item.input, item.leading, item.trailing]
+    read_item(item).octets()
 }
 
-/// The items of a configuration, `None` where there are too many or one names an input above 127.
-pub(crate) fn read_items(items: &[ConfigurationItem]) -> Option<ArrayVec<InputItem, 255>>
-    ensures { result
-        ≡ (if are_items items.now then Some (record { items = read_items items.now }) else None) }
+/// The item that an item of C is.
+#[inline]
+pub(crate) fn read_item(item: &ConfigurationItem) -> InputItem
+    requires { item.now.input < INPUT_NUMBERS }
+    ensures { result ≡ read_item item.now }
 {
-    if items.len() > CONFIGURATION_ITEMS {
-        return None;
-    }
-    let mut read = ArrayVec::new();
-    for item in items {
-        read.push(InputItem {
-            input: InputNumber::new(item.input)?,
+    match InputNumber::new(item.input) {
+        Some(input) => InputItem {
+            input,
             ignore: item.ignore != 0,
             leading: item.leading,
             trailing: item.trailing,
-        });
+        },
+        None => unreachable!(),
     }
-    Some(read)
 }
 
 /// Writes the request for the levels at the last scan (TEES 2009, command 52). Returns how many
@@ -198,28 +207,33 @@ pub extern "C" fn fio2070_encode_identify(out: &mut [u8]) -> usize
 
 /// Writes a command of type 56, 57 or 59 with the octets after its type (TEES 2009). Returns how
 /// many octets it has: 0 where there is no room, for any other type, and for more than 772 octets.
+/// `fio2070_encode_other_command_length` tells these apart.
 #[unsafe(no_mangle)]
 pub extern "C" fn fio2070_encode_other_command(code: u8, body: &[u8], out: &mut [u8]) -> usize
-    ensures written { (kind : Kind) → kind_of_command code ≡ Some kind → length body.now ≤ BODY_OCTETS
+    ensures written { (kind : Kind) → other_command_of code ≡ Some kind → length body.now ≤ BODY_OCTETS
         → Writes (command_octets (commands.Other kind (record { items = body.now })))
         out.old out.new result }
-    ensures unknown { kind_of_command code ≡ None → WritesNothing out.old out.new result }
+    ensures unknown { other_command_of code ≡ None → WritesNothing out.old out.new result }
     ensures long { BODY_OCTETS < length body.now → WritesNothing out.old out.new result }
 {
-    match kind_of(code) {
+    match OtherCommand::of_type(code) {
         Some(kind) => write_with_body(kind.code(), body, out),
         None => 0,
     }
 }
 
-/// Which command of this type has a body only.
-fn kind_of(code: u8) -> Option<OtherCommand>
-    ensures { result ≡ kind_of_command code }
+/// How many octets a command of type 56, 57 or 59 has with so many octets after its type (TEES 2009): 0
+/// for any other type, and for more than 772 octets, since no message has these.
+#[unsafe(no_mangle)]
+pub extern "C" fn fio2070_encode_other_command_length(code: u8, count: usize) -> usize
+    ensures written { (kind : Kind) (body : List ℕ) → other_command_of code ≡ Some kind
+        → length body ≡ count → count ≤ BODY_OCTETS
+        → result ≡ length (command_octets (commands.Other kind (record { items = body }))) }
+    ensures unknown { other_command_of code ≡ None → result ≡ 0 }
+    ensures long { BODY_OCTETS < count → result ≡ 0 }
 {
-    match code {
-        56 => Some(OtherCommand::TrackInputs),
-        57 => Some(OtherCommand::ComplexOutputs),
-        59 => Some(OtherCommand::ControllerId),
-        _ => None,
+    match OtherCommand::of_type(code) {
+        Some(_) => length_with_body(count),
+        None => 0,
     }
 }

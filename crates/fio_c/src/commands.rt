@@ -1,12 +1,13 @@
 //! Commands, read into structs of the caller.
 ghost use Rattle.std.specs.Prelude.{◌≡◌, ◌≤◌, ◌++◌, length, map, drop};
 ghost use Rattle.fio_message.specs.Decoding.{command_in, decoded_command};
+ghost use Rattle.fio_message.specs.Views.{command_of, items_of as viewed_items};
 ghost use Rattle.fio_c.specs.Faults.{Reads};
 ghost use Rattle.fio_c.specs.Flat.{command_of_type, flat_command, flat_item, items_of};
-ghost use Rattle.fio_c.specs.Written.{Copies};
+ghost use Rattle.fio_c.specs.Written.{Writes};
 
 use crate::faults::{Fault, NO_FAULT, fault_from};
-use fio_message::{InputItem, decode_command};
+use fio_message::{CommandView, InputItem, ItemsView, read_command};
 
 /// A command of the CPU: the fields of its type, the others 0.
 #[derive(Clone, Copy)]
@@ -68,27 +69,25 @@ const fn command_of_type(code: u8) -> Command
 }
 
 /// A command in its flat form.
-fn flat_command(command: &fio_message::Command) -> Command
-    ensures { result ≡ flat_command command.now }
+fn flat_command(command: CommandView<'_>) -> Command
+    ensures { result ≡ flat_command (command_of command.entry) }
 {
     let mut flat = command_of_type(command.code());
     match command {
-        fio_message::Command::Status { clear } => flat.clear = *clear,
-        fio_message::Command::LoadCounter { load } => flat.load = *load,
-        fio_message::Command::ConfigureInputs { items } => flat.count = items.len() as u8,
-        fio_message::Command::RawInputs
-        | fio_message::Command::FilteredInputs
-        | fio_message::Command::Identify => {}
-        fio_message::Command::Poll { block } => flat.block = *block,
-        fio_message::Command::SetOutputs { levels, controls } => {
+        CommandView::Status { clear } => flat.clear = clear,
+        CommandView::LoadCounter { load } => flat.load = load,
+        CommandView::ConfigureInputs { items } => flat.count = items.len() as u8,
+        CommandView::RawInputs | CommandView::FilteredInputs | CommandView::Identify => {}
+        CommandView::Poll { block } => flat.block = block,
+        CommandView::SetOutputs { levels, controls } => {
             flat = Command {
                 levels: *levels,
                 controls: *controls,
                 ..flat
             };
         }
-        fio_message::Command::Watchdog { timeout } => flat.timeout = *timeout,
-        fio_message::Command::Other { body, .. } => flat.body = body.len() as u16,
+        CommandView::Watchdog { timeout } => flat.timeout = timeout,
+        CommandView::Other { body, .. } => flat.body = body.len() as u16,
     }
     flat
 }
@@ -99,41 +98,46 @@ fn flat_command(command: &fio_message::Command) -> Command
 pub extern "C" fn fio2070_decode_command(octets: &[u8], command: &mut Command) -> Fault
     ensures { Reads flat_command (decoded_command octets.now) command.old command.new result }
 {
-    match decode_command(octets) {
-        Ok(message) => {
-            *command = flat_command(&message);
+    match read_command(octets) {
+        Ok(view) => {
+            *command = flat_command(view);
             NO_FAULT
         }
         Err(error) => fault_from(error),
     }
 }
 
-/// Copies the items of a configuration (TEES 2009, command 51) where there is room for all of them,
-/// and returns how many it has: 0 where the octets are no configuration.
+/// Copies the items of a configuration (TEES 2009, command 51), and returns how many they are: 0 where
+/// there is no room for all of them, and where the octets are no configuration. The command's `count`
+/// says how many it has.
 #[unsafe(no_mangle)]
 pub extern "C" fn fio2070_command_items(octets: &[u8], items: &mut [ConfigurationItem]) -> usize
-    ensures { Copies (map flat_item (items_of (command_in octets.now))) items.old items.new result }
+    ensures { Writes (map flat_item (items_of (command_in octets.now))) items.old items.new result }
 {
-    match decode_command(octets) {
-        Ok(fio_message::Command::ConfigureInputs { items: read }) => {
-            copy_items(read.as_slice(), items)
+    match read_command(octets) {
+        Ok(CommandView::ConfigureInputs { items: read }) => {
+            let count = read.len();
+            if count > items.len() {
+                return 0;
+            }
+            copy_items(read, items);
+            count
         }
         _ => 0,
     }
 }
 
-/// Copies these items where there is room for all of them, and returns how many they are.
-fn copy_items(read: &[InputItem], items: &mut [ConfigurationItem]) -> usize
-    ensures { Copies (map flat_item read.now) items.old items.new result }
+/// Copies these items, for which there is room.
+fn copy_items(read: ItemsView<'_>, items: &mut [ConfigurationItem])
+    requires { length (viewed_items read) ≤ length items.old }
+    ensures { items.new
+        ≡ map flat_item (viewed_items read.entry) ++ drop (length (viewed_items read.entry)) items.old }
 {
-    if read.len() <= items.len() {
-        let mut place = 0;
-        for item in read {
-            items[place] = item_of(*item);
-            place += 1;
-        }
+    let mut place = 0;
+    for item in read.iter() {
+        items[place] = item_of(item);
+        place += 1;
     }
-    read.len()
 }
 
 /// An item in its flat form.

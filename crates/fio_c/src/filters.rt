@@ -1,15 +1,16 @@
 //! The filters of the 64 inputs in memory of the caller.
-ghost use Rattle.std.specs.Prelude.{◌≡◌, ◌<◌, ◌≤◌, ℕ, List, [], ◌∷◌, Some, None, length};
+ghost use Rattle.std.specs.Prelude.{◌≡◌, ◌<◌, ◌≤◌, ℕ, true, List, [], ◌∷◌, Some, None, length};
 ghost use Rattle.fio_message.specs.declared.limits.TheConstants.{CONFIGURATION_ITEMS, INPUTS};
+ghost use Rattle.std.specs.List.{list_all};
 ghost use Rattle.fio_message.specs.Bits.{is_set};
 ghost use Rattle.fio_input.specs.FilterHistory.{FilterEvent, Configure, Scan, is_reported, input_state, raw_levels};
 ghost use Rattle.fio_input.specs.Filters.{AreFiltersAfter, filters_at_start};
-ghost use Rattle.fio_c.specs.Flat.{read_items, first_absent, outcome};
+ghost use Rattle.fio_c.specs.Flat.{can_be_named, read_items, first_absent, outcome};
 
-use crate::command_frames::read_items;
+use crate::command_frames::read_item;
 use crate::commands::ConfigurationItem;
-use fio_input::Filters;
-use fio_message::{CONFIGURATION_ITEMS, INPUTS};
+use fio_input::{Configuration, Filters};
+use fio_message::{CONFIGURATION_ITEMS, INPUTS, InputItem};
 
 /// Filters before any scan: each input is ignored, both its filters are 5, and its raw level and
 /// filtered state are 1 (own profile). Each octet of the struct is set.
@@ -33,7 +34,7 @@ pub extern "C" fn fio2070_filters_scan(filters: &mut Filters, raw: u64) -> u64
     filters.scan(raw)
 }
 
-/// The filtered state of each input: bit i is input i.
+/// As `fio_input::Filters::filtered`.
 #[unsafe(no_mangle)]
 pub extern "C" fn fio2070_filters_filtered(filters: &Filters) -> u64
     ensures { (history : List FilterEvent) → AreFiltersAfter filters.now history
@@ -42,7 +43,7 @@ pub extern "C" fn fio2070_filters_filtered(filters: &Filters) -> u64
     filters.filtered()
 }
 
-/// The raw levels of the last scan, all ones before any (own profile): bit i is input i.
+/// As `fio_input::Filters::raw`.
 #[unsafe(no_mangle)]
 pub extern "C" fn fio2070_filters_raw(filters: &Filters) -> u64
     ensures { (history : List FilterEvent) → AreFiltersAfter filters.now history
@@ -86,12 +87,28 @@ pub extern "C" fn fio2070_filters_configure(
     if let Some(place) = first_absent(items) {
         return outcome(1, place as u64);
     }
-    match read_items(items) {
-        Some(read) => {
-            let _applied = filters.configure(read.as_slice());
-            outcome(0, 0)
-        }
-        None => unreachable!(),
+    let _applied = filters.configure_from(&CallersItems { items });
+    outcome(0, 0)
+}
+
+/// Items of the caller, each of an input that a message can name.
+#[derive(Drop)]
+struct CallersItems<'a> {
+    items: &'a [ConfigurationItem],
+    ghost named: { list_all (λ item. can_be_named item.input) items.now ≡ true },
+}
+
+impl Configuration for CallersItems<'_> {
+    ghost use Rattle.fio_c.specs.Flat.{read_items as items_read};
+
+    ghost items = { λ it. items_read it.items.now };
+
+    fn len(&self) -> usize {
+        self.items.len()
+    }
+
+    fn item(&self, place: usize) -> InputItem {
+        read_item(&self.items[place])
     }
 }
 

@@ -9,8 +9,9 @@
 //! |---|---|
 //! | read a block answer in place | `fio2070_read_block`, `fio2070_block_entries` |
 //! | read any message | `fio2070_decode_command`, `fio2070_command_items`, `fio2070_decode_answer` |
-//! | write a message | `fio2070_encode_..` |
-//! | write what `show` writes of a message | `fio2070_show` |
+//! | write a message, say how long it is | `fio2070_encode_..`, `fio2070_encode_.._length` |
+//! | write what `show` writes of a message | `fio2070_show`, `fio2070_show_length` |
+//! | judge what the CPU's end sends and hears | `fio2070_checker_..`, `fio2070_content_..` |
 //! | be the CPU's end | `fio2070_poller_poll`, `fio2070_poller_hear` |
 //! | be the module | `fio2070_module_..` |
 //! | say which library it is | `fio2070_version` |
@@ -18,7 +19,8 @@
 //!
 //! The definitions stand in `specs/`: faults and what reading does (`Faults`), octets and lists in
 //! the caller's arrays (`Written`), flat forms of commands, answers and blocks (`Flat`), what a
-//! poller does (`Hearing`), which history a module stands for (`Module`), versions (`Version`).
+//! poller does (`Hearing`), which history a module stands for (`Module`), what a caller of both ends does (`Calls`),
+//! versions (`Version`).
 #![tactic(auto)]
 
 mod answer_frames;
@@ -27,9 +29,11 @@ mod blocks;
 mod checker;
 mod command_frames;
 mod commands;
+mod content;
 mod counter;
 mod faults;
 mod filters;
+pub mod laws;
 mod module;
 mod poller;
 mod show;

@@ -3,15 +3,13 @@ ghost use Rattle.std.specs.Prelude.{◌≡◌, ◌≢◌, ◌<◌, ◌-◌, ℕ,
 ghost use Rattle.fio_message.specs.declared.limits.TheConstants.{INPUTS};
 ghost use Rattle.fio_message.specs.Bits.{is_set};
 ghost use Rattle.fio_message.specs.Views.{command_of};
-ghost use Rattle.fio_input.specs.FilterHistory.{input_state};
+ghost use Rattle.fio_input.specs.FilterHistory.{input_state, raw_levels};
 ghost use Rattle.fio_module.specs.Settings.{Settings};
-ghost use Rattle.fio_module.specs.Life.{History, Scan, LineSync, Raise, Received, Restart, life_of, counter_of, filter_events};
+ghost use Rattle.fio_module.specs.Life.{Scan, LineSync, Raise, Received, Restart, life_of, counter_of, filter_events};
 ghost use Rattle.fio_module.specs.Log.{log_of};
 ghost use Rattle.fio_module.specs.Blocks.{newest_end};
-ghost use Rattle.fio_module.specs.Flags.{watchdog_of, outputs_of};
-ghost use Rattle.fio_module.specs.Replies.{reply_to};
-ghost use Rattle.fio_c.specs.Module.{Commands, IsModuleAfter, module_at_start, settings_of};
-ghost use Rattle.fio_c.specs.Written.{WritesAnswer};
+ghost use Rattle.fio_module.specs.Flags.{flags_of, watchdog_of, outputs_of};
+ghost use Rattle.fio_c.specs.Module.{Commands, ErrorsSet, HasHad, History, IsModuleAfter, Reached, Replies, errors_of, module_at_start, reached, settings_of};
 
 use crate::written::write_front;
 use fio_message::{CommandView, FRAME_OCTETS, Frame, read_command};
@@ -27,9 +25,27 @@ const WAITING: u16 = 1024;
 pub struct Module {
     state: ModuleState,
     waiting: ArrayRing,
+    /// What the answer 177 has.
+    errors: ErrorCounts,
     /// It makes the module as long as so many words of 64 bits.
-    reserved: [u8; 4],
+    reserved: [u8; 2],
 }
+
+/// How many errors the firmware counted, as the answer 177 has them.
+#[derive(Clone, Copy)]
+#[repr(C)]
+pub struct ErrorCounts {
+    /// In receiving.
+    pub receive: u8,
+    /// In transmitting.
+    pub transmit: u8,
+}
+
+/// The error counts at the start, and after a restart (own profile).
+const NO_ERRORS: ErrorCounts = ErrorCounts {
+    receive: 0,
+    transmit: 0,
+};
 
 /// Starts a module that answers `id` where it is asked for its identification (own profile: one
 /// octet), and whose blocks have at most `per_block` entries, 1 to 255 (TEES 2009: 255). Each octet
@@ -46,7 +62,8 @@ pub extern "C" fn fio2070_module_start(device: &mut Module, id: u8, per_block: u
             *device = Module {
                 state: ModuleState::new(id, limits),
                 waiting: ArrayRing::new(),
-                reserved: [0; 4],
+                errors: NO_ERRORS,
+                reserved: [0; 2],
             };
             0
         }
@@ -55,15 +72,14 @@ pub extern "C" fn fio2070_module_start(device: &mut Module, id: u8, per_block: u
 }
 
 /// Starts anew: all but the identification and the entries of a block is as it was started. The
-/// flags are P alone, the counter is 0, and the waiting entries and the block that was sent last are
-/// lost (own profile).
+/// flags are P alone, the counter and the error counts are 0, and the waiting entries and the block
+/// that was sent last are lost (own profile).
 #[unsafe(no_mangle)]
 pub extern "C" fn fio2070_module_restart(device: &mut Module)
-    ensures { (settings : Settings) (history : History)
-        → IsModuleAfter settings device.old history
-        → IsModuleAfter settings device.new (Restart ∷ history) }
+    ensures { HasHad (Reached Restart) device.old device.new }
 {
     device.state.restart(&mut device.waiting);
+    device.errors = NO_ERRORS;
 }
 
 /// Steps the counter by one millisecond, then takes a sample of each input (own profile: one scan a
@@ -71,32 +87,34 @@ pub extern "C" fn fio2070_module_restart(device: &mut Module)
 /// waiting entries; where 1,024 wait it pushes out the oldest one.
 #[unsafe(no_mangle)]
 pub extern "C" fn fio2070_module_scan(device: &mut Module, raw: u64)
-    ensures { (settings : Settings) (history : History)
-        → IsModuleAfter settings device.old history
-        → IsModuleAfter settings device.new (Scan raw ∷ history) }
+    ensures { HasHad (Reached (Scan raw)) device.old device.new }
 {
     device.state.scan(&mut device.waiting, raw);
 }
 
-/// LINESYNC goes from 0 to 1: a load of the counter that was asked for happens now (TEES 2009).
+/// As `fio_module::Module::line_sync`.
 #[unsafe(no_mangle)]
 pub extern "C" fn fio2070_module_line_sync(device: &mut Module)
-    ensures { (settings : Settings) (history : History)
-        → IsModuleAfter settings device.old history
-        → IsModuleAfter settings device.new (LineSync ∷ history) }
+    ensures { HasHad (Reached LineSync) device.old device.new }
 {
     device.state.line_sync();
 }
 
-/// Sets the status flags whose bits are one in `mask`: from bit 7 down P, E, K, R, T, M, L and W (own
-/// profile: their places).
+/// As `fio_module::Module::raise`.
 #[unsafe(no_mangle)]
 pub extern "C" fn fio2070_module_raise(device: &mut Module, mask: u8)
-    ensures { (settings : Settings) (history : History)
-        → IsModuleAfter settings device.old history
-        → IsModuleAfter settings device.new (Raise mask ∷ history) }
+    ensures { HasHad (Reached (Raise mask)) device.old device.new }
 {
     device.state.raise(mask);
+}
+
+/// Sets the error counts that the answer 177 has from now on: in receiving and in transmitting, 0 to 255
+/// (TEES 2009; who counts them is left out there).
+#[unsafe(no_mangle)]
+pub extern "C" fn fio2070_module_set_errors(device: &mut Module, receive: u8, transmit: u8)
+    ensures { HasHad (ErrorsSet receive transmit) device.old device.new }
+{
+    device.errors = ErrorCounts { receive, transmit };
 }
 
 /// Takes the octets of a frame, writes those of the answer to the front of `out`, and returns how
@@ -108,12 +126,8 @@ pub extern "C" fn fio2070_module_receive(
     octets: &[u8],
     out: &mut [u8; FRAME_OCTETS],
 ) -> usize
-    ensures stands { (settings : Settings) (history : History)
-        → IsModuleAfter settings device.old history
-        → IsModuleAfter settings device.new (Received octets.now ∷ history) }
-    ensures reply { (settings : Settings) (history : History)
-        → IsModuleAfter settings device.old history
-        → WritesAnswer (reply_to settings history octets.now) out.old out.new result }
+    ensures stands { HasHad (Reached (Received octets.now)) device.old device.new }
+    ensures reply { Replies octets.now device.old out.old out.new result }
 {
     match read_command(octets) {
         Ok(CommandView::Poll { block }) => {
@@ -132,19 +146,50 @@ fn obey(device: &mut Module, command: CommandView<'_>, out: &mut [u8; FRAME_OCTE
     ensures { Commands device.old device.new (command_of command.entry) out.old out.new result }
 {
     let mut frame = Frame::new();
-    if device.state.obey(&mut device.waiting, command, &mut frame) {
-        write_front(frame.as_slice(), out)
-    } else {
-        0
+    match command {
+        CommandView::Status { clear } => {
+            let ErrorCounts { receive, transmit } = device.errors;
+            device
+                .state
+                .tell_status(clear, receive, transmit, &mut frame);
+            write_front(frame.as_slice(), out)
+        }
+        other => {
+            if device.state.obey(&mut device.waiting, other, &mut frame) {
+                write_front(frame.as_slice(), out)
+            } else {
+                0
+            }
+        }
     }
 }
 
-/// What the outputs are set to, all 0 before the first command that sets them (own profile).
+/// As `fio_module::ModuleState::flags`.
+#[unsafe(no_mangle)]
+pub extern "C" fn fio2070_module_flags(device: &Module) -> u8
+    ensures { (settings : Settings) (history : History)
+        → IsModuleAfter settings device.now history
+        → result ≡ flags_of (life_of (reached history)) }
+{
+    device.state.flags()
+}
+
+/// The error counts, as the answer 177 has them.
+#[unsafe(no_mangle)]
+pub extern "C" fn fio2070_module_errors(device: &Module) -> ErrorCounts
+    ensures { (settings : Settings) (history : History)
+        → IsModuleAfter settings device.now history
+        → result ≡ errors_of history }
+{
+    device.errors
+}
+
+/// As `fio_module::Module::outputs`.
 #[unsafe(no_mangle)]
 pub extern "C" fn fio2070_module_outputs(device: &Module) -> Outputs
     ensures { (settings : Settings) (history : History)
         → IsModuleAfter settings device.now history
-        → result ≡ outputs_of (life_of history) }
+        → result ≡ outputs_of (life_of (reached history)) }
 {
     device.state.outputs()
 }
@@ -155,7 +200,7 @@ pub extern "C" fn fio2070_module_outputs(device: &Module) -> Outputs
 pub extern "C" fn fio2070_module_watchdog_ms(device: &Module) -> u8
     ensures { (settings : Settings) (history : History)
         → IsModuleAfter settings device.now history
-        → result ≡ unwrap_or (watchdog_of (life_of history)) 0 }
+        → result ≡ unwrap_or (watchdog_of (life_of (reached history))) 0 }
 {
     device.state.watchdog_ms().unwrap_or(0)
 }
@@ -165,20 +210,30 @@ pub extern "C" fn fio2070_module_watchdog_ms(device: &Module) -> u8
 pub extern "C" fn fio2070_module_counter(device: &Module) -> u32
     ensures { (settings : Settings) (history : History)
         → IsModuleAfter settings device.now history
-        → result ≡ counter_of (life_of history) }
+        → result ≡ counter_of (life_of (reached history)) }
 {
     device.state.counter()
 }
 
-/// The filtered states: bit i is input i, ignored or not.
+/// As `fio_module::Module::filtered`.
 #[unsafe(no_mangle)]
 pub extern "C" fn fio2070_module_filtered(device: &Module) -> u64
     ensures { (settings : Settings) (history : History)
         → IsModuleAfter settings device.now history
         → (input : ℕ) → input < INPUTS
-        → is_set result input ≡ input_state input (filter_events (life_of history)) }
+        → is_set result input ≡ input_state input (filter_events (life_of (reached history))) }
 {
     device.state.filtered()
+}
+
+/// As `fio_module::ModuleState::raw`.
+#[unsafe(no_mangle)]
+pub extern "C" fn fio2070_module_raw(device: &Module) -> u64
+    ensures { (settings : Settings) (history : History)
+        → IsModuleAfter settings device.now history
+        → result ≡ raw_levels (filter_events (life_of (reached history))) }
+{
+    device.state.raw()
 }
 
 /// How many entries wait for a poll, at most 1,024.
@@ -187,7 +242,7 @@ pub extern "C" fn fio2070_module_waiting(device: &Module) -> usize
     ensures { (settings : Settings) (history : History)
         → IsModuleAfter settings device.now history
         → result ≡ min settings.waiting
-        (length (log_of (life_of history)) - newest_end settings (life_of history)) }
+        (length (log_of (life_of (reached history))) - newest_end settings (life_of (reached history))) }
 {
     device.waiting.len()
 }

@@ -1,18 +1,18 @@
 //! The CPU's end, in memory of the caller.
-ghost use Rattle.std.specs.Prelude.{◌≡◌, ◌≤◌, ◌++◌, ℕ, [], Some, None, length, map, drop};
+ghost use Rattle.std.specs.Prelude.{◌≡◌, ◌<◌, ◌≤◌, ◌++◌, length, map, drop};
+ghost use Rattle.fio_message.specs.declared.faults.DecodeError.{DecodeError};
 ghost use Rattle.fio_message.specs.Commands.{command_octets};
-ghost use Rattle.fio_message.specs.Decoding.{block_in, decoded_answer};
-ghost use Rattle.fio_message.specs.Blocks.{block_answer};
 ghost use Rattle.fio_message.specs.declared.commands.Command.TheVariants as commands;
-ghost use Rattle.fio_cpu.specs.Record.{item_of, recorded};
-ghost use Rattle.fio_cpu.specs.Hearing.{heard_answer, heard_as};
-ghost use Rattle.fio_c.specs.Hearing.{Hears, HearsFound, flat_heard, flat_record_item, heard_no_room};
+ghost use Rattle.fio_cpu.specs.declared.poller.Heard.TheVariants as outcomes;
+ghost use Rattle.fio_cpu.specs.Hearing.{items_added, HasFewEntries};
+ghost use Rattle.fio_c.specs.Faults.{NeedFitsFrame};
+ghost use Rattle.fio_c.specs.Hearing.{Hears, flat_heard, flat_record_item};
 ghost use Rattle.fio_c.specs.Written.{Writes};
 
 use crate::command_frames::fio2070_encode_poll;
 use crate::faults::{Fault, NO_FAULT, fault_from};
-use fio_input::widen;
-use fio_message::{BlockStatus, BlockView, Entry, answer_type, read_block};
+use fio_cpu::{BlockItems, Item, Record, hear_frame};
+use fio_message::BlockStatus;
 
 /// The CPU's end of the link. Its record is kept by the caller.
 #[derive(Clone, Copy)]
@@ -107,115 +107,108 @@ pub extern "C" fn fio2070_poller_hear(
 ) -> Heard
     ensures { Hears poller.old.number octets.now items.old items.new poller.new.number result }
 {
-    match read_block(octets) {
-        Ok(view) => hear_block(poller, &view, items),
-        Err(_) => hear_other(octets),
-    }
-}
-
-/// Hears a block answer.
-fn hear_block(poller: &mut Poller, view: &BlockView, items: &mut [RecordItem]) -> Heard
-    ensures { HearsFound poller.old.number (Some view.now)
-        (heard_answer poller.old.number (block_answer view.now))
-        items.old items.new poller.new.number result }
-{
-    let number = view.block();
-    if number != poller.number {
-        return Heard {
-            kind: 3,
-            number,
-            ..HEARD_NOTHING
-        };
-    }
-    let count = item_count(view);
-    if items.len() < count {
-        return Heard {
+    let mut places = Places { items };
+    match hear_frame(&mut poller.number, &mut places, octets) {
+        Ok(heard) => flat_heard(heard),
+        Err(count) => Heard {
             kind: 4,
-            items: count as u16,
-            ..HEARD_NOTHING
-        };
-    }
-    record_block(view, items);
-    poller.number = number.wrapping_add(1);
-    Heard {
-        status: view.status(),
-        entries: view.len() as u8,
-        items: count as u16,
-        ..HEARD_NOTHING
-    }
-}
-
-/// Hears octets that are no block answer.
-fn hear_other(octets: &[u8]) -> Heard
-    requires { block_in octets.now ≡ None }
-    ensures { (number : ℕ) → result ≡ flat_heard 0 (heard_as number (decoded_answer octets.now)) }
-{
-    match answer_type(octets) {
-        Ok(code) => Heard {
-            kind: 2,
-            code,
+            items: count,
             ..HEARD_NOTHING
         },
-        Err(error) => Heard {
+    }
+}
+
+/// What was heard in its flat form, with as many items as it adds to the record.
+fn flat_heard(heard: fio_cpu::Heard) -> Heard
+    requires few { HasFewEntries heard }
+    requires need { (error : DecodeError) → heard ≡ outcomes.Unreadable error → NeedFitsFrame error }
+    ensures { result ≡ flat_heard (items_added heard) heard }
+{
+    match heard {
+        fio_cpu::Heard::Block { entries, status } => Heard {
+            status,
+            entries: entries as u8,
+            items: u16::from(BlockStatus::from_octet(status).lost()) + entries as u16,
+            ..HEARD_NOTHING
+        },
+        fio_cpu::Heard::Unreadable(error) => Heard {
             kind: 1,
             fault: fault_from(error),
             ..HEARD_NOTHING
         },
+        fio_cpu::Heard::Other { code } => Heard {
+            kind: 2,
+            code,
+            ..HEARD_NOTHING
+        },
+        fio_cpu::Heard::Stale { block } => Heard {
+            kind: 3,
+            number: block,
+            ..HEARD_NOTHING
+        },
     }
 }
 
-/// How many items a block adds to the record.
-fn item_count(view: &BlockView) -> usize
-    ensures count { result ≡ length (recorded view.now) }
-    ensures fits { result ≤ 256 }
-{
-    usize::from(BlockStatus::from_octet(view.status()).lost()) + view.len()
+/// The places of the caller for items of the record.
+#[derive(Drop)]
+struct Places<'a> {
+    items: &'a mut [RecordItem],
 }
 
-/// Writes what a block adds to the record, for which there is room.
-fn record_block(view: &BlockView, items: &mut [RecordItem])
-    requires { length (recorded view.now) ≤ length items.old }
-    ensures { items.new ≡ map flat_record_item (recorded view.now)
-        ++ drop (length (recorded view.now)) items.old }
-{
-    if BlockStatus::from_octet(view.status()).lost() {
-        match items.split_first_mut() {
-            Some((first, rest)) => {
-                *first = GAP;
-                record_entries(view, rest);
-            }
-            None => unreachable!(),
+impl Record for Places<'_> {
+    ghost use Rattle.fio_c.specs.Hearing.{Gain};
+    ghost use Rattle.std.proofs.Common.{rules};
+
+    /// How many items there are.
+    type NoRoom = u16;
+
+    ghost Gains = { λ before items after. Gain before.items items after.items };
+
+    ghost LacksRoom = { λ before items count.
+        (count ≡ length items) × (length before.items.now < length items) };
+
+    ghost none_gained = { Prim.search rules };
+
+    fn append(&mut self, items: &BlockItems<'_>) -> Result<(), u16> {
+        let count = items.len();
+        if self.items.len() < count {
+            return Err(count as u16);
         }
-    } else {
-        record_entries(view, items);
+        write_items(items, self.items);
+        Ok(())
     }
 }
 
-/// Writes the entries of a block as items of the record, for which there is room.
-fn record_entries(view: &BlockView, items: &mut [RecordItem])
-    requires { length view.now.entries ≤ length items.old }
-    ensures { items.new
-        ≡ map flat_record_item (map (item_of view.now.stamp) view.now.entries)
-        ++ drop (length view.now.entries) items.old }
+/// Writes items to the front of the places, of which there are enough.
+fn write_items(items: &BlockItems<'_>, places: &mut [RecordItem])
+    requires { length items.now ≤ length places.old }
+    ensures { places.new ≡ map flat_record_item items.now ++ drop (length items.now) places.old }
 {
-    let stamp = view.stamp();
     let mut place = 0;
-    for entry in view.entries() {
-        items[place] = item_of(stamp, entry);
+    for item in items.iter() {
+        places[place] = flat_item(item);
         place += 1;
     }
 }
 
-/// An entry of an answer with this stamp as an item of the record.
-fn item_of(stamp: u32, entry: Entry) -> RecordItem
-    ensures { result ≡ flat_record_item (item_of stamp entry) }
+/// An item of the record in its flat form.
+fn flat_item(item: Item) -> RecordItem
+    ensures { result ≡ flat_record_item item }
 {
-    RecordItem {
-        gap: 0,
-        input: entry.input.get(),
-        state: u8::from(entry.level),
-        reserved: [0; 3],
-        stamp: entry.stamp,
-        wide: widen(stamp, entry.stamp),
+    match item {
+        Item::Gap => GAP,
+        Item::Entry {
+            input,
+            level,
+            stamp,
+            wide,
+        } => RecordItem {
+            gap: 0,
+            input: input.get(),
+            state: u8::from(level),
+            reserved: [0; 3],
+            stamp,
+            wide,
+        },
     }
 }

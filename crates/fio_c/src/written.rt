@@ -38,6 +38,14 @@ pub(crate) fn write_with_body(code: u8, body: &[u8], out: &mut [u8]) -> usize
     }
 }
 
+/// How many octets a message has that is its type and a body of so many: 0 for more than 772.
+pub(crate) fn length_with_body(count: usize) -> usize
+    ensures fits { count ≤ BODY_OCTETS → result ≡ 1 + count }
+    ensures long { BODY_OCTETS < count → result ≡ 0 }
+{
+    if count <= BODY_OCTETS { 1 + count } else { 0 }
+}
+
 /// Writes octets from the place on, where there is room for them.
 #[inline(always)]
 pub(crate) fn write_at(place: usize, octets: &[u8], out: &mut [u8])

@@ -1,10 +1,17 @@
 -- In reading order: the lines of a transcript; what a line says to the rules; what stands above a
--- line; the rules; the verdict; the checker; the laws.
+-- line; the rules; the verdict; the poller; the checker; the laws.
 pub mod Lines
 pub mod Observations
 pub mod Places
 pub mod Facts
 pub mod Rules
 pub mod Verdicts
+pub mod Pollers
 pub mod Checkers
 pub mod Laws
+pub mod ContentEvents
+pub mod ContentAbove
+pub mod ContentRules
+pub mod ContentCheckers
+pub mod ContentKept
+pub mod ContentLaws

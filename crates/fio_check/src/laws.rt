@@ -1,7 +1,11 @@
 //! Laws of the definitions that the contracts cite: a function states one in its contract, and does
 //! nothing.
-ghost use Rattle.std.specs.Prelude.{◌≡◌, ℕ, List};
+ghost use Rattle.std.specs.Prelude.{◌≡◌, ℕ, List, option_map};
 ghost use Rattle.fio_check.specs.Checkers.{GoesOn, verdict_of_checker};
+ghost use Rattle.fio_check.specs.ContentCheckers.{entry_found, found_first, nothing_kept};
+ghost use Rattle.fio_check.specs.ContentEvents.{LineEvent};
+ghost use Rattle.fio_check.specs.ContentLaws.{KeepsContent};
+ghost use Rattle.fio_check.specs.ContentRules.{broken_entry_in};
 ghost use Rattle.fio_check.specs.Facts.{is_answering, number_polled, status_of_block};
 ghost use Rattle.fio_check.specs.Laws.{HasOneVerdict, IsTheLatest, KeepsFacts};
 ghost use Rattle.fio_check.specs.Lines.{TranscriptLine};
@@ -38,4 +42,15 @@ pub fn checkers_find_the_first_breach()
 /// Below a breach a checker goes on as one does that starts at the next poll.
 pub fn checkers_go_on()
     ensures { (lines : List TranscriptLine) → GoesOn lines }
+{}
+
+/// What a checker of the rules on content keeps event by event is what stands above the next event.
+pub fn content_is_kept()
+    ensures { (events : List LineEvent) → KeepsContent events }
+{}
+
+/// What a checker of the rules on content finds first is the first entry of the transcript's record that breaks one.
+pub fn content_checkers_find_the_broken_entry()
+    ensures { (lines : List TranscriptLine)
+        → found_first nothing_kept lines ≡ option_map entry_found (broken_entry_in lines) }
 {}

@@ -25,6 +25,9 @@
 #![tactic(auto)]
 
 mod checker;
+mod content;
+mod content_above;
+mod content_rules;
 mod facts;
 pub mod laws;
 mod line;
@@ -33,6 +36,8 @@ mod rules;
 mod verdict;
 
 pub use checker::{Breach, Checker, Due};
+pub use content::{ContentBreach, ContentChecker};
+pub use content_rules::ContentRule;
 pub use facts::Facts;
 pub use line::Line;
 pub use observation::Observation;

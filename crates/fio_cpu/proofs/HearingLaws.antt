@@ -1,54 +1,38 @@
--- What the readers of answers report of octets, as what the CPU hears in them.
-use Rattle.std.proofs.Common.{◌≡◌, ◌↔◌, ℕ, List, Option, Some, None, Result, Ok, Err, ap, refl}
-use Rattle.std.specs.Option.{ok_or}
+-- What the reader of answers reports of octets, as what the CPU hears in them.
+use Rattle.std.proofs.Common.{◌≡◌, ℕ, Bool, true, false, if◌then◌else◌, List, length, Some, Result, Ok, Err, ap, rules}
+use Rattle.std.specs.Prelude.{◌==◌}
 use Rattle.fio_message.specs.declared.answers.Answer.{Answer}
-use Rattle.fio_message.specs.declared.answers.Answer.TheVariants as answers
 use Rattle.fio_message.specs.declared.faults.DecodeError.{DecodeError}
-use Rattle.fio_message.specs.Octets.{IsOctets}
-use Rattle.fio_message.specs.Blocks.{Block, block_answer, SpellsBlock}
-use Rattle.fio_message.specs.Decoding.{answered_block, answer_type_of, decoded_answer, block_in}
-use Rattle.fio_message.proofs.MessageLaws.{answer_decoded, block_back, block_spelled}
-use Rattle.fio_cpu.specs.declared.poller.Heard.TheVariants.{Unreadable, Other}
-use Rattle.fio_cpu.specs.Hearing.{heard_answer, heard_as}
+use Rattle.fio_message.specs.declared.answers.Answer.TheVariants as answers
+use Rattle.fio_message.specs.Answers.{answer_length}
+use Rattle.fio_message.specs.Blocks.{Block, block_answer}
+use Rattle.fio_message.specs.Decoding.{answer_in, answered_block, decoded_answer, block_in, fault_in}
+use Rattle.fio_cpu.specs.declared.record.Item.{Item}
+use Rattle.fio_cpu.specs.declared.poller.Heard.TheVariants as heards
+use Rattle.fio_cpu.specs.Record.{recorded}
+use Rattle.fio_cpu.specs.Hearing.{added, heard_as}
+use Rattle.fio_message.proofs.Decoded.{message_read}
 
--- an option that is no block is none
-none_found : (found : Option Block) → ((block : Block) → found ≡ Some block → ⊥) → found ≡ None
-none_found None nothing = refl
-none_found (Some block) nothing = absurd (nothing block refl)
+-- the block that octets spell is the one that their answer is
+pub block_in-decoded : (octets : List ℕ) (answer : Answer) → decoded_answer octets ≡ Ok answer
+    → block_in octets ≡ answered_block (Some answer)
+block_in-decoded octets answer is =
+    ap answered_block (message_read (answer_in octets) (fault_in (answer_length octets) octets) answer is)
 
-module _ {octets : List ℕ} {view : Result Block DecodeError}
-    (accepted : (block : Block) → (view ≡ Ok block) ↔ SpellsBlock block octets) where
-  -- a block that is accepted is the one that the octets spell
-  pub block_in-accepted : {block : Block} → view ≡ Ok block → block_in octets ≡ Some block
-  block_in-accepted {block} is = block_back block octets ((accepted block).0 is)
+-- the block that octets spell adds what is recorded of it, where it has the number
+pub added-taken : (octets : List ℕ) (number : ℕ) (block : Block) (items : List Item)
+    → decoded_answer octets ≡ Ok (block_answer block) → block.number ≡ number → items ≡ recorded block
+    → added number (block_in octets) ≡ items
+added-taken octets number block items is same all =
+    rw (block_in-decoded octets (block_answer block) is, same) (search (rules, all))
 
-  -- a block that is accepted is heard as its answer
-  pub heard_as-accepted : {block : Block} → IsOctets octets → view ≡ Ok block → (number : ℕ)
-      → heard_as number (decoded_answer octets) ≡ heard_answer number (block_answer block)
-  heard_as-accepted {block} are_octets is number =
-      let spelled = (accepted block).0 is in
-      ap (heard_as number) ((answer_decoded octets (block_answer block) are_octets).1 spelled)
-
-  -- octets that are refused spell no block
-  pub block_in-refused : {fault : DecodeError} → IsOctets octets → view ≡ Err fault
-      → block_in octets ≡ None
-  block_in-refused are_octets refused = none_found (block_in octets) unspelled
-    where
-      unspelled : (block : Block) → block_in octets ≡ Some block → ⊥
-      unspelled block found =
-          let is = (accepted block).1 (block_spelled octets block are_octets found) in
-          cc
-
--- an answer that is no block is heard by its type
-pub heard_as-other : (answer : Option Answer) (fault : DecodeError) (code number : ℕ)
-    → answered_block answer ≡ None → answer_type_of (ok_or answer fault) ≡ Ok code
-    → Other code ≡ heard_as number (ok_or answer fault)
-heard_as-other None fault code number none is = absurd (cc is)
-heard_as-other (Some (answers.Block block entries status stamp)) fault code number none is = absurd (cc none)
-heard_as-other (Some other) fault code number none is = ap Other (cc is)
-
--- octets that are no answer are heard by their fault
-pub heard_as-unreadable : (answer : Option Answer) (fault found : DecodeError) (number : ℕ)
-    → answer_type_of (ok_or answer fault) ≡ Err found → Unreadable found ≡ heard_as number (ok_or answer fault)
-heard_as-unreadable None fault found number is = ap Unreadable (cc is)
-heard_as-unreadable (Some answer) fault found number is = absurd (cc is)
+-- octets that are heard as unreadable are refused for that reason
+pub unreadable-refused : (decoded : Result Answer DecodeError) (number : ℕ) (fault : DecodeError)
+    → heards.Unreadable fault ≡ heard_as number decoded → decoded ≡ Err fault
+unreadable-refused (Err other) number fault is = let same : other ≡ fault = cc is in ap Err same
+unreadable-refused (Ok (answers.Block block entries status stamp)) number fault is = absurd (no_block (block == number) is)
+  where
+    no_block : (same : Bool) → heards.Unreadable fault ≡ (if same then heards.Block (length entries.items) status else heards.Stale block) → ⊥
+    no_block false is = cc is
+    no_block true is = cc is
+unreadable-refused (Ok other) number fault is = absurd (cc is)

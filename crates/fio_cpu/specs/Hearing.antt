@@ -1,13 +1,17 @@
 -- What the CPU makes of octets that it hears.
-use Rattle.std.specs.Prelude.{◌≡◌, ◌≢◌, ℕ, ◌+◌, ◌%◌, ◌==◌, [], ◌++◌, length, Option, Some, None, Result, Ok, Err, if◌then◌else◌}
+use Rattle.std.specs.Prelude.{◌≡◌, ◌≢◌, ◌≤◌, ⊤, ℕ, ◌+◌, ◌%◌, ◌==◌, List, [], ◌++◌, length, Option, Some, None, Result, Ok, Err, if◌then◌else◌}
 use Rattle.fio_message.specs.declared.answers.Answer.{Answer}
 use Rattle.fio_message.specs.declared.answers.Answer.TheVariants as answers
 use Rattle.fio_message.specs.declared.faults.DecodeError.{DecodeError}
+use Rattle.fio_message.specs.declared.limits.TheConstants.{BLOCK_ENTRIES}
 use Rattle.fio_message.specs.Answers.{answer_code}
+use Rattle.fio_message.specs.Bits.{bit_of}
 use Rattle.fio_message.specs.Blocks.{Block as BlockOf}
+use Rattle.fio_message.specs.Status.{says_lost}
 use Rattle.fio_cpu.specs.declared.poller.Heard.{Heard}
 use Rattle.fio_cpu.specs.declared.poller.Heard.TheVariants.{Unreadable, Other, Stale, Block}
 use Rattle.fio_cpu.specs.Poller.{Polling}
+use Rattle.fio_cpu.specs.declared.record.Item.{Item}
 use Rattle.fio_cpu.specs.Record.{recorded}
 
 -- a block answer is taken if it has the CPU's number, and is stale otherwise; any other answer is
@@ -34,6 +38,26 @@ after_block cpu block =
 abbrev pub after_hearing : Polling → Option BlockOf → Polling
 after_hearing cpu None = cpu
 after_hearing cpu (Some block) = after_block cpu block
+
+-- how many items are added to the record where this is heard
+abbrev pub items_added : Heard → ℕ
+items_added (Block entries status) = bit_of (says_lost status) + entries
+items_added other = 0
+
+-- a block that is taken has no more entries than a block may have
+abbrev pub HasFewEntries : Heard → Type 0
+HasFewEntries (Block entries status) = entries ≤ BLOCK_ENTRIES
+HasFewEntries other = ⊤
+
+-- what hearing octets that spell this block, or none, adds to the record of a CPU with this number
+abbrev pub added : ℕ → Option BlockOf → List Item
+added number None = []
+added number (Some block) = if block.number == number then recorded block else []
+
+-- the number of that CPU afterwards
+abbrev pub next_number : ℕ → Option BlockOf → ℕ
+next_number number None = number
+next_number number (Some block) = if block.number == number then (number + 1) % 256 else number
 
 -- hearing octets that spell this block, or none, adds to the record
 abbrev pub AddsItems : Polling → Option BlockOf → Type 0

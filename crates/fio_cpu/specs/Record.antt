@@ -1,5 +1,5 @@
 -- What the CPU records of a block that it takes.
-use Rattle.std.specs.Prelude.{ℕ, List, [], ◌∷◌, ◌++◌, map, if◌then◌else◌}
+use Rattle.std.specs.Prelude.{ℕ, Bool, List, [], ◌∷◌, ◌++◌, map, if◌then◌else◌}
 use Rattle.fio_message.specs.declared.fields.Entry.{Entry as EntryOf}
 use Rattle.fio_message.specs.Blocks.{Block}
 use Rattle.fio_message.specs.Status.{says_lost}
@@ -12,7 +12,10 @@ use Rattle.fio_cpu.specs.declared.record.Item.TheVariants.{Entry, Gap}
 abbrev pub item_of : ℕ → EntryOf → Item
 item_of stamp entry = Entry entry.input entry.level entry.stamp (widened stamp entry.stamp)
 
+-- a gap mark where entries were lost
+abbrev pub gap_if : Bool → List Item
+gap_if lost = if lost then Gap ∷ [] else []
+
 -- what taking a block appends: one gap mark if F is set, then all its entries in order
 abbrev pub recorded : Block → List Item
-recorded block =
-    (if says_lost block.status then Gap ∷ [] else []) ++ map (item_of block.stamp) block.entries
+recorded block = gap_if (says_lost block.status) ++ map (item_of block.stamp) block.entries

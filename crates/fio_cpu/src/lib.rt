@@ -8,6 +8,9 @@
 //! The definitions stand in `specs/`, in this order: the end as contracts see it (`Poller`), what a
 //! block is in the record (`Record`), and what the CPU makes of octets (`Hearing`).
 //!
+//! The logic stands once, in `hear_frame`, which appends to any `Record`. `Poller` has its
+//! record on the heap.
+//!
 //! # Examples
 //!
 //! ```rust
@@ -21,8 +24,12 @@
 //! ```
 #![tactic(auto)]
 
+mod block_items;
+mod hearing;
 mod poller;
 mod record;
 
+pub use block_items::{BlockItems, RecordItems};
+pub use hearing::hear_frame;
 pub use poller::{Heard, Poller};
-pub use record::Item;
+pub use record::{Item, Record};

@@ -1,15 +1,13 @@
-//! The poller: the CPU's number and its record, and what it makes of octets that it hears.
-ghost use Rattle.std.specs.Prelude.{◌≡◌, ℕ, [], OnOk, OnErr, IfOk, Some, None};
+//! The poller: the CPU's number and its record.
+ghost use Rattle.std.specs.Prelude.{◌≡◌, [], OnOk, OnErr, IfOk};
 ghost use Rattle.fio_message.specs.Commands.{SpellsCommand};
-ghost use Rattle.fio_message.specs.Blocks.{block_answer};
 ghost use Rattle.fio_message.specs.Decoding.{decoded_answer, block_in};
 ghost use Rattle.fio_message.specs.declared.commands.Command.TheVariants as commands;
-ghost use Rattle.fio_cpu.specs.Hearing.{heard_answer, heard_as, after_block, after_hearing, AddsItems};
+ghost use Rattle.fio_cpu.specs.Hearing.{heard_as, after_hearing, AddsItems};
 
-use crate::record::{Item, record_block};
-use fio_message::{
-    BlockView, Command, DecodeError, Frame, Memory, answer_type, encode_command, read_block,
-};
+use crate::hearing::hear_frame;
+use crate::record::Item;
+use fio_message::{Command, DecodeError, Frame, Memory, encode_command};
 use std::alloc::Global;
 use std::marker::Model;
 
@@ -104,41 +102,6 @@ impl Poller {
         ensures unchanged { OnErr result (self.new ≡ self.old) }
         ensures memory { OnErr result (AddsItems self.old (block_in octets.now)) }
     {
-        match read_block(octets) {
-            Ok(block) => self.hear_block(&block),
-            Err(_) => Ok(hear_other(octets)),
-        }
-    }
-
-    /// Takes a block with the present number. Any other block is stale.
-    fn hear_block(&mut self, block: &BlockView<'_>) -> Result<Heard, Memory>
-        ensures heard { IfOk result (λ heard.
-            heard ≡ heard_answer self.old.number (block_answer block.now)) }
-        ensures taken { OnOk result (self.new ≡ after_block self.old block.now) }
-        ensures unchanged { OnErr result (self.new ≡ self.old) }
-        ensures memory { OnErr result (AddsItems self.old (Some block.now)) }
-    {
-        let number = block.block();
-        if number != self.number {
-            return Ok(Heard::Stale { block: number });
-        }
-        record_block(&mut self.items, block)?;
-        self.number = number.wrapping_add(1);
-        Ok(Heard::Block {
-            entries: block.len(),
-            status: block.status(),
-        })
-    }
-}
-
-/// What octets are that spell no block answer: another answer, or unreadable, whatever the CPU's
-/// number is.
-fn hear_other(octets: &[u8]) -> Heard
-    requires { block_in octets.now ≡ None }
-    ensures { (number : ℕ) → result ≡ heard_as number (decoded_answer octets.now) }
-{
-    match answer_type(octets) {
-        Ok(code) => Heard::Other { code },
-        Err(fault) => Heard::Unreadable(fault),
+        hear_frame(&mut self.number, &mut self.items, octets)
     }
 }

@@ -1,10 +1,9 @@
-//! The record: its items, and what a block adds to it.
-ghost use Rattle.std.specs.Prelude.{◌≡◌, ◌≢◌, ◌+◌, ◌≤◌, [], ◌++◌, length, map, vec_len, OnOk, OnErr};
+//! The record: its items, and where they are kept.
+ghost use Rattle.std.specs.Prelude.{◌≡◌, ◌≢◌, ◌+◌, ◌≤◌, List, [], ◌++◌, length, vec_len, OnOk, OnErr, IfErr};
 ghost use Rattle.std.specs.Vec.{vec_capacity};
-ghost use Rattle.fio_cpu.specs.Record.{item_of, recorded};
 
-use fio_input::widen;
-use fio_message::{BlockStatus, BlockView, Entry, InputNumber, Memory};
+use crate::block_items::BlockItems;
+use fio_message::{InputNumber, Memory};
 
 /// An item of the record.
 #[derive(Clone, Copy, Debug, PartialEq, Eq, Hash)]
@@ -25,43 +24,57 @@ pub enum Item {
     Gap,
 }
 
-/// An entry of an answer with this stamp, as an item of the record.
-fn item_of(stamp: u32, entry: Entry) -> Item
-    ensures { result ≡ item_of stamp entry }
-{
-    Item::Entry {
-        input: entry.input,
-        level: entry.level,
-        stamp: entry.stamp,
-        wide: widen(stamp, entry.stamp),
+/// Where a poller keeps its record.
+pub trait Record {
+    ghost use Rattle.fio_cpu.specs.declared.record.Item.{Item as ItemOf};
+
+    /// Why there is no room for items.
+    type NoRoom;
+
+    /// The record before, the items that it gains at its end, and the record after.
+    ghost Gains: { Self → List ItemOf → Self → Type 0 };
+
+    /// The record has no room for these items, for this reason.
+    ghost LacksRoom: { Self → List ItemOf → Self.NoRoom → Type 0 };
+
+    /// Appends what a block adds: all of it, or nothing where there is no room.
+    ///
+    /// # Errors
+    /// Why there is no room.
+    fn append(&mut self, items: &BlockItems<'_>) -> Result<(), Self::NoRoom>
+        ensures gained { OnOk result (Gains self.old items.now self.new) }
+        ensures unchanged { OnErr result (Gains self.old [] self.new) }
+        ensures room { IfErr result (λ reason. LacksRoom self.old items.now reason) };
+
+    ghost none_gained: { (before : Self) → Gains before [] before };
+}
+
+impl Record for Vec<Item> {
+    ghost use Rattle.std.proofs.Common.{rules};
+
+    type NoRoom = Memory;
+
+    ghost Gains = { λ before items after. after.items ≡ before.items ++ items };
+
+    ghost LacksRoom = { λ _ items _. items ≢ [] };
+
+    ghost none_gained = { Prim.search rules };
+
+    /// Asks for room for all of the items once, before any is appended, and for none where there are
+    /// no items.
+    fn append(&mut self, items: &BlockItems<'_>) -> Result<(), Memory> {
+        self.reserve(items.len())?;
+        push_all(self, items);
+        Ok(())
     }
 }
 
-/// Appends the entries of a block, where there is room for them.
-fn record_entries(items: &mut Vec<Item>, block: &BlockView<'_>)
-    requires { vec_len items.old + length block.now.entries ≤ vec_capacity items.old }
-    ensures { items.new.items ≡ items.old.items ++ map (item_of block.now.stamp) block.now.entries }
+/// Appends items, for which there is room.
+fn push_all(kept: &mut Vec<Item>, items: &BlockItems<'_>)
+    requires { vec_len kept.old + length items.now ≤ vec_capacity kept.old }
+    ensures { kept.new.items ≡ kept.old.items ++ items.now }
 {
-    let stamp = block.stamp();
-    for entry in block.entries() {
-        items.push(item_of(stamp, entry)).unwrap();
+    for item in items.iter() {
+        kept.push(item).unwrap();
     }
-}
-
-/// Appends what a block adds to the record: a gap mark if F is set, then its entries.
-///
-/// Room for all of it is asked for once, before anything is appended. A block that adds nothing
-/// asks for none.
-pub(crate) fn record_block(items: &mut Vec<Item>, block: &BlockView<'_>) -> Result<(), Memory>
-    ensures recorded { OnOk result (items.new.items ≡ items.old.items ++ recorded block.now) }
-    ensures unchanged { OnErr result (items.new.items ≡ items.old.items) }
-    ensures memory { OnErr result (recorded block.now ≢ []) }
-{
-    let lost = BlockStatus::from_octet(block.status()).lost();
-    items.reserve(usize::from(lost) + block.len())?;
-    if lost {
-        items.push(Item::Gap).unwrap();
-    }
-    record_entries(items, block);
-    Ok(())
 }

@@ -35,45 +35,45 @@ abbrev pub merged : Filters → ℕ → ℕ → ℕ
 merged old met raw = bit_or (bit_and old.filtered (bit_not w64 met)) (bit_and raw met)
 
 module _ (old : Filters) (lengths : List ℕ) (met raw : ℕ) (history : List FilterEvent) (met_fits : met < 2 ^ 64)
-    (stepped : (i : ℕ) → i < 64 → slice_index lengths i ≡ next_length (slice_index old.run_lengths i) (is_set old.raw i) (is_set raw i))
-    (tested : (i : ℕ) → i < 64 → is_set met i ≡ meets_filter (slice_index old.leading i) (slice_index old.trailing i) (is_set raw i) (slice_index lengths i))
+    (stepped : (i : ℕ) → i < 64 → is_set raw i ≢ is_set old.filtered i → slice_index lengths i ≡ next_length (slice_index old.run_lengths i) (is_set old.raw i) (is_set raw i))
+    (tested : (i : ℕ) → i < 64 → is_set raw i ≢ is_set old.filtered i → is_set met i ≡ meets_filter (slice_index old.leading i) (slice_index old.trailing i) (is_set raw i) (slice_index lengths i))
     (s : AreFiltersAfter old history) where
-  -- the sample of an input is its state already, so that its run's length tells nothing
-  abbrev IsSettled : ℕ → Type 0
-  IsSettled i = is_set raw i ≡ input_state i history
+  -- the sample of an input is not its filtered state
+  abbrev IsOther : ℕ → Type 0
+  IsOther i = is_set raw i ≢ is_set old.filtered i
 
   -- the new length is that of the samples with one more
   abbrev IsCounted : ℕ → Type 0
   IsCounted i = slice_index lengths i ≡ min (run_length (is_set raw i ∷ input_samples i history)) 255
 
-  length_by : (i : ℕ) → i < 64 → (n : ℕ) → n ≡ min (run_length (input_samples i history)) 255
+  length_by : (i : ℕ) → i < 64 → IsOther i → (n : ℕ) → n ≡ min (run_length (input_samples i history)) 255
       → next_length (slice_index old.run_lengths i) (is_set old.raw i) (is_set raw i) ≡ next_length n (is_set (raw_levels history) i) (is_set raw i)
       → IsCounted i
-  length_by i h n counted same =
-      stepped i h ∙ same ∙ ap (λ length. next_length length (is_set (raw_levels history) i) (is_set raw i)) counted
+  length_by i h other n counted same =
+      stepped i h other ∙ same ∙ ap (λ length. next_length length (is_set (raw_levels history) i) (is_set raw i)) counted
       ∙ next_run (input_samples i history) _ (is_set raw i) (latest_is i history)
 
-  settled_or_counted : (i : ℕ) → i < 64 → IsSettled i ⊎ IsCounted i
-  settled_or_counted i h =
+  is_counted : (i : ℕ) → i < 64 → IsOther i → IsCounted i
+  is_counted i h other =
       elim (s.inputs i h).run_length [
         | inl settled ↦
             elim (cases_beq (is_set old.raw i) (is_set raw i)) [
-              | inl same ↦ inl (sym same ∙ settled)
-              | inr other ↦
+              | inl same ↦ absurd (other (sym same ∙ settled ∙ sym (s.inputs i h).filtered))
+              | inr changed ↦
                   let n = min (run_length (input_samples i history)) 255 in
-                  inr (length_by i h n refl (next_restarts _ n _ _ other ∙ ap (λ levels. next_length n (is_set levels i) (is_set raw i)) s.raw))
+                  length_by i h other n refl (next_restarts _ n _ _ changed ∙ ap (λ levels. next_length n (is_set levels i) (is_set raw i)) s.raw)
             ]
         | inr counted ↦
             let n = slice_index old.run_lengths i in
-            inr (length_by i h n counted (ap (λ levels. next_length n (is_set levels i) (is_set raw i)) s.raw))
+            length_by i h other n counted (ap (λ levels. next_length n (is_set levels i) (is_set raw i)) s.raw)
       ]
 
   -- a run meets its filter exactly if the new sample ends a run
-  met_is : (i : ℕ) → i < 64 → IsCounted i → is_set met i ≡ ends_run (input_setting i history) (is_set raw i ∷ input_samples i history)
-  met_is i h counted =
+  met_is : (i : ℕ) → i < 64 → IsOther i → is_set met i ≡ ends_run (input_setting i history) (is_set raw i ∷ input_samples i history)
+  met_is i h other =
       let at = s.inputs i h in
-      tested i h ∙ ap₂ (λ e r. meets_filter e r (is_set raw i) (slice_index lengths i)) at.leading at.trailing
-      ∙ ap (meets_filter (input_setting i history).leading (input_setting i history).trailing (is_set raw i)) counted
+      tested i h other ∙ ap₂ (λ e r. meets_filter e r (is_set raw i) (slice_index lengths i)) at.leading at.trailing
+      ∙ ap (meets_filter (input_setting i history).leading (input_setting i history).trailing (is_set raw i)) (is_counted i h other)
       ∙ meets_is (input_setting i history) (input_samples i history) (is_set raw i) at.leading_fits at.trailing_fits
 
   -- the new filtered states are those of the history with the scan
@@ -81,9 +81,11 @@ module _ (old : Filters) (lengths : List ℕ) (met raw : ℕ) (history : List Fi
   state_is i h =
       let ends = ends_run (input_setting i history) (is_set raw i ∷ input_samples i history) in
       is_set-merged old.filtered raw met i met_fits h
-      ∙ elim (settled_or_counted i h) [
-        | inl settled ↦ ap (λ before. if is_set met i then is_set raw i else before) (s.inputs i h).filtered ∙ either_way (is_set met i) ends settled
-        | inr counted ↦ ap₂ (λ ends before. if ends then is_set raw i else before) (met_is i h counted) (s.inputs i h).filtered
+      ∙ elim (cases_beq (is_set raw i) (is_set old.filtered i)) [
+        | inl same ↦
+            let at = (s.inputs i h).filtered in
+            ap (λ before. if is_set met i then is_set raw i else before) at ∙ either_way (is_set met i) ends (same ∙ at)
+        | inr other ↦ ap₂ (λ ends before. if ends then is_set raw i else before) (met_is i h other) (s.inputs i h).filtered
       ]
 
   -- the filters have been through the scan too
@@ -94,9 +96,9 @@ module _ (old : Filters) (lengths : List ℕ) (met raw : ℕ) (history : List Fi
         inputs = λ i h.
             let at = s.inputs i h in
             record {
-              run_length = elim (settled_or_counted i h) [
-                | inl settled ↦ inl (settled_state i history raw settled)
-                | inr counted ↦ inr counted
+              run_length = elim (cases_beq (is_set raw i) (is_set old.filtered i)) [
+                | inl same ↦ inl (settled_state i history raw (same ∙ at.filtered))
+                | inr other ↦ inr (is_counted i h other)
               ];
               leading = at.leading;
               trailing = at.trailing;

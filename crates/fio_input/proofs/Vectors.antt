@@ -1,5 +1,5 @@
 -- One lane of vectors of 16 that are computed lane by lane.
-use Rattle.std.proofs.Common.{◌≡◌, ℕ, ◌+◌, ◌-◌, ◌%◌, ◌^◌, ◌<◌, min, max, Bool, false, cond, ltb, List, map, length, get_or, replicate, refl, ap, ◌∙◌, arith, w8, Fits}
+use Rattle.std.proofs.Common.{◌≡◌, ℕ, ◌+◌, ◌-◌, ◌%◌, ◌^◌, ◌<◌, min, max, Bool, true, false, cond, ltb, List, [], ◌∷◌, map, length, get_or, replicate, refl, ap, ◌∙◌, arith, w8, Fits}
 use Rattle.std.proofs.lemmas.Bool.Decides.{nat_tests}
 use Rattle.std.proofs.lemmas.Simd.{tops_compared, length-zip2, get_or-zip2, length-sel_l, get_or-sel_l, mask_l-mod, mask_l-lt, Each1-get_or, get_or-replicate}
 use Rattle.std.proofs.lemmas.List.{get_or-map, length-map}
@@ -44,6 +44,20 @@ module _ (test : ℕ → ℕ → Bool) (xs ys : List ℕ) (xs_long : length xs �
   bitmask-lt =
       let long = compared_long in
       rw (mask_l-mod (compared test xs ys) 64 (omega arith)) (rw compared_long at (mask_l-lt (compared test xs ys)))
+
+-- what holds of the lanes of two vectors holds of those that are selected
+pub each-selected : (P : ℕ → Type 0) (mask : List Bool) (chosen other : List ℕ) → Each1 P chosen → Each1 P other
+    → Each1 P (sel_l mask chosen other)
+each-selected P [] chosen other all_chosen all_other = tt
+each-selected P (is ∷ mask) [] other all_chosen all_other = tt
+each-selected P (is ∷ mask) (x ∷ chosen) [] all_chosen all_other = tt
+each-selected P (true ∷ mask) (x ∷ chosen) (y ∷ other) all_chosen all_other =
+    (all_chosen.0, each-selected P mask chosen other all_chosen.1 all_other.1)
+each-selected P (false ∷ mask) (x ∷ chosen) (y ∷ other) all_chosen all_other =
+    (all_other.0, each-selected P mask chosen other all_chosen.1 all_other.1)
+
+abbrev pub zeros : List ℕ
+zeros = replicate 16 0
 
 abbrev pub ones : List ℕ
 ones = replicate 16 1

@@ -6,6 +6,7 @@ use Rattle.std.specs.List.{list_all}
 use Rattle.fio_message.specs.declared.fields.InputItem.{InputItem}
 use Rattle.fio_message.specs.Bits.{is_set}
 use Rattle.fio_message.specs.declared.limits.TheConstants.{INPUTS}
+use Rattle.fio_input.specs.declared.filters.TheConstants.{DEFAULT_FILTER}
 use Rattle.fio_input.specs.FilterRule.{Setting, filtered_state}
 
 -- what happens to the filters: a configuration that is received, applied or not, and a scan, whose
@@ -37,7 +38,7 @@ setting_by (Some item) before =
 -- the last item naming the input in the latest applied configuration that names it, and at the
 -- start: ignored, both filters 5
 abbrev pub input_setting : ℕ → List FilterEvent → Setting
-input_setting input [] = record { ignore = true; leading = 5; trailing = 5 }
+input_setting input [] = record { ignore = true; leading = DEFAULT_FILTER; trailing = DEFAULT_FILTER }
 input_setting input (Configure items ∷ history) =
     setting_by (last_item_of input (applied_items items)) (input_setting input history)
 input_setting input (Scan raw ∷ history) = input_setting input history

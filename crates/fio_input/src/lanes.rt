@@ -1,38 +1,54 @@
 //! The lengths of the inputs' latest runs of equal samples, stepped 16 inputs at a time.
-ghost use Rattle.std.specs.Prelude.{◌≡◌, ◌<◌, ◌≤◌, ℕ, ◌+◌, ◌==◌, min, length, slice_index, if◌then◌else◌, nat_le};
+ghost use Rattle.std.specs.Prelude.{◌≡◌, ◌≢◌, ◌<◌, ◌≤◌, ℕ, ◌+◌, ◌^◌, ◌==◌, min, length, slice_index, if◌then◌else◌, nat_le};
 ghost use Rattle.fio_message.specs.Bits.{is_set, bit_of};
 ghost use Rattle.fio_message.specs.declared.limits.TheConstants.{INPUTS};
 ghost use Rattle.fio_input.specs.FilterRule.{in_force};
 ghost use Rattle.fio_input.specs.Runs.{next_length, meets_filter};
+ghost use Rattle.fio_input.specs.declared.lanes.TheConstants.{LANES};
 
+use crate::few::step_few;
 use fio_message::INPUTS;
 use std::simd::prelude::*;
 
 /// How many inputs are stepped at a time.
 const LANES: usize = 16;
 
-/// Steps the length of each input's latest run by one sample. `levels` has the levels of these
-/// runs, and `raw` the samples. The result has a one for each input whose run now meets its filter.
+/// Up to this many inputs are stepped one after another, which takes less time then.
+const FEW: u32 = 3;
+
+/// Steps the length of each input's latest run by one sample, where that sample is not the input's
+/// filtered state: no other length is read before the input's level changes. `levels` has the levels
+/// of these runs, `raw` the samples, and `filtered` the filtered states. The result has a one for each
+/// input with such a sample whose run now meets its filter; other inputs may have a one or a zero.
 pub(crate) fn step_runs(
     run_lengths: &mut [u8; INPUTS],
     leading: &[u8; INPUTS],
     trailing: &[u8; INPUTS],
     levels: u64,
     raw: u64,
+    filtered: u64,
 ) -> u64
     // A run goes on where the sample has its level, and its length stays at 255: it never wraps.
-    ensures lengths { (input : ℕ) → input < INPUTS
+    ensures lengths { (input : ℕ) → input < INPUTS → is_set raw input ≢ is_set filtered input
         → slice_index run_lengths.new input
         ≡ next_length (slice_index run_lengths.old input) (is_set levels input) (is_set raw input) }
-    ensures met { (input : ℕ) → input < INPUTS
+    ensures met { (input : ℕ) → input < INPUTS → is_set raw input ≢ is_set filtered input
         → is_set result input
         ≡ meets_filter (slice_index leading.now input) (slice_index trailing.now input)
         (is_set raw input) (slice_index run_lengths.new input) }
 {
+    let stepped = raw ^ filtered;
+    if stepped.count_ones() <= FEW {
+        return step_few(run_lengths, leading, trailing, levels, raw, stepped);
+    }
     let mut met = 0;
     for group in 0..INPUTS / LANES {
         let first = LANES * group;
-        let samples = lanes_of(levels_from(raw, first));
+        let now = levels_from(raw, first);
+        if now == levels_from(filtered, first) {
+            continue;
+        }
+        let samples = lanes_of(now);
         let before = lanes_of(levels_from(levels, first));
         let lengths = next_lengths(load(run_lengths, first), before, samples);
         let filters = filters_in_force(load(leading, first), load(trailing, first), samples);
@@ -45,20 +61,20 @@ pub(crate) fn step_runs(
 /// The lengths of 16 runs after one more sample: one more, held at 255, where the sample has the
 /// run's level, and else 1.
 fn next_lengths(lengths: u8x16, levels: u8x16, samples: u8x16) -> u8x16
-    ensures { (lane : ℕ) → lane < 16
+    ensures { (lane : ℕ) → lane < LANES
         → slice_index result lane
         ≡ (if slice_index levels lane == slice_index samples lane
         then min (slice_index lengths lane + 1) 255 else 1) }
 {
-    let one = u8x16::splat(1);
     levels
         .simd_eq(samples)
-        .select(lengths.saturating_add(one), one)
+        .select(lengths, u8x16::splat(0))
+        .saturating_add(u8x16::splat(1))
 }
 
 /// The filters of 16 inputs that their samples ask for, 0 as 1.
 fn filters_in_force(leading: u8x16, trailing: u8x16, samples: u8x16) -> u8x16
-    ensures { (lane : ℕ) → lane < 16
+    ensures { (lane : ℕ) → lane < LANES
         → slice_index result lane
         ≡ in_force (if slice_index samples lane == 1
         then slice_index trailing lane else slice_index leading lane) }
@@ -69,8 +85,8 @@ fn filters_in_force(leading: u8x16, trailing: u8x16, samples: u8x16) -> u8x16
 
 /// A bit for each of 16 runs that is as long as its filter.
 fn runs_met(filters: u8x16, lengths: u8x16) -> u64
-    ensures range { result < 65536 }
-    ensures lanes { (lane : ℕ) → lane < 16
+    ensures range { result < 2 ^ LANES }
+    ensures lanes { (lane : ℕ) → lane < LANES
         → is_set result lane ≡ nat_le (slice_index filters lane) (slice_index lengths lane) }
 {
     filters.simd_le(lengths).to_bitmask()
@@ -79,16 +95,16 @@ fn runs_met(filters: u8x16, lengths: u8x16) -> u64
 /// The levels of the 16 inputs from the first one on.
 fn levels_from(levels: u64, first: usize) -> u64
     requires { first < INPUTS }
-    ensures range { result < 65536 }
-    ensures bits { (lane : ℕ) → lane < 16 → is_set result lane ≡ is_set levels (first + lane) }
+    ensures range { result < 2 ^ LANES }
+    ensures bits { (lane : ℕ) → lane < LANES → is_set result lane ≡ is_set levels (first + lane) }
 {
     (levels >> first) & 0xffff
 }
 
 /// The levels of 16 inputs, each as a lane of 0 or 1.
 fn lanes_of(levels: u64) -> u8x16
-    requires { levels < 65536 }
-    ensures { (lane : ℕ) → lane < 16
+    requires { levels < 2 ^ LANES }
+    ensures { (lane : ℕ) → lane < LANES
         → slice_index result lane ≡ bit_of (is_set levels lane) }
 {
     let low = (levels & 0xff) as u8;
@@ -104,8 +120,8 @@ fn lanes_of(levels: u64) -> u8x16
 
 /// The 16 octets from the first one on.
 fn load(octets: &[u8], first: usize) -> u8x16
-    requires { first + 16 ≤ length octets.now }
-    ensures { (lane : ℕ) → lane < 16
+    requires { first + LANES ≤ length octets.now }
+    ensures { (lane : ℕ) → lane < LANES
         → slice_index result lane ≡ slice_index octets.now (first + lane) }
 {
     u8x16::from_slice(&octets[first..])
@@ -113,11 +129,11 @@ fn load(octets: &[u8], first: usize) -> u8x16
 
 /// Puts the lanes in place of the 16 octets from the first one on.
 fn store(octets: &mut [u8], first: usize, lanes: u8x16)
-    requires { first + 16 ≤ length octets.old }
+    requires { first + LANES ≤ length octets.old }
     ensures below { (i : ℕ) → i < first → slice_index octets.new i ≡ slice_index octets.old i }
-    ensures stored { (lane : ℕ) → lane < 16
+    ensures stored { (lane : ℕ) → lane < LANES
         → slice_index octets.new (first + lane) ≡ slice_index lanes lane }
-    ensures above { (i : ℕ) → first + 16 ≤ i → slice_index octets.new i ≡ slice_index octets.old i }
+    ensures above { (i : ℕ) → first + LANES ≤ i → slice_index octets.new i ≡ slice_index octets.old i }
 {
     lanes.copy_to_slice(&mut octets[first..]);
 }

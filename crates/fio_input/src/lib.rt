@@ -30,12 +30,15 @@
 //! ```
 #![tactic(auto)]
 
+mod configuration;
 mod counter;
+mod few;
 mod filters;
 mod lanes;
 pub mod laws;
 mod widening;
 
+pub use configuration::Configuration;
 pub use counter::Counter;
-pub use filters::{BadInput, Filters};
+pub use filters::{BadInput, DEFAULT_FILTER, Filters};
 pub use widening::widen;

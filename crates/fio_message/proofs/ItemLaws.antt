@@ -1,6 +1,6 @@
 -- The items of a configuration, read in place.
-use Rattle.std.proofs.Common.{◌≡◌, ℕ, suc, ◌*◌, ◌/◌, ◌≤◌, List, ◌∷◌, length, drop, refl, ap, ◌∙◌, arith}
-use Rattle.std.proofs.lemmas.List.{length-drop}
+use Rattle.std.proofs.Common.{◌≡◌, ℕ, zero, suc, ◌+◌, ◌*◌, ◌/◌, ◌<◌, ◌≤◌, List, ◌∷◌, length, get_or, drop, refl, ap, ◌∙◌, arith}
+use Rattle.std.proofs.lemmas.List.{length-drop, drop-drop}
 use Rattle.fio_message.specs.declared.fields.InputItem.{InputItem}
 use Rattle.fio_message.specs.Reading.{item_at, items_in, parts_at}
 use Rattle.fio_message.proofs.PartKinds.{item_is_part}
@@ -23,3 +23,19 @@ pub items_in-count : (n : ℕ) (octets : List ℕ) → length octets ≡ 3 * n
 items_in-count n octets len =
     let count : length octets / 3 ≡ n = omega (arith, len) in
     rw count refl
+
+-- the part at a place begins three octets for each part before it
+parts_at-place : (n place : ℕ) (octets : List ℕ) (blank : InputItem) → place < n
+    → get_or (parts_at item_at n octets) place blank ≡ item_at (drop (3 * place) octets)
+parts_at-place zero place octets blank lt = absurd (omega arith)
+parts_at-place (suc n) zero octets blank lt = refl
+parts_at-place (suc n) (suc place) octets blank lt =
+    let three : 3 + 3 * place ≡ 3 * suc place = omega arith in
+    parts_at-place n place (drop 3 octets) blank (omega arith)
+    ∙ ap item_at (drop-drop (3 * place) 3 octets ∙ ap (λ k. drop k octets) three)
+
+-- the item at a place
+pub items_in-place : (octets : List ℕ) (place : ℕ) (blank : InputItem) → place < length (items_in octets)
+    → get_or (items_in octets) place blank ≡ item_at (drop (3 * place) octets)
+items_in-place octets place blank lt =
+    parts_at-place (length octets / 3) place octets blank (omega (arith, length-items_in octets, lt))

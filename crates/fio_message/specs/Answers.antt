@@ -34,6 +34,15 @@ answered_code (Other kind _) = answered_by_other kind
 abbrev pub other_answer_code : OtherAnswer → ℕ
 other_answer_code kind = answered_by_other kind + ANSWER
 
+-- which answer of this type has a body only
+abbrev pub other_answer_of : ℕ → Option OtherAnswer
+other_answer_of code =
+    if code == SET_OUTPUTS_ANSWER then Some SetOutputs
+    else (if code == TRACK_INPUTS_ANSWER then Some TrackInputs
+    else (if code == COMPLEX_OUTPUTS_ANSWER then Some ComplexOutputs
+    else (if code == CONTROLLER_ID_ANSWER then Some ControllerId
+    else (if code == IDENTIFY_ANSWER then Some Identify else None))))
+
 -- the type of an answer: that of its command plus 128
 abbrev pub answer_code : Answer → ℕ
 answer_code answer = answered_code answer + ANSWER

@@ -17,6 +17,13 @@ other_command_code TrackInputs = TRACK_INPUTS
 other_command_code ComplexOutputs = COMPLEX_OUTPUTS
 other_command_code ControllerId = CONTROLLER_ID
 
+-- which command of this type has a body only
+abbrev pub other_command_of : ℕ → Option OtherCommand
+other_command_of code =
+    if code == TRACK_INPUTS then Some TrackInputs
+    else (if code == COMPLEX_OUTPUTS then Some ComplexOutputs
+    else (if code == CONTROLLER_ID then Some ControllerId else None))
+
 -- the type of a command, its first octet
 abbrev pub command_code : Command → ℕ
 command_code (Status _) = STATUS

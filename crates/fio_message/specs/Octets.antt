@@ -6,6 +6,7 @@ use Rattle.std.specs.Int.{w16, w64, to_be_bytes, to_le_bytes}
 use Rattle.fio_message.specs.Bits.{bit_of}
 use Rattle.fio_message.specs.declared.fields.InputItem.{InputItem}
 use Rattle.fio_message.specs.declared.fields.Entry.{Entry}
+use Rattle.fio_message.specs.declared.fields.TheConstants.{INPUT_NUMBERS}
 use Rattle.fio_message.specs.declared.limits.TheConstants.{FRAME_OCTETS}
 
 -- a number from 0 to 255
@@ -27,20 +28,20 @@ IsEight octets = (length octets ≡ 8) × IsOctets octets
 -- An item of the configuration of inputs: the ignore flag in bit 7 and the input number in bits 6
 -- to 0, then the leading and the trailing filter (TEES 2009).
 abbrev pub item_octets : InputItem → List ℕ
-item_octets item = (128 * bit_of item.ignore + item.input) ∷ item.leading ∷ item.trailing ∷ []
+item_octets item = (INPUT_NUMBERS * bit_of item.ignore + item.input) ∷ item.leading ∷ item.trailing ∷ []
 
 -- the numbers of an item are within the ranges of their types
 abbrev pub IsItem : InputItem → Type 0
-IsItem item = (item.input < 128) × IsOctet item.leading × IsOctet item.trailing
+IsItem item = (item.input < INPUT_NUMBERS) × IsOctet item.leading × IsOctet item.trailing
 
 -- An entry of a block: the state after the transition in bit 7 and the input number in bits 6 to 0,
 -- then the low 16 bits of the counter (TEES 2009).
 abbrev pub entry_octets : Entry → List ℕ
-entry_octets entry = (128 * bit_of entry.level + entry.input) ∷ to_be_bytes w16 entry.stamp
+entry_octets entry = (INPUT_NUMBERS * bit_of entry.level + entry.input) ∷ to_be_bytes w16 entry.stamp
 
 -- the numbers of an entry are within the ranges of their types
 abbrev pub IsEntry : Entry → Type 0
-IsEntry entry = (entry.input < 128) × (entry.stamp < 2 ^ 16)
+IsEntry entry = (entry.input < INPUT_NUMBERS) × (entry.stamp < 2 ^ 16)
 
 -- The levels of the 64 inputs: input 0 is the lowest bit of the first octet, and input 63 the
 -- highest bit of the eighth (own profile).

@@ -6,6 +6,7 @@ use Rattle.std.specs.Prelude.{ℕ, zero, suc, ◌*◌, ◌/◌, ◌%◌, List, [
 use Rattle.std.specs.Int.{w16, w32, w64, from_be_bytes, from_le_bytes}
 use Rattle.fio_message.specs.declared.fields.InputItem.{InputItem}
 use Rattle.fio_message.specs.declared.fields.Entry.{Entry}
+use Rattle.fio_message.specs.declared.fields.TheConstants.{INPUT_NUMBERS}
 use Rattle.fio_message.specs.declared.commands.Command.{Command}
 use Rattle.fio_message.specs.declared.commands.Command.TheVariants as commands
 use Rattle.fio_message.specs.declared.commands.OtherCommand.TheVariants as other_commands
@@ -17,8 +18,8 @@ use Rattle.fio_message.specs.declared.types.TheConstants.{STATUS, LOAD_COUNTER, 
 -- the item in the first three octets: bit 7 is the ignore flag, bits 6 to 0 the input number
 abbrev pub item_at : List ℕ → InputItem
 item_at octets = record {
-  input = slice_index_or octets 0 0 % 128;
-  ignore = nat_le 128 (slice_index_or octets 0 0);
+  input = slice_index_or octets 0 0 % INPUT_NUMBERS;
+  ignore = nat_le INPUT_NUMBERS (slice_index_or octets 0 0);
   leading = slice_index_or octets 1 0;
   trailing = slice_index_or octets 2 0;
 }
@@ -26,8 +27,8 @@ item_at octets = record {
 -- the entry in the first three octets: bit 7 is the state, bits 6 to 0 the input number
 abbrev pub entry_at : List ℕ → Entry
 entry_at octets = record {
-  input = slice_index_or octets 0 0 % 128;
-  level = nat_le 128 (slice_index_or octets 0 0);
+  input = slice_index_or octets 0 0 % INPUT_NUMBERS;
+  level = nat_le INPUT_NUMBERS (slice_index_or octets 0 0);
   stamp = from_be_bytes w16 (drop 1 octets);
 }
 

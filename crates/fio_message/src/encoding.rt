@@ -9,9 +9,10 @@ ghost use Rattle.fio_message.specs.Answers.{IsAnswer, SpellsAnswer, answer_field
 
 use crate::answers::Answer;
 use crate::commands::Command;
-use crate::fields::{Entry, InputItem, flagged};
+use crate::fields::{Entry, InputItem};
 use crate::frames::Frame;
 use crate::inputs::inputs_to_octets;
+use crate::layouts::{before_entries, status_and_stamp};
 use crate::limits::FRAME_OCTETS;
 use byteorder::{BigEndian, ByteOrder};
 
@@ -43,14 +44,7 @@ fn append_item(frame: &mut Frame, item: &InputItem)
     ensures appended { frame.new.items ≡ frame.old.items ++ item_octets item.now }
     ensures within { IsItem item.now }
 {
-    append(
-        frame,
-        &[
-            flagged(item.ignore, item.input),
-            item.leading,
-            item.trailing,
-        ],
-    );
+    append(frame, &item.octets());
 }
 
 /// Appends an entry of a block, in three octets at once.
@@ -122,7 +116,8 @@ pub fn write_command(command: &Command, frame: &mut Frame)
     append_command_fields(frame, command);
 }
 
-/// The octets that a command spells: its type, then its fields in the order of TEES 2009, with the
+/// `write_command` into a new frame, which is filled with 784 octets and returned by value: several times
+/// the cost of a short message. The octets that a command spells: its type, then its fields in the order of TEES 2009, with the
 /// lengths of this project's own profile. It always succeeds, with 1 to 773 octets.
 #[inline(always)]
 pub fn encode_command(command: &Command) -> Frame
@@ -172,11 +167,9 @@ fn append_answer_fields(frame: &mut Frame, answer: &Answer)
             status,
             stamp,
         } => {
-            frame.push(*block);
-            frame.push(entries.len() as u8);
+            append(frame, &before_entries(*block, entries.len() as u8)[1..]);
             append_entries(frame, entries);
-            frame.push(*status);
-            append_u32(frame, *stamp);
+            append(frame, &status_and_stamp(*status, *stamp));
         }
         Answer::Other { body, .. } => append(frame, body),
     }
@@ -193,7 +186,8 @@ pub fn write_answer(answer: &Answer, frame: &mut Frame)
     append_answer_fields(frame, answer);
 }
 
-/// The octets that an answer spells: its type, then its fields in the order of TEES 2009, with the
+/// `write_answer` into a new frame, which is filled with 784 octets and returned by value: several times
+/// the cost of a short message. The octets that an answer spells: its type, then its fields in the order of TEES 2009, with the
 /// lengths of this project's own profile. It always succeeds, with 1 to 773 octets.
 #[inline(always)]
 pub fn encode_answer(answer: &Answer) -> Frame

@@ -29,6 +29,7 @@ impl<'a> EntriesView<'a> {
     }
 
     /// Returns the number of entries, at most 255.
+    #[inline]
     pub fn len(&self) -> usize
         ensures value { result ≡ length (entries_of self.now) }
         ensures fits { result ≤ BLOCK_ENTRIES }

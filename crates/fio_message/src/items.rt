@@ -1,5 +1,5 @@
 //! The items of a configuration, read in place.
-ghost use Rattle.std.specs.Prelude.{◌≡◌, ◌≤◌, ◌*◌, ◌==◌, length};
+ghost use Rattle.std.specs.Prelude.{◌≡◌, ◌<◌, ◌≤◌, ◌*◌, ◌==◌, length, get_or};
 ghost use Rattle.fio_message.specs.declared.limits.TheConstants.{CONFIGURATION_ITEMS};
 
 use crate::fields::InputItem;
@@ -51,6 +51,15 @@ impl<'a> ItemsView<'a> {
         ConfigurationItems {
             octets: self.octets,
         }
+    }
+
+    /// Returns the item at this place, counted from 0.
+    #[inline]
+    pub fn item(&self, place: usize) -> InputItem
+        requires { place < length (items_of self.now) }
+        ensures { result ≡ get_or (items_of self.now) place result }
+    {
+        item_of(&self.octets[3 * place..])
     }
 
     /// Returns a copy of the items.

@@ -5,9 +5,9 @@ ghost use Rattle.fio_message.specs.KeptBlock.{kept_octets, no_block, block_octet
 
 use crate::fields::EntryOctets;
 use crate::frames::Frame;
+use crate::layouts::{before_entries, status_and_stamp};
 use crate::limits::{BLOCK_ENTRIES, FRAME_OCTETS};
 use crate::status::BlockStatus;
-use crate::types::BLOCK_ANSWER;
 
 /// The octets of one block answer, or none. It takes no memory of its own, so C may hold one.
 #[derive(Debug, Drop)]
@@ -71,12 +71,11 @@ impl KeptBlock {
             ≡ block_octets number (first.now ++ second.now) status stamp }
     {
         let count = (first.len() + second.len()) as u8;
-        let [a, b, c, d] = stamp.to_be_bytes();
         self.length = 0;
-        self.append(&[BLOCK_ANSWER, number, count]);
+        self.append(&before_entries(number, count));
         self.append(first.as_flattened());
         self.append(second.as_flattened());
-        self.append(&[status.octet(), a, b, c, d]);
+        self.append(&status_and_stamp(status.octet(), stamp));
     }
 
     /// Appends octets, for which there is room.

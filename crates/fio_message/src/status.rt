@@ -52,10 +52,10 @@ impl BlockStatus {
         ensures { result ≡ block_status more lost again out_of_sequence }
     {
         BlockStatus {
-            octet: 8 * u8::from(more)
-                + 4 * u8::from(lost)
-                + 2 * u8::from(again)
-                + u8::from(out_of_sequence),
+            octet: (1 << MORE) * u8::from(more)
+                + (1 << LOST) * u8::from(lost)
+                + (1 << AGAIN) * u8::from(again)
+                + (1 << OUT_OF_SEQUENCE) * u8::from(out_of_sequence),
         }
     }
 
@@ -113,7 +113,7 @@ impl BlockStatus {
         ensures { result ≡ again_status self }
     {
         BlockStatus {
-            octet: (self.octet | 2) & !1,
+            octet: (self.octet | 1 << AGAIN) & !(1 << OUT_OF_SEQUENCE),
         }
     }
 }
@@ -131,7 +131,7 @@ pub fn says_error(status: u8) -> bool
 pub fn error_status(error: bool) -> u8
     ensures { result ≡ error_status error }
 {
-    u8::from(error)
+    (1 << ERROR) * u8::from(error)
 }
 
 /// Whether Y is set in the status of the answer to a watchdog: it had been set before.
@@ -147,7 +147,7 @@ pub fn says_set_before(status: u8) -> bool
 pub fn set_before_status(before: bool) -> u8
     ensures { result ≡ set_before_status before }
 {
-    u8::from(before)
+    (1 << SET_BEFORE) * u8::from(before)
 }
 
 /// Whether the bit at this place of an octet is set.

@@ -1,5 +1,5 @@
 -- Blocks follow one another through the transition log.
-use Rattle.std.proofs.Common.{◌≡◌, ℕ, ◌+◌, ◌-◌, ◌<◌, ◌≤◌, max, Bool, true, false, List, [], ◌∷◌, ◌++◌, length, take, drop, refl, ap, sym, ◌∙◌, arith, length-append, if◌then◌else◌}
+use Rattle.std.proofs.Common.{◌≡◌, ℕ, ◌+◌, ◌-◌, ◌<◌, ◌≤◌, min, max, Bool, true, false, List, [], ◌∷◌, ◌++◌, length, take, drop, refl, ap, sym, ◌∙◌, arith, length-append, if◌then◌else◌}
 use Rattle.std.specs.Prelude.{nat_lt}
 use Rattle.std.proofs.lemmas.List.{take-append-le, drop-append-le, length-drop}
 use Rattle.std.proofs.lemmas.Bool.Decides.{nat_tests}
@@ -105,3 +105,14 @@ lost_then_more before len limit count fewer lost = grind (arith, nat_tests)
 pub losses_leave_more : LossesLeaveMore
 losses_leave_more settings life fewer lost =
     lost_then_more (newest_end settings life) (length (log_of life)) settings.waiting settings.per_block fewer lost
+
+takes_rest : (before len limit count : ℕ) → before ≤ len → nat_lt count (len - max before (len - limit)) ≡ false
+    → max before (len - limit) + min count (len - max before (len - limit)) ≡ len
+takes_rest before len limit count within fits = grind (arith, nat_tests)
+
+-- a block without C takes all that waits
+pub blocks_without_more_take_all : (settings : Settings) (life : Life) → (next_block settings life).more ≡ false
+    → (next_block settings life).end ≡ length (log_of life)
+blocks_without_more_take_all settings life fits =
+    takes_rest (newest_end settings life) (length (log_of life)) settings.waiting settings.per_block
+    (blocks_end_within settings life) fits

@@ -1,5 +1,5 @@
 -- Each new block takes all that waits, where the filters of the open inputs let no more come than it takes.
-use Rattle.std.proofs.Common.{◌≡◌, ℕ, ◌+◌, ◌-◌, ◌≤◌, Bool, true, false, [], ◌∷◌, ◌++◌, length, refl, ap, sym, ◌∙◌, subst, arith, inl, inr, append_assoc, length-drop}
+use Rattle.std.proofs.Common.{◌≡◌, ℕ, ◌+◌, ◌≤◌, Bool, true, false, [], ◌∷◌, ◌++◌, length, refl, ap, sym, ◌∙◌, subst, arith, inl, inr, append_assoc, length-drop}
 use Rattle.std.proofs.lemmas.Bool.{cases_lt}
 use Rattle.fio_message.specs.declared.commands.Command.TheVariants.{Poll, ConfigureInputs}
 use Rattle.fio_input.specs.Delivery.{scans_in, NoneIsApplied}
@@ -8,9 +8,9 @@ use Rattle.fio_input.proofs.FiltersThatDiffer.{reports_are_few_of_each, most_rep
 use Rattle.fio_module.specs.Settings.{Settings, AreInRange}
 use Rattle.fio_module.specs.Life.{Life, Occurrence, Scanned, Commanded, filter_events}
 use Rattle.fio_module.specs.Log.{log_of}
-use Rattle.fio_module.specs.Blocks.{latest_poll, is_new, blocks_of, next_block, newest_end, start_after, count_from, waiting_from, waiting_of}
-use Rattle.fio_module.specs.Delivery.{AtEachTime, FewBeyond, NeverTooMany, scans_since_block}
-use Rattle.fio_module.specs.FiltersThatDiffer.{IsPolledForEach, WaitsForOneBlock, PolledForEachLosesNone}
+use Rattle.fio_module.specs.Blocks.{latest_poll, is_new, blocks_of, next_block, newest_end, start_after, count_from, waiting_from}
+use Rattle.fio_module.specs.Delivery.{AtEachTime, FewBeyond, scans_since_block}
+use Rattle.fio_module.specs.FiltersThatDiffer.{WaitsForOneBlock, PolledForEachLosesNone}
 use Rattle.fio_module.proofs.Ends.{last_end-append}
 use Rattle.fio_module.proofs.BlockLaws.{blocks_end_within}
 use Rattle.fio_module.proofs.Losses.{holds_now}
@@ -127,7 +127,7 @@ each_few settings life (occurrence ∷ later) each = (each.0.few_beyond, each_fe
 -- polled often for each, the module loses none
 pub polled_for_each_loses_none : PolledForEachLosesNone
 polled_for_each_loses_none settings scans life later range p =
-    let each = at_each settings range scans life p.enough later (nothing_left settings range life (ap length p.nothing_waits)) p.not_applied p.often in
+    let each = at_each settings range scans life (omega (arith, p.enough)) later (nothing_left settings range life (ap length p.nothing_waits)) p.not_applied p.often in
     record {
       each = each;
       stays = λ few. each_time-append (FewBeyond settings) later life (each_few settings life later each) few;

@@ -63,7 +63,7 @@ scan_in raw (event ∷ later) before (Commanded (ConfigureInputs items) ∷ life
 scan_in raw later before (other ∷ life) is = above raw before life (other ∷ []) (scan_in raw later before life is)
 
 -- what a scan reports is among its transitions
-reported_there : (count raw : ℕ) (life : Life) (input : ℕ) → input < count → is_reported input raw (filter_events life) ≡ true
+pub reported_there : (count raw : ℕ) (life : Life) (input : ℕ) → input < count → is_reported input raw (filter_events life) ≡ true
     → (place : ℕ) × (slice_get (transitions_below count raw life) place ≡ Some (transition_at (Scanned raw ∷ life) input))
 unfolding transitions_below
 reported_there zero raw life input low is = absurd (omega arith)

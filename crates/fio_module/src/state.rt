@@ -39,10 +39,10 @@ impl ModuleState {
     ghost use Rattle.circular_buffer.specs.Buffer.{Buffer, buffer};
     ghost use Rattle.fio_message.specs.Bits.{is_set};
     ghost use Rattle.fio_message.specs.declared.limits.TheConstants.{INPUTS};
-    ghost use Rattle.fio_input.specs.FilterHistory.{input_state};
+    ghost use Rattle.fio_input.specs.FilterHistory.{input_state, raw_levels};
     ghost use Rattle.fio_module.specs.Settings.{Settings, settings_with};
     ghost use Rattle.fio_module.specs.Life.{History, Scan, LineSync, Raise, Restart, life_of, counter_of, filter_events};
-    ghost use Rattle.fio_module.specs.Flags.{watchdog_of, outputs_of};
+    ghost use Rattle.fio_module.specs.Flags.{flags_of, watchdog_of, outputs_of};
     ghost use Rattle.fio_module.specs.State.{IsAfter, IsAfterHistory, state_at_start};
 
     /// A module with these limits whose ring is empty.
@@ -65,9 +65,7 @@ impl ModuleState {
         }
     }
 
-    /// Starts anew: all but the identification and the limits is as it was made. The flags are P
-    /// alone, the counter is 0, and the waiting entries and the block that was sent last are lost
-    /// (own profile).
+    /// As `Module::restart`.
     #[tactic(auto, unfolding(crate::specs::Flags::word_of))]
     pub fn restart<R: EntryRing>(&mut self, ring: &mut R)
         ensures { (settings : Settings) (history : History)
@@ -84,11 +82,7 @@ impl ModuleState {
         self.sent = KeptBlock::new();
     }
 
-    /// Steps the counter by one millisecond, then takes a sample of each input (own profile: one
-    /// scan a step). Bit i of `raw` is the level of input i.
-    ///
-    /// Each reported change of a filtered state joins the waiting entries, in ascending order of
-    /// the inputs. Where as many wait as may, it pushes out the oldest one (own profile).
+    /// As `Module::scan`.
     pub fn scan<R: EntryRing>(&mut self, ring: &mut R, raw: u64)
         ensures { (settings : Settings) (history : History)
             → IsAfterHistory settings self.old (R.held ring.old) history
@@ -106,7 +100,7 @@ impl ModuleState {
         );
     }
 
-    /// LINESYNC goes from 0 to 1: a load of the counter that was asked for happens now (TEES 2009).
+    /// As `Module::line_sync`.
     pub fn line_sync(&mut self)
         ensures { (settings : Settings) (ring : Buffer (List ℕ)) (history : History)
             → IsAfterHistory settings self.old ring history
@@ -115,8 +109,7 @@ impl ModuleState {
         self.counter.line_sync();
     }
 
-    /// Sets the status flags whose bits are one in `mask`: from bit 7 down P, E, K, R, T, M, L and
-    /// W (own profile: their places).
+    /// As `Module::raise`.
     pub fn raise(&mut self, mask: u8)
         ensures { (settings : Settings) (ring : Buffer (List ℕ)) (history : History)
             → IsAfterHistory settings self.old ring history
@@ -125,7 +118,16 @@ impl ModuleState {
         self.flags |= mask;
     }
 
-    /// What the outputs are set to, all 0 before the first command that sets them (own profile).
+    /// The status flags, from bit 7 down P, E, K, R, T, M, L and W (own profile: their places).
+    pub fn flags(&self) -> u8
+        ensures { (settings : Settings) (ring : Buffer (List ℕ)) (history : History)
+            → IsAfterHistory settings self.now ring history
+            → result ≡ flags_of (life_of history) }
+    {
+        self.flags
+    }
+
+    /// As `Module::outputs`.
     pub fn outputs(&self) -> Outputs
         ensures { (settings : Settings) (ring : Buffer (List ℕ)) (history : History)
             → IsAfterHistory settings self.now ring history
@@ -134,8 +136,7 @@ impl ModuleState {
         self.outputs
     }
 
-    /// The timeout of the watchdog in milliseconds, 10 to 100, or `None` before the first command
-    /// that sets it.
+    /// As `Module::watchdog_ms`.
     pub fn watchdog_ms(&self) -> Option<u8>
         ensures { (settings : Settings) (ring : Buffer (List ℕ)) (history : History)
             → IsAfterHistory settings self.now ring history
@@ -157,7 +158,7 @@ impl ModuleState {
         self.counter.now()
     }
 
-    /// The filtered states: bit i is input i, ignored or not.
+    /// As `Module::filtered`.
     pub fn filtered(&self) -> u64
         ensures { (settings : Settings) (ring : Buffer (List ℕ)) (history : History)
             → IsAfterHistory settings self.now ring history
@@ -165,5 +166,14 @@ impl ModuleState {
             → is_set result input ≡ input_state input (filter_events (life_of history)) }
     {
         self.filters.filtered()
+    }
+
+    /// The levels of the last scan, all 1 before any (own profile): bit i is input i.
+    pub fn raw(&self) -> u64
+        ensures { (settings : Settings) (ring : Buffer (List ℕ)) (history : History)
+            → IsAfterHistory settings self.now ring history
+            → result ≡ raw_levels (filter_events (life_of history)) }
+    {
+        self.filters.raw()
     }
 }

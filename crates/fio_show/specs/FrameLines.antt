@@ -3,6 +3,7 @@ use Rattle.std.specs.Prelude.{ℕ, List, ◌++◌, codes, nat_le, if◌then◌el
 use Rattle.fio_message.specs.Decoding.{decoded_command, decoded_answer}
 use Rattle.fio_message.specs.Texts.{fault_text}
 use Rattle.fio_message.specs.declared.faults.DecodeError.{DecodeError}
+use Rattle.fio_message.specs.declared.types.TheConstants.{ANSWER}
 use Rattle.fio_show.specs.AnswerLines.{answer_text}
 use Rattle.fio_show.specs.CommandLines.{command_text}
 
@@ -22,7 +23,7 @@ shown_answer octets = shown answer_text (decoded_answer octets)
 -- the lines for a frame: an answer where its first octet is 128 or more, else a command
 abbrev pub shown_frame : List ℕ → Result (List ℕ) (List ℕ)
 shown_frame octets =
-    if nat_le 128 (slice_index_or octets 0 0) then shown_answer octets else shown_command octets
+    if nat_le ANSWER (slice_index_or octets 0 0) then shown_answer octets else shown_command octets
 
 -- these lines, or the words of a fault and a line feed
 abbrev pub lines_or_fault : Result (List ℕ) (List ℕ) → List ℕ

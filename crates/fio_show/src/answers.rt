@@ -3,18 +3,23 @@ ghost use Rattle.std.specs.Prelude.{◌≡◌, ◌≤◌, ◌++◌, length, drop
 ghost use Rattle.fio_message.specs.Views.{answer_of, entries_of};
 ghost use Rattle.fio_show.specs.AnswerLines.{answer_text, block_text};
 ghost use Rattle.fio_show.specs.Shown.{rest_text};
+ghost use Rattle.fio_show.specs.declared.pieces.TheConstants.{LINE_OCTETS};
 
 use crate::commands::put_other;
 use crate::frame::Rest;
 use crate::lines::{put_block_head, put_flags, put_levels, put_status};
+use crate::pieces::LINE_OCTETS;
 use fio_message::AnswerView;
 
 /// Puts the first line for an answer at the end of its room. Returns where it starts, and what follows
 /// it.
 // Inlined, as it is called for each frame of a capture.
 #[inline(always)]
-pub(crate) fn put_answer<'a>(line: &mut [u8; 128], answer: AnswerView<'a>) -> (usize, Rest<'a>)
-    ensures start { result.0 ≤ 128 }
+pub(crate) fn put_answer<'a>(
+    line: &mut [u8; LINE_OCTETS],
+    answer: AnswerView<'a>,
+) -> (usize, Rest<'a>)
+    ensures start { result.0 ≤ LINE_OCTETS }
     ensures text { drop result.0 line.new ++ rest_text result.1 ≡ answer_text (answer_of answer.entry) }
 {
     let start = match answer {

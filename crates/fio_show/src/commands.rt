@@ -3,10 +3,11 @@ ghost use Rattle.std.specs.Prelude.{◌≡◌, ◌≤◌, ◌++◌, length, drop
 ghost use Rattle.fio_message.specs.Views.{body_of, command_of, items_of};
 ghost use Rattle.fio_show.specs.CommandLines.{command_text, configuration_text, other_text};
 ghost use Rattle.fio_show.specs.Shown.{rest_text};
+ghost use Rattle.fio_show.specs.declared.pieces.TheConstants.{LINE_OCTETS};
 
 use crate::frame::Rest;
 use crate::lines::{put_clearing, put_one_number, put_outputs, put_words};
-use crate::pieces::line_end;
+use crate::pieces::{LINE_OCTETS, line_end};
 use crate::put_pieces;
 use fio_message::{BodyView, CommandView, ItemsView};
 
@@ -14,8 +15,11 @@ use fio_message::{BodyView, CommandView, ItemsView};
 /// it.
 // Inlined, as it is called for each frame of a capture.
 #[inline(always)]
-pub(crate) fn put_command<'a>(line: &mut [u8; 128], command: CommandView<'a>) -> (usize, Rest<'a>)
-    ensures start { result.0 ≤ 128 }
+pub(crate) fn put_command<'a>(
+    line: &mut [u8; LINE_OCTETS],
+    command: CommandView<'a>,
+) -> (usize, Rest<'a>)
+    ensures start { result.0 ≤ LINE_OCTETS }
     ensures text { drop result.0 line.new ++ rest_text result.1 ≡ command_text (command_of command.entry) }
 {
     let start = match command {
@@ -36,8 +40,8 @@ pub(crate) fn put_command<'a>(line: &mut [u8; 128], command: CommandView<'a>) ->
 }
 
 /// Puts the first line for a configuration.
-fn put_configuration<'a>(line: &mut [u8; 128], items: ItemsView<'a>) -> (usize, Rest<'a>)
-    ensures start { result.0 ≤ 128 }
+fn put_configuration<'a>(line: &mut [u8; LINE_OCTETS], items: ItemsView<'a>) -> (usize, Rest<'a>)
+    ensures start { result.0 ≤ LINE_OCTETS }
     ensures text { drop result.0 line.new ++ rest_text result.1 ≡ configuration_text (items_of items.entry) }
 {
     let end = line_end(line);
@@ -46,8 +50,12 @@ fn put_configuration<'a>(line: &mut [u8; 128], items: ItemsView<'a>) -> (usize, 
 }
 
 /// Puts the beginning of the line for a message that is not read further than its type.
-pub(crate) fn put_other<'a>(line: &mut [u8; 128], code: u8, body: BodyView<'a>) -> (usize, Rest<'a>)
-    ensures start { result.0 ≤ 128 }
+pub(crate) fn put_other<'a>(
+    line: &mut [u8; LINE_OCTETS],
+    code: u8,
+    body: BodyView<'a>,
+) -> (usize, Rest<'a>)
+    ensures start { result.0 ≤ LINE_OCTETS }
     ensures text { drop result.0 line.new ++ rest_text result.1 ≡ other_text code (body_of body.entry) }
 {
     let end = line_end(line);

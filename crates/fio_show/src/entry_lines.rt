@@ -2,14 +2,20 @@
 ghost use Rattle.std.specs.Prelude.{◌≡◌, ◌+◌, ◌≤◌, ◌++◌, length, take, drop, codes, decimal};
 ghost use Rattle.fio_message.specs.Bits.{bit_of};
 ghost use Rattle.fio_show.specs.EntryLines.{entry_line, scan_ending};
+ghost use Rattle.fio_show.specs.declared.entry_lines.TheConstants.{ENDING, ENDING_ROOM, ENTRY_OCTETS};
+ghost use Rattle.fio_show.specs.declared.pieces.TheConstants.{LINE_OCTETS};
 
-use crate::pieces::put;
+use crate::pieces::{LINE_OCTETS, put};
 use crate::put_pieces;
 use fio_message::Entry;
 use std::marker::Model;
 
 /// Where the ending of a line starts, behind room for what stands before it.
 const ENDING: usize = 64;
+
+/// Room for the line of an entry: all of it is copied, since a known number of octets is copied without
+/// a call.
+pub const ENTRY_OCTETS: usize = 64;
 
 /// Room for an ending, which has at most 29 octets.
 const ENDING_ROOM: usize = 32;
@@ -19,7 +25,7 @@ const ENDING_ROOM: usize = 32;
 /// It starts at a known place, and what is put before it ends there.
 #[derive(Debug, Drop)]
 pub struct EntryLines {
-    line: [u8; 128],
+    line: [u8; LINE_OCTETS],
     /// How many octets the ending has.
     ending: usize,
     stamp: u16,
@@ -44,7 +50,7 @@ impl Model for EntryLines {
 impl EntryLines {
     /// Room that holds no entry's line.
     pub fn new() -> EntryLines {
-        let mut line = [0; 128];
+        let mut line = [0; LINE_OCTETS];
         let ending = put_ending(&mut line, 0, 0);
         EntryLines {
             line,
@@ -55,8 +61,8 @@ impl EntryLines {
     }
 
     /// The line of an entry with this wide time, behind a margin of at most 8 octets:
-    /// `input I state L stamp S wide W`. It has as many octets as the number says, at the front of 64,
-    /// since a known number of octets is copied without a call.
+    /// `input I state L stamp S wide W`. It has as many octets as the number says, at the front of
+    /// `ENTRY_OCTETS`.
     // Inlined, so that the length of the margin is known when it is compiled.
     #[inline(always)]
     pub fn line<const N: usize>(
@@ -66,8 +72,8 @@ impl EntryLines {
         wide: u32,
     ) -> (&[u8], usize)
         requires { N ≤ 8 }
-        ensures room { length result.0.now ≡ 64 }
-        ensures within { result.1 ≤ 64 }
+        ensures room { length result.0.now ≡ ENTRY_OCTETS }
+        ensures within { result.1 ≤ ENTRY_OCTETS }
         ensures line { take result.1 result.0.now
             ≡ margin.now ++ entry_line entry.input entry.level entry.stamp wide }
     {
@@ -79,7 +85,7 @@ impl EntryLines {
         let start = put_front(&mut self.line, margin, entry);
         let count = ENDING - start + self.ending;
         let room = &self.line;
-        (&room[start..start + 64], count)
+        (&room[start..start + ENTRY_OCTETS], count)
     }
 }
 
@@ -87,7 +93,7 @@ impl EntryLines {
 /// ending of a line, and returns where they start.
 // Inlined, so that the length of the margin is known when it is compiled.
 #[inline(always)]
-fn put_front<const N: usize>(line: &mut [u8; 128], margin: &[u8; N], entry: Entry) -> usize
+fn put_front<const N: usize>(line: &mut [u8; LINE_OCTETS], margin: &[u8; N], entry: Entry) -> usize
     requires { N ≤ 8 }
     ensures start { (result ≤ ENDING) × (ENDING ≤ result + 25) }
     ensures put { drop result line.new ≡ margin.now ++ (codes "input " ++ (decimal entry.input
@@ -102,7 +108,7 @@ fn put_front<const N: usize>(line: &mut [u8; 128], margin: &[u8; N], entry: Entr
 
 /// Puts the ending of a line with this stamp and wide time in its place, and returns how many octets
 /// it has.
-fn put_ending(line: &mut [u8; 128], stamp: u16, wide: u32) -> usize
+fn put_ending(line: &mut [u8; LINE_OCTETS], stamp: u16, wide: u32) -> usize
     ensures length { result ≤ ENDING_ROOM }
     ensures put { take result (drop ENDING line.new) ≡ scan_ending stamp wide }
 {

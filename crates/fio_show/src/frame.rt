@@ -1,11 +1,15 @@
 //! The lines for a frame.
 ghost use Rattle.std.specs.Prelude.{◌≡◌, ◌≤◌, ◌++◌, drop, nat_le, slice_index_or, Ok, Err, IfOk, MatchResult};
 ghost use Rattle.fio_message.specs.Texts.{fault_text};
+ghost use Rattle.fio_message.specs.declared.types.TheConstants.{ANSWER};
 ghost use Rattle.fio_show.specs.FrameLines.{shown_answer, shown_command, shown_frame};
 ghost use Rattle.fio_show.specs.Shown.{rest_text};
+ghost use Rattle.fio_show.specs.declared.pieces.TheConstants.{LINE_OCTETS};
 
 use crate::answers::put_answer;
 use crate::commands::put_command;
+use crate::pieces::LINE_OCTETS;
+use fio_message::types::ANSWER;
 use fio_message::{BodyView, DecodeError, EntriesView, ItemsView, read_answer, read_command};
 
 /// What follows the first line of a message.
@@ -40,10 +44,10 @@ pub enum Rest<'a> {
 // Inlined, as it is called for each frame of a capture.
 #[inline(always)]
 pub fn put_frame<'a>(
-    line: &mut [u8; 128],
+    line: &mut [u8; LINE_OCTETS],
     octets: &'a [u8],
 ) -> Result<(usize, Rest<'a>), DecodeError>
-    ensures start { IfOk result (λ put. put.0 ≤ 128) }
+    ensures start { IfOk result (λ put. put.0 ≤ LINE_OCTETS) }
     ensures text { MatchResult result
         (λ put. shown_frame octets.now ≡ Ok (drop put.0 line.new ++ rest_text put.1))
         (λ fault. shown_frame octets.now ≡ Err (fault_text fault)) }
@@ -60,10 +64,10 @@ pub fn put_frame<'a>(
 /// Whether a frame is to be read as an answer.
 #[inline(always)]
 fn is_answer(octets: &[u8]) -> bool
-    ensures { result ≡ nat_le 128 (slice_index_or octets.now 0 0) }
+    ensures { result ≡ nat_le ANSWER (slice_index_or octets.now 0 0) }
 {
     match octets {
-        [code, ..] => *code >= 128,
+        [code, ..] => *code >= ANSWER,
         [] => false,
     }
 }

@@ -11,9 +11,9 @@
 //! # Examples
 //!
 //! ```rust
-//! use fio_show::put_frame;
+//! use fio_show::{LINE_OCTETS, put_frame};
 //!
-//! let mut line = [0; 128];
+//! let mut line = [0; LINE_OCTETS];
 //! let (start, _) = put_frame(&mut line, &[0x36, 5])?;
 //! assert_eq!(rt; &line[start..], b"poll block 5\n".as_slice());
 //! ```
@@ -26,7 +26,9 @@ mod frame;
 mod lines;
 mod pieces;
 
-pub use entry_lines::EntryLines;
+pub use entry_lines::{ENTRY_OCTETS, EntryLines};
 pub use frame::{Rest, put_frame};
 pub use lines::{entry_line, put_item};
-pub use pieces::{line_end, put, put_decimal, put_hexadecimal, put_number, put_octet};
+pub use pieces::{
+    LINE_OCTETS, NAME_OCTETS, line_end, put, put_decimal, put_hexadecimal, put_number, put_octet,
+};

@@ -3,34 +3,36 @@
 ghost use Rattle.std.specs.Prelude.{◌≡◌, ◌≤◌, length, take, drop};
 ghost use Rattle.fio_show.specs.AnswerLines.{block_head_text, entry_text, flags_text, levels_text, status_text};
 ghost use Rattle.fio_show.specs.CommandLines.{clearing_text, item_text, number_text, outputs_text};
+ghost use Rattle.fio_show.specs.declared.entry_lines.TheConstants.{ENTRY_OCTETS};
+ghost use Rattle.fio_show.specs.declared.pieces.TheConstants.{LINE_OCTETS, NAME_OCTETS};
 
 use crate::entry_lines::EntryLines;
-use crate::pieces::line_end;
+use crate::pieces::{LINE_OCTETS, line_end};
 use crate::put_pieces;
 use fio_input::widen;
 use fio_message::{Entry, InputItem, inputs_to_octets};
 
-/// The line of words alone, at most 40 octets.
+/// The line of words alone, at most `NAME_OCTETS`.
 // Inlined, so that the places and lengths of the pieces of a line are known when it is compiled.
 #[inline(always)]
-pub(crate) fn put_words<const N: usize>(line: &mut [u8; 128], words: &[u8; N]) -> usize
-    requires { N ≤ 40 }
-    ensures start { result ≤ 128 }
+pub(crate) fn put_words<const N: usize>(line: &mut [u8; LINE_OCTETS], words: &[u8; N]) -> usize
+    requires { N ≤ NAME_OCTETS }
+    ensures start { result ≤ LINE_OCTETS }
     ensures text { drop result line.new ≡ words.now }
 {
     let end = line_end(line);
     put_pieces!(*line, end; (words))
 }
 
-/// The line for a message that has one number, behind its name of at most 40 octets.
+/// The line for a message that has one number, behind its name of at most `NAME_OCTETS`.
 #[inline(always)]
 pub(crate) fn put_one_number<const N: usize>(
-    line: &mut [u8; 128],
+    line: &mut [u8; LINE_OCTETS],
     name: &[u8; N],
     number: u32,
 ) -> usize
-    requires { N ≤ 40 }
-    ensures start { result ≤ 128 }
+    requires { N ≤ NAME_OCTETS }
+    ensures start { result ≤ LINE_OCTETS }
     ensures text { drop result line.new ≡ number_text name.now number }
 {
     let end = line_end(line);
@@ -39,8 +41,8 @@ pub(crate) fn put_one_number<const N: usize>(
 
 /// The line for the flags to clear.
 #[inline(always)]
-pub(crate) fn put_clearing(line: &mut [u8; 128], clear: u8) -> usize
-    ensures start { result ≤ 128 }
+pub(crate) fn put_clearing(line: &mut [u8; LINE_OCTETS], clear: u8) -> usize
+    ensures start { result ≤ LINE_OCTETS }
     ensures text { drop result line.new ≡ clearing_text clear }
 {
     let end = line_end(line);
@@ -49,8 +51,12 @@ pub(crate) fn put_clearing(line: &mut [u8; 128], clear: u8) -> usize
 
 /// The line for the levels and the controls of all outputs.
 #[inline(always)]
-pub(crate) fn put_outputs(line: &mut [u8; 128], levels: &[u8; 8], controls: &[u8; 8]) -> usize
-    ensures start { result ≤ 128 }
+pub(crate) fn put_outputs(
+    line: &mut [u8; LINE_OCTETS],
+    levels: &[u8; 8],
+    controls: &[u8; 8],
+) -> usize
+    ensures start { result ≤ LINE_OCTETS }
     ensures text { drop result line.new ≡ outputs_text levels.now controls.now }
 {
     let end = line_end(line);
@@ -59,8 +65,8 @@ pub(crate) fn put_outputs(line: &mut [u8; 128], levels: &[u8; 8], controls: &[u8
 
 /// The line for an item of a configuration.
 #[inline(always)]
-pub fn put_item(line: &mut [u8; 128], item: InputItem) -> usize
-    ensures start { result ≤ 128 }
+pub fn put_item(line: &mut [u8; LINE_OCTETS], item: InputItem) -> usize
+    ensures start { result ≤ LINE_OCTETS }
     ensures text { drop result line.new ≡ item_text item }
 {
     let end = line_end(line);
@@ -74,13 +80,13 @@ pub fn put_item(line: &mut [u8; 128], item: InputItem) -> usize
 /// The line for the flags and the counts of errors.
 #[inline(always)]
 pub(crate) fn put_flags(
-    line: &mut [u8; 128],
+    line: &mut [u8; LINE_OCTETS],
     flags: u8,
     receive_errors: u8,
     transmit_errors: u8,
     stamp: u32,
 ) -> usize
-    ensures start { result ≤ 128 }
+    ensures start { result ≤ LINE_OCTETS }
     ensures text { drop result line.new ≡ flags_text flags receive_errors transmit_errors stamp }
 {
     let end = line_end(line);
@@ -91,27 +97,31 @@ pub(crate) fn put_flags(
     )
 }
 
-/// The line for an answer that has a status alone, behind its name of at most 40 octets.
+/// The line for an answer that has a status alone, behind its name of at most `NAME_OCTETS`.
 #[inline(always)]
-pub(crate) fn put_status<const N: usize>(line: &mut [u8; 128], name: &[u8; N], status: u8) -> usize
-    requires { N ≤ 40 }
-    ensures start { result ≤ 128 }
+pub(crate) fn put_status<const N: usize>(
+    line: &mut [u8; LINE_OCTETS],
+    name: &[u8; N],
+    status: u8,
+) -> usize
+    requires { N ≤ NAME_OCTETS }
+    ensures start { result ≤ LINE_OCTETS }
     ensures text { drop result line.new ≡ status_text name.now status }
 {
     let end = line_end(line);
     put_pieces!(*line, end; (name) b" status " [status] b"\n")
 }
 
-/// The line for the levels of all inputs, behind their name of at most 40 octets.
+/// The line for the levels of all inputs, behind their name of at most `NAME_OCTETS`.
 #[inline(always)]
 pub(crate) fn put_levels<const N: usize>(
-    line: &mut [u8; 128],
+    line: &mut [u8; LINE_OCTETS],
     name: &[u8; N],
     inputs: u64,
     stamp: u32,
 ) -> usize
-    requires { N ≤ 40 }
-    ensures start { result ≤ 128 }
+    requires { N ≤ NAME_OCTETS }
+    ensures start { result ≤ LINE_OCTETS }
     ensures text { drop result line.new ≡ levels_text name.now inputs stamp }
 {
     let inputs = inputs_to_octets(inputs);
@@ -122,13 +132,13 @@ pub(crate) fn put_levels<const N: usize>(
 /// The first line for a block answer.
 #[inline(always)]
 pub(crate) fn put_block_head(
-    line: &mut [u8; 128],
+    line: &mut [u8; LINE_OCTETS],
     block: u8,
     count: usize,
     status: u8,
     stamp: u32,
 ) -> usize
-    ensures start { result ≤ 128 }
+    ensures start { result ≤ LINE_OCTETS }
     ensures text { drop result line.new ≡ block_head_text block count status stamp }
 {
     let end = line_end(line);
@@ -143,8 +153,8 @@ pub(crate) fn put_block_head(
 // Inlined, as it is called for each entry.
 #[inline(always)]
 pub fn entry_line(entry_lines: &mut EntryLines, entry: Entry, stamp: u32) -> (&[u8], usize)
-    ensures room { length result.0.now ≡ 64 }
-    ensures within { result.1 ≤ 64 }
+    ensures room { length result.0.now ≡ ENTRY_OCTETS }
+    ensures within { result.1 ≤ ENTRY_OCTETS }
     ensures line { take result.1 result.0.now ≡ entry_text stamp entry }
 {
     let wide = widen(stamp, entry.stamp);

@@ -3,6 +3,16 @@
 //! in the order in which they are read.
 ghost use Rattle.std.specs.Prelude.{◌≡◌, ◌+◌, ◌*◌, ◌≤◌, ◌++◌, ℕ, [], length, take, drop, decimal};
 ghost use Rattle.fio_show.specs.Digits.{digits_of, octet_digits};
+ghost use Rattle.fio_show.specs.declared.pieces.TheConstants.{DIGITS, LINE_OCTETS};
+
+/// The room of a line: no line is longer.
+pub const LINE_OCTETS: usize = 128;
+
+/// The most octets of a name at the beginning of a line, so that numbers have room behind it.
+pub const NAME_OCTETS: usize = 40;
+
+/// The most digits of a number of 64 bits.
+const DIGITS: usize = 20;
 
 /// Puts pieces before what stands in a line from `end` on: octets of a known number as they are
 /// (`b".."` or `(octets)`), a number of at most 64 bits in decimal digits (`{number}`), an octet or
@@ -44,8 +54,8 @@ macro_rules! put_pieces {
 /// Where a line without a piece starts: behind its room.
 // Inlined, so that the places and lengths of the pieces of a line are known when it is compiled.
 #[inline(always)]
-pub fn line_end(line: &[u8; 128]) -> usize
-    ensures start { result ≡ 128 }
+pub fn line_end(line: &[u8; LINE_OCTETS]) -> usize
+    ensures start { result ≡ LINE_OCTETS }
     ensures empty { drop result line.now ≡ [] }
 {
     line.len()
@@ -56,8 +66,8 @@ pub fn line_end(line: &[u8; 128]) -> usize
 /// on stays.
 // Inlined, so that the places and lengths of the pieces of a line are known when it is compiled.
 #[inline(always)]
-pub fn put<const N: usize>(line: &mut [u8; 128], end: usize, octets: &[u8; N]) -> usize
-    requires { (N ≤ end) × (end ≤ 128) }
+pub fn put<const N: usize>(line: &mut [u8; LINE_OCTETS], end: usize, octets: &[u8; N]) -> usize
+    requires { (N ≤ end) × (end ≤ LINE_OCTETS) }
     ensures start { result + N ≡ end }
     ensures put { drop result line.new ≡ octets.now ++ drop end line.old }
     ensures kept { (at : ℕ) → end ≤ at → drop at line.new ≡ drop at line.old }
@@ -79,12 +89,12 @@ fn begin_with<const N: usize>(octets: &mut [u8], first: &[u8; N])
     }
 }
 
-/// Puts a number in decimal digits, of which it has at most 20, as `put` puts octets.
+/// Puts a number in decimal digits, as `put` puts octets.
 // Inlined, so that the places and lengths of the pieces of a line are known when it is compiled.
 #[inline(always)]
-pub fn put_decimal(line: &mut [u8; 128], end: usize, number: u64) -> usize
-    requires { (20 ≤ end) × (end ≤ 128) }
-    ensures start { (result ≤ end) × (end ≤ result + 20) }
+pub fn put_decimal(line: &mut [u8; LINE_OCTETS], end: usize, number: u64) -> usize
+    requires { (DIGITS ≤ end) × (end ≤ LINE_OCTETS) }
+    ensures start { (result ≤ end) × (end ≤ result + DIGITS) }
     ensures put { drop result line.new ≡ decimal number ++ drop end line.old }
     ensures kept { (at : ℕ) → end ≤ at → drop at line.new ≡ drop at line.old }
 {
@@ -95,13 +105,13 @@ pub fn put_decimal(line: &mut [u8; 128], end: usize, number: u64) -> usize
 // Inlined, so that the places and lengths of the pieces of a line are known when it is compiled.
 #[inline(always)]
 pub fn put_number<const N: usize>(
-    line: &mut [u8; 128],
+    line: &mut [u8; LINE_OCTETS],
     end: usize,
     number: u64,
     octets: &[u8; N],
 ) -> usize
-    requires { (20 + N ≤ end) × (end ≤ 128) }
-    ensures start { (result + N ≤ end) × (end ≤ result + (20 + N)) }
+    requires { (DIGITS + N ≤ end) × (end ≤ LINE_OCTETS) }
+    ensures start { (result + N ≤ end) × (end ≤ result + (DIGITS + N)) }
     ensures put { drop result line.new ≡ decimal number ++ (octets.now ++ drop end line.old) }
     ensures kept { (at : ℕ) → end ≤ at → drop at line.new ≡ drop at line.old }
 {
@@ -113,8 +123,8 @@ pub fn put_number<const N: usize>(
 // Inlined, so that the places and lengths of the pieces of a line are known when it is compiled.
 #[inline(always)]
 #[tactic(auto, unfolding(crate::specs::Digits::octet_digits))]
-pub fn put_octet(line: &mut [u8; 128], end: usize, octet: u8) -> usize
-    requires { (2 ≤ end) × (end ≤ 128) }
+pub fn put_octet(line: &mut [u8; LINE_OCTETS], end: usize, octet: u8) -> usize
+    requires { (2 ≤ end) × (end ≤ LINE_OCTETS) }
     ensures start { (result ≤ end) × (end ≤ result + 2) }
     ensures put { drop result line.new ≡ octet_digits octet ++ drop end line.old }
 {
@@ -127,8 +137,8 @@ pub fn put_octet(line: &mut [u8; 128], end: usize, octet: u8) -> usize
 // Inlined, so that the places and lengths of the pieces of a line are known when it is compiled.
 #[inline(always)]
 #[tactic(auto, unfolding(crate::specs::Digits::digits_of))]
-pub fn put_hexadecimal(line: &mut [u8; 128], end: usize, octets: &[u8]) -> usize
-    requires { (2 * length octets.now ≤ end) × (end ≤ 128) }
+pub fn put_hexadecimal(line: &mut [u8; LINE_OCTETS], end: usize, octets: &[u8]) -> usize
+    requires { (2 * length octets.now ≤ end) × (end ≤ LINE_OCTETS) }
     ensures start { (result ≤ end) × (end ≤ result + 2 * length octets.now) }
     ensures put { drop result line.new ≡ digits_of octets.now ++ drop end line.old }
 {

@@ -1,4 +1,2 @@
-mod command_line;
 mod ends;
 mod streams;
-mod transcripts;

@@ -1,6 +1,8 @@
--- One pass over a text, frame by frame, as the CPU of the lines that are read of it.
+-- One pass over a text, frame by frame, as the CPU of the lines that are read of it and the first entry that breaks a rule
+-- on content.
 use Rattle.std.proofs.Common.{◌≡◌, ◌<◌, ◌∙◌, ℕ, Bool, true, false, List, [], ◌∷◌, map, length, Option, Some, None, Result, Ok, Err, refl, sym, ap, arith}
 use Rattle.std.specs.Prelude.{fold, option_map}
+use Rattle.std.specs.Option.{option_or}
 use Rattle.std.proofs.lemmas.Option.{same_Some}
 use Rattle.fio_message.specs.Commands.{command_length}
 use Rattle.fio_message.specs.Answers.{answer_length}
@@ -8,37 +10,66 @@ use Rattle.fio_message.specs.Reading.{command_at, answer_at}
 use Rattle.fio_cpu.specs.Poller.{Polling}
 use Rattle.fio_world.specs.Collected.{collected}
 use Rattle.fio_check.specs.Lines.{TranscriptLine}
-use Rattle.fio_tool.specs.Record.{cpu_of, cpu_with}
+use Rattle.fio_check.specs.ContentCheckers.{ContentKept, content_found, kept_with, nothing_kept}
+use Rattle.fio_check.specs.ContentKept.{content_kept}
+use Rattle.fio_check.specs.Pollers.{poller_of, poller_with}
+use Rattle.fio_tool.specs.Record.{items_of_cpu}
+use Rattle.fio_tool.specs.Recordings.{IsRecordingOf, IsStep, entries_taken, item_broken}
+use Rattle.fio_tool.specs.declared.transcript.recording.Recording.{Recording}
 use Rattle.fio_tool.specs.Transcript.{frame_in, line_in}
 use Rattle.fio_tool.specs.declared.transcript.lines.TraceError.{TraceError}
 use Rattle.fio_tool.proofs.CheckedLines.{first-left, line_read}
+use Rattle.fio_tool.proofs.BrokenEntries.{IsBrokenSoFar, broken_end, broken_first, broken_next}
 use Rattle.fio_tool.proofs.LongFrames.{too_long-none}
 
 -- ---- a frame that is too long changes nothing
 
-long-passed : (cpu : Option Polling) (number : ℕ) (from_cpu : Bool) (octets : List ℕ) → 773 < length octets
-    → cpu ≡ cpu_with cpu (record { number = number; from_cpu = from_cpu; octets = octets })
-long-passed None number true octets long = rw (too_long-none command_length command_at octets long) refl
-long-passed None number false octets long = rw (too_long-none answer_length answer_at octets long) refl
-long-passed (Some cpu) number true octets long = refl
-long-passed (Some cpu) number false octets long = rw (too_long-none answer_length answer_at octets long) refl
+option_or-none : {A : Type 0} (a : Option A) → a ≡ option_or a None
+option_or-none None = refl
+option_or-none (Some x) = refl
 
-pub long_passed : (cpu : Option Polling) (number : ℕ) (line : List ℕ) (from_cpu : Bool) (octets : Option (List ℕ)) (count : ℕ) (found : TranscriptLine)
+long-cpu : (cpu : Option Polling) (number : ℕ) (from_cpu : Bool) (octets : List ℕ) → 773 < length octets
+    → cpu ≡ poller_with cpu (record { number = number; from_cpu = from_cpu; octets = octets })
+long-cpu None number true octets long = rw (too_long-none command_length command_at octets long) refl
+long-cpu None number false octets long = rw (too_long-none answer_length answer_at octets long) refl
+long-cpu (Some cpu) number true octets long = refl
+long-cpu (Some cpu) number false octets long = rw (too_long-none answer_length answer_at octets long) refl
+
+long-kept : (kept : ContentKept) (from_cpu : Bool) (octets : List ℕ) → 773 < length octets → kept ≡ kept_with kept from_cpu octets
+long-kept kept true octets long = rw (too_long-none command_length command_at octets long) refl
+long-kept kept false octets long = rw (too_long-none answer_length answer_at octets long) refl
+
+long-found : (kept : ContentKept) (from_cpu : Bool) (octets : List ℕ) → 773 < length octets → content_found kept from_cpu octets ≡ None
+long-found kept true octets long = rw (too_long-none command_length command_at octets long) refl
+long-found kept false octets long = rw (too_long-none answer_length answer_at octets long) refl
+
+long-step : (recording : Recording) (number : ℕ) (from_cpu : Bool) (octets : List ℕ) → 773 < length octets
+    → IsStep recording (record { number = number; from_cpu = from_cpu; octets = octets }) recording
+long-step recording number from_cpu octets long = record {
+  cpu = long-cpu recording.cpu number from_cpu octets long;
+  kept = long-kept (content_kept recording.checker) from_cpu octets long;
+  broken = option_or-none recording.broken
+      ∙ ap (λ found. option_or recording.broken (option_map (item_broken number (length (items_of_cpu recording.cpu)) (entries_taken recording.cpu octets)) found))
+      (sym (long-found (content_kept recording.checker) from_cpu octets long));
+}
+
+pub long_passed : (recording : Recording) (number : ℕ) (line : List ℕ) (from_cpu : Bool) (octets : Option (List ℕ)) (count : ℕ) (found : TranscriptLine)
     → frame_in line ≡ option_map (λ os. (from_cpu, os)) octets → Some count ≡ option_map length octets → 773 < count
-    → line_in (number, line) ≡ Ok found → cpu ≡ cpu_with cpu found
-long_passed cpu number line from_cpu None count found framed counted long is = absurd (cc)
-long_passed cpu number line from_cpu (Some octets) count found framed counted long is =
+    → line_in (number, line) ≡ Ok found → IsStep recording found recording
+long_passed recording number line from_cpu None count found framed counted long is = absurd (cc)
+long_passed recording number line from_cpu (Some octets) count found framed counted long is =
     let read = line_read number line from_cpu octets framed in
     let same : record { number = number; from_cpu = from_cpu; octets = octets } ≡ found = cc in
     let many : count ≡ length octets = same_Some _ _ counted in
-    rw (← same) (long-passed cpu number from_cpu octets (omega (arith, many, long)))
+    rw (← same) (long-step recording number from_cpu octets (omega (arith, many, long)))
 
 -- ---- the course of the pass
 
-pub record IsCpuSoFar (lines : List TranscriptLine) (left : List (ℕ × List ℕ)) (cpu : Option Polling) : Type 0 where
+pub record IsRecordingSoFar (lines : List TranscriptLine) (left : List (ℕ × List ℕ)) (recording : Recording) : Type 0 where
   pub rest : List TranscriptLine
   pub left_is : collected (map line_in left) ≡ Ok rest
-  pub whole : fold cpu_with cpu rest ≡ cpu_of lines
+  pub whole : fold poller_with recording.cpu rest ≡ poller_of lines
+  pub course : IsBrokenSoFar lines rest recording.cpu (content_kept recording.checker) recording.broken
 
 -- the first of the lines that are left, and the lines below it
 split-first : (first : Result TranscriptLine TraceError) (more : List (Result TranscriptLine TraceError)) (rest : List TranscriptLine)
@@ -48,23 +79,39 @@ split-first (Ok line) more rest is =
     let left = first-left line (collected more) rest is in (line, left.0, refl, left.1, left.2)
 split-first (Err e) more rest is = absurd (cc)
 
+-- before the first line
+pub recording_first : (lines : List TranscriptLine) (left : List (ℕ × List ℕ)) (recording : Recording) → collected (map line_in left) ≡ Ok lines
+    → recording.cpu ≡ None → content_kept recording.checker ≡ nothing_kept → recording.broken ≡ None → IsRecordingSoFar lines left recording
+recording_first lines left recording reads none nothing unbroken = record {
+  rest = lines;
+  left_is = reads;
+  whole = ap (λ cpu. fold poller_with cpu lines) none;
+  course = broken_first lines recording.cpu (content_kept recording.checker) recording.broken none nothing unbroken;
+}
+
 -- one line more
-pub cpu_next : (lines : List TranscriptLine) (number : ℕ) (text : List ℕ) (left : List (ℕ × List ℕ)) (cpu cpu' : Option Polling)
-    → ((found : TranscriptLine) → line_in (number, text) ≡ Ok found → cpu' ≡ cpu_with cpu found)
-    → IsCpuSoFar lines ((number, text) ∷ left) cpu → IsCpuSoFar lines left cpu'
-cpu_next lines number text left cpu cpu' step so_far =
+pub recording_next : (lines : List TranscriptLine) (number : ℕ) (text : List ℕ) (left : List (ℕ × List ℕ)) (before after : Recording)
+    → ((found : TranscriptLine) → line_in (number, text) ≡ Ok found → IsStep before found after)
+    → IsRecordingSoFar lines ((number, text) ∷ left) before → IsRecordingSoFar lines left after
+recording_next lines number text left before after step so_far =
     let first = split-first (line_in (number, text)) (map line_in left) so_far.rest so_far.left_is in
+    let stepped = step first.0 first.2 in
     record {
       rest = first.1;
       left_is = first.3;
-      whole = ap (λ c. fold cpu_with c first.1) (step first.0 first.2) ∙ ap (fold cpu_with cpu) (sym first.4) ∙ so_far.whole;
+      whole = ap (λ c. fold poller_with c first.1) stepped.cpu ∙ ap (fold poller_with before.cpu) (sym first.4) ∙ so_far.whole;
+      course = broken_next lines first.1 first.0 before.cpu after.cpu (content_kept before.checker) (content_kept after.checker) before.broken after.broken
+          stepped.cpu stepped.kept stepped.broken (rw first.4 at so_far.course);
     }
 
 -- no line is left
-pub cpu_end : (lines : List TranscriptLine) (left : List (ℕ × List ℕ)) (cpu : Option Polling) → left ≡ [] → IsCpuSoFar lines left cpu
-    → cpu ≡ cpu_of lines
-cpu_end lines [] cpu none so_far =
+pub recording_end : (lines : List TranscriptLine) (left : List (ℕ × List ℕ)) (recording : Recording) → left ≡ [] → IsRecordingSoFar lines left recording
+    → IsRecordingOf lines recording
+recording_end lines [] recording none so_far =
     let read = so_far.left_is in
     let ended : [] ≡ so_far.rest = cc in
-    ap (fold cpu_with cpu) ended ∙ so_far.whole
-cpu_end lines (line ∷ left) cpu none so_far = absurd (cc)
+    record {
+      cpu = ap (fold poller_with recording.cpu) ended ∙ so_far.whole;
+      broken = broken_end lines recording.cpu (content_kept recording.checker) recording.broken (rw (← ended) at so_far.course);
+    }
+recording_end lines (line ∷ left) recording none so_far = absurd (cc)

@@ -7,6 +7,7 @@ pub mod Show
 pub mod Simulate
 pub mod Check
 pub mod Record
+pub mod Recordings
 pub mod Transcript
 pub mod TranscriptLaws
 pub mod InputFaults

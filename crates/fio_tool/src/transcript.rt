@@ -6,4 +6,4 @@ mod recording;
 
 pub use lines::{TraceError, read_trace};
 pub(crate) use one_pass::check_lines;
-pub(crate) use recording::cpu_of;
+pub(crate) use recording::{BrokenItem, Recording, recording_of};

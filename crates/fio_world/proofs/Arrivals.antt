@@ -29,6 +29,7 @@ use Rattle.fio_world.specs.Claims.{blocks_in, IsInTime}
 use Rattle.fio_world.specs.Pieces.{Got, piece_of}
 use Rattle.fio_world.specs.Headline.{end_taken}
 use Rattle.fio_world.specs.InTime.{timed_item, arrived}
+use Rattle.fio_world.specs.StartingAnew.{in_blocks_since}
 use Rattle.fio_world.proofs.MadeBlocks.{each-append, each-take, each-map}
 use Rattle.fio_world.proofs.OneLife.{recorded_of}
 use Rattle.fio_world.proofs.Times.{BlockTimely, IsTimely, blocks_timely, wide_time}
@@ -174,9 +175,11 @@ taken_end settings machine taken =
     let blocks = blocks_in settings machine in
     ap end_of_blocks (ap (λ n. take n blocks) taken ∙ take_all (length blocks) blocks (omega arith))
 
-module _ (settings : Settings) (range : AreInRange settings) (first filter scans most behind : ℕ) (machine last : Machine) (later : Life)
-    (b : IsBetween settings first machine) (taken : machine.round ≡ length (blocks_in settings machine))
-    (r : IsReached settings first scans most behind machine last later)
+-- Blocks that are made while a module is kept up with, and what a record gains from them.
+module _ (settings : Settings) (range : AreInRange settings) (filter scans most behind : ℕ) (machine last : Machine) (later : Life)
+    (since : life_of last.history ≡ later ++ life_of machine.history)
+    (near : AtEachTime (λ l. scans_behind scans l (life_of machine.history) ≤ most) later)
+    (few_behind : scans_behind scans later (life_of machine.history) ≤ behind)
     (k : IsKeptUp settings filter scans most (life_of machine.history) later) where
   abbrev life : Life
   life = life_of machine.history
@@ -187,94 +190,133 @@ module _ (settings : Settings) (range : AreInRange settings) (first filter scans
   keeps : AtEachTime (KeepsUp settings filter scans life) later
   keeps = kept_up_keeps_up settings filter scans most life later range k
 
-  made : HasMade settings filter most life later
-  made = has_made settings filter scans most life later keeps r.near
+  pub made_since : HasMade settings filter most life later
+  made_since = has_made settings filter scans most life later keeps near
 
   ends : newest_end settings life ≡ length (log_of life)
   ends = nothing_left settings range life (ap length k.nothing_waits)
 
-  -- the transitions of the blocks made since are those that arrived
-  are_arrived : transitions_in made.made ≡ arrived settings machine last
-  are_arrived =
-      made.entries
-      ∙ ap (λ l. drop (newest_end settings life) (take (newest_end settings l) (log_of l))) (sym r.since)
+  -- the transitions of the blocks made since are those that they hold of the log
+  are_logged : transitions_in made_since.made ≡ in_blocks_since settings machine last
+  are_logged =
+      made_since.entries
+      ∙ ap (λ l. drop (newest_end settings life) (take (newest_end settings l) (log_of l))) (sym since)
       ∙ ap (λ n. drop n (take (newest_end settings now) (log_of now))) ends
-      ∙ ap (λ n. drop (length (log_of life)) (take n (log_of now))) (sym (taken_end settings last r.all_taken))
 
-  blocks_now : blocks_of settings now ≡ blocks_of settings life ++ made.made
-  blocks_now = ap (blocks_of settings) r.since ∙ made.blocks
+  pub blocks_now : blocks_of settings now ≡ blocks_of settings life ++ made_since.made
+  blocks_now = ap (blocks_of settings) since ∙ made_since.blocks
 
-  -- the record has gained what those blocks are
-  gained : last.items ≡ machine.items ++ flat_map recorded_of made.made
-  gained =
-      all_recorded settings first last r.between r.all_taken
-      ∙ ap (flat_map recorded_of) blocks_now
-      ∙ flat_map-append recorded_of (blocks_of settings life) made.made
-      ∙ ap (λ its. its ++ flat_map recorded_of made.made) (sym (all_recorded settings first machine b taken))
-
-  pub whole : map piece_of last.items
-      ≡ map piece_of machine.items ++ map (λ transition. Got (entry_of transition)) (arrived settings machine last)
-  whole =
+  -- where the record has gained what those blocks are, it has gained those transitions
+  pub whole_since : last.items ≡ machine.items ++ flat_map recorded_of made_since.made
+      → map piece_of last.items
+      ≡ map piece_of machine.items ++ map (λ transition. Got (entry_of transition)) (in_blocks_since settings machine last)
+  whole_since gained =
       ap (map piece_of) gained
-      ∙ map-append piece_of machine.items (flat_map recorded_of made.made)
-      ∙ ap (λ ps. map piece_of machine.items ++ ps) (got_punctual most filter made.made made.punctual)
-      ∙ ap (λ ts. map piece_of machine.items ++ map (λ transition. Got (entry_of transition)) ts) are_arrived
+      ∙ map-append piece_of machine.items (flat_map recorded_of made_since.made)
+      ∙ ap (λ ps. map piece_of machine.items ++ ps) (got_punctual most filter made_since.made made_since.punctual)
+      ∙ ap (λ ts. map piece_of machine.items ++ map (λ transition. Got (entry_of transition)) ts) are_logged
 
   -- each of them was logged after as many loads at least as there had been
-  arrived_loads : AllByRecursion (HasLoadsSince (loads_of life)) (arrived settings machine last)
-  arrived_loads =
+  logged_loads : AllByRecursion (HasLoadsSince (loads_of life)) (in_blocks_since settings machine last)
+  logged_loads =
       let start = length (log_of life) in
-      let end = end_taken settings last in
+      let end = newest_end settings now in
       let grown = ends-grow settings later life in
-      let now_end = ap (newest_end settings) r.since in
-      let some : end ≡ start + (end - start) = omega (arith, taken_end settings last r.all_taken, ends) in
+      let now_end = ap (newest_end settings) since in
+      let some : end ≡ start + (end - start) = omega (arith, ends) in
       let parts : drop start (take end (log_of now)) ≡ take (end - start) (drop start (log_of now)) =
       ap (λ n. drop start (take n (log_of now))) some ∙ drop-take start (end - start) (log_of now) in
       subst (AllByRecursion (HasLoadsSince (loads_of life))) (sym parts)
       (each-take (HasLoadsSince (loads_of life)) (end - start) (drop start (log_of now))
-      (subst (λ l. AllByRecursion (HasLoadsSince (loads_of life)) (drop start (log_of l))) (sym r.since) (logged_since later life)))
+      (subst (λ l. AllByRecursion (HasLoadsSince (loads_of life)) (drop start (log_of l))) (sym since) (logged_since later life)))
 
   -- what holds of all blocks holds of those made since
-  of_made : (P : MadeBlock → Type 0) → AllByRecursion P (blocks_of settings now) → AllByRecursion P made.made
-  of_made P all = each-back P (blocks_of settings life) made.made (subst (AllByRecursion P) blocks_now all)
+  of_made : (P : MadeBlock → Type 0) → AllByRecursion P (blocks_of settings now) → AllByRecursion P made_since.made
+  of_made P all = each-back P (blocks_of settings life) made_since.made (subst (AllByRecursion P) blocks_now all)
 
-  pub times : loads_of now ≡ loads_of life → most + filter ≤ 65537
-      → last.items ≡ machine.items ++ map timed_item (arrived settings machine last)
-  times none few =
+  pub times_since : last.items ≡ machine.items ++ flat_map recorded_of made_since.made
+      → loads_of now ≡ loads_of life → most + filter ≤ 65537
+      → last.items ≡ machine.items ++ map timed_item (in_blocks_since settings machine last)
+  times_since gained none few =
       let low = subst (λ n. AllByRecursion (HasLoads n) (blocks_of settings now)) none (blocks_have_loads settings now) in
-      let loads = subst (AllByRecursion (HasLoadsSince (loads_of life))) (sym are_arrived) arrived_loads in
+      let loads = subst (AllByRecursion (HasLoadsSince (loads_of life))) (sym are_logged) logged_loads in
       gained
       ∙ ap (λ its. machine.items ++ its)
-      (timed_punctual most filter (loads_of life) made.made few made.punctual
+      (timed_punctual most filter (loads_of life) made_since.made few made_since.punctual
       (of_made BlockTimely (blocks_timely settings now)) (of_made (HasLoads (loads_of life)) low) loads)
-      ∙ ap (λ ts. machine.items ++ map timed_item ts) are_arrived
+      ∙ ap (λ ts. machine.items ++ map timed_item ts) are_logged
 
   -- what holds now
   keeps_now : KeepsUp settings filter scans life later
   keeps_now = holds_now (KeepsUp settings filter scans life) later keeps
 
   -- what waits begins at the end of the newest block
-  from_end : waiting_from settings now ≡ end_taken settings last
-  from_end =
-      let few = subst (FewBeyond settings) (sym r.since) keeps_now.few_beyond in
-      omega (arith, taken_end settings last r.all_taken)
+  pub waits_from_end : waiting_from settings now ≡ newest_end settings now
+  waits_from_end =
+      let few = subst (FewBeyond settings) (sym since) keeps_now.few_beyond in
+      omega arith
 
-  pub young : AllByRecursion (IsYoung behind filter now) (drop (end_taken settings last) (log_of now))
-  young =
-      let there = subst (λ l. AllByRecursion (IsYoung (scans_behind scans later life) filter l) (waiting_of settings l)) (sym r.since) keeps_now.young in
-      let low = r.now in
-      subst (λ n. AllByRecursion (IsYoung behind filter now) (drop n (log_of now))) from_end
+  pub young_since_blocks : AllByRecursion (IsYoung behind filter now) (drop (newest_end settings now) (log_of now))
+  young_since_blocks =
+      let there = subst (λ l. AllByRecursion (IsYoung (scans_behind scans later life) filter l) (waiting_of settings l)) (sym since) keeps_now.young in
+      subst (λ n. AllByRecursion (IsYoung behind filter now) (drop n (log_of now))) waits_from_end
       (each-map (IsYoung (scans_behind scans later life) filter now) (IsYoung behind filter now) (λ t is. omega arith)
       (waiting_of settings now) there)
 
   -- few are left at the end of a clean round
-  pub few_left : (length (log_of now) - newest_end settings now) * filter
+  pub few_left_since : (length (log_of now) - newest_end settings now) * filter
       ≤ open_inputs (filter_events life) * (behind + (filter - 1))
-  few_left =
-      let few = subst (λ l. length (waiting_of settings l) * filter ≤ open_inputs (filter_events life) * (scans_behind scans later life + (filter - 1))) (sym r.since) keeps_now.few_wait in
+  few_left_since =
+      let few = subst (λ l. length (waiting_of settings l) * filter ≤ open_inputs (filter_events life) * (scans_behind scans later life + (filter - 1))) (sym since) keeps_now.few_wait in
       let count = length-drop (waiting_from settings now) (log_of now) in
-      let left : length (waiting_of settings now) ≡ length (log_of now) - newest_end settings now = omega (arith, from_end, taken_end settings last r.all_taken) in
+      let left : length (waiting_of settings now) ≡ length (log_of now) - newest_end settings now = omega (arith, waits_from_end) in
       let product : length (waiting_of settings now) * filter ≡ (length (log_of now) - newest_end settings now) * filter = ap (λ n. n * filter) left in
-      let low = r.now in
       let more : open_inputs (filter_events life) * (scans_behind scans later life + (filter - 1)) ≤ open_inputs (filter_events life) * (behind + (filter - 1)) = mul-le-mul_left (open_inputs (filter_events life)) (omega arith) in
       omega arith
+
+module _ (settings : Settings) (range : AreInRange settings) (first filter scans most behind : ℕ) (machine last : Machine) (later : Life)
+    (b : IsBetween settings first machine) (taken : machine.round ≡ length (blocks_in settings machine))
+    (r : IsReached settings first scans most behind machine last later)
+    (k : IsKeptUp settings filter scans most (life_of machine.history) later) where
+  abbrev then_life : Life
+  then_life = life_of machine.history
+
+  abbrev last_life : Life
+  last_life = life_of last.history
+
+  abbrev made : HasMade settings filter most then_life later
+  made = made_since settings range filter scans most behind machine last later r.since r.near r.now k
+
+  -- what those blocks hold is what arrived
+  are_arrived : in_blocks_since settings machine last ≡ arrived settings machine last
+  are_arrived = ap (λ n. drop (length (log_of then_life)) (take n (log_of last_life))) (sym (taken_end settings last r.all_taken))
+
+  -- the record has gained what those blocks are
+  gained : last.items ≡ machine.items ++ flat_map recorded_of made.made
+  gained =
+      all_recorded settings first last r.between r.all_taken
+      ∙ ap (flat_map recorded_of) (blocks_now settings range filter scans most behind machine last later r.since r.near r.now k)
+      ∙ flat_map-append recorded_of (blocks_of settings then_life) made.made
+      ∙ ap (λ its. its ++ flat_map recorded_of made.made) (sym (all_recorded settings first machine b taken))
+
+  pub whole : map piece_of last.items
+      ≡ map piece_of machine.items ++ map (λ transition. Got (entry_of transition)) (arrived settings machine last)
+  whole =
+      whole_since settings range filter scans most behind machine last later r.since r.near r.now k gained
+      ∙ ap (λ ts. map piece_of machine.items ++ map (λ transition. Got (entry_of transition)) ts) are_arrived
+
+  pub times : loads_of last_life ≡ loads_of then_life → most + filter ≤ 65537
+      → last.items ≡ machine.items ++ map timed_item (arrived settings machine last)
+  times none few =
+      times_since settings range filter scans most behind machine last later r.since r.near r.now k gained none few
+      ∙ ap (λ ts. machine.items ++ map timed_item ts) are_arrived
+
+  pub young : AllByRecursion (IsYoung behind filter last_life) (drop (end_taken settings last) (log_of last_life))
+  young =
+      subst (λ n. AllByRecursion (IsYoung behind filter last_life) (drop n (log_of last_life))) (sym (taken_end settings last r.all_taken))
+      (young_since_blocks settings range filter scans most behind machine last later r.since r.near r.now k)
+
+  -- few are left at the end of a clean round
+  pub few_left : (length (log_of last_life) - newest_end settings last_life) * filter
+      ≤ open_inputs (filter_events then_life) * (behind + (filter - 1))
+  few_left = few_left_since settings range filter scans most behind machine last later r.since r.near r.now k

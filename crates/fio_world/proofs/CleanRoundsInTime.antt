@@ -7,24 +7,31 @@ use Rattle.fio_message.specs.Blocks.{Block}
 use Rattle.fio_message.specs.Decoding.{command_in, block_in}
 use Rattle.fio_input.specs.Delivery.{scans_in}
 use Rattle.fio_module.specs.Settings.{Settings, AreInRange}
-use Rattle.fio_module.specs.Life.{Life, Scanned, LineSynced, Raised, Commanded, life_of, life_after_command, filter_events}
+use Rattle.fio_module.specs.Life.{Life, Scanned, LineSynced, Raised, Commanded, life_of, life_after_command, scans_of, filter_events}
 use Rattle.fio_module.specs.Blocks.{latest_poll, is_new, blocks_of}
 use Rattle.fio_module.specs.Delivery.{AtEachTime}
 use Rattle.fio_module.specs.KeepingUp.{scans_behind}
 use Rattle.fio_module.proofs.Stretches.{blocks_old, behind_new, behind_more, behind_each, after_block}
 use Rattle.fio_module.proofs.Ages.{scans_in-append}
+use Rattle.fio_module.proofs.NewLevels.{scans_of-append}
 use Rattle.fio_cpu.specs.Record.{recorded}
 use Rattle.fio_world.specs.declared.event.Event.{Event}
 use Rattle.fio_world.specs.declared.event.Event.TheVariants as events
 use Rattle.fio_world.specs.Link.{Sent, Machine, number_of, item_numbered, received, heard_block, heard, after, Leads}
 use Rattle.fio_world.specs.Headline.{IsNotRestart, HaveNoRestart}
 use Rattle.fio_world.specs.Claims.{blocks_in}
-use Rattle.fio_world.specs.Delivery.{clean_round}
-use Rattle.fio_world.specs.InTime.{scans_among, LeadsInTime, behind_after, MakesBlock}
-use Rattle.fio_world.proofs.Runs.{lead_to_one}
+use Rattle.fio_world.specs.Rounds.{next_round}
+use Rattle.fio_world.specs.Delivery.{clean_round, IsCleanRound}
+use Rattle.fio_world.specs.InTime.{IsWithin, LeadsOn, LeadsInTime, behind_after, MakesBlock, RoundWithNothingBetweenIsInTime}
 use Rattle.fio_world.proofs.OneLifeRows.{kept_all}
 use Rattle.fio_world.proofs.CleanRounds.{sent_all}
-use Rattle.fio_world.proofs.CatchingUp.{IsBetween, HasRound, one_round}
+use Rattle.fio_world.proofs.CatchingUp.{IsBetween, ends_round}
+
+-- how many scans there are among events
+abbrev pub scans_among : List Event → ℕ
+scans_among [] = 0
+scans_among (events.Scan raw ∷ events) = scans_among events + 1
+scans_among (other ∷ events) = scans_among events
 
 -- what events without a restart do to the module's life and to the CPU's round
 pub record Grows (machine last : Machine) (scans : ℕ) : Type 0 where
@@ -116,45 +123,73 @@ grows settings first machine last (event ∷ events) none leads =
     (grows-then machine next last (scans_among (event ∷ [])) (scans_among events)
     (grows-once settings first machine event none.0) (grows settings first next last events none.1 leads.1))
 
--- A clean round, with what came before it.
-pub record HasStretch (settings : Settings) (first scans : ℕ) (machine begin last : Machine) : Type 0 where
-  pub before : Life
-  pub number : ℕ
-  pub life : life_of begin.history ≡ before ++ life_of machine.history
-  pub few : scans_in (filter_events before) ≤ scans
-  pub polled : life_of last.history ≡ Commanded (commands.Poll number) ∷ life_of begin.history
-  pub makes : MakesBlock settings machine last
-  -- the CPU has taken one more block since the round began
-  pub round : last.round ≡ begin.round + 1
-  pub between : IsBetween settings first last
+-- the scans of a stretch are those that came to the module
+pub scans_grown : (machine last : Machine) (stretch : Life) → life_of last.history ≡ stretch ++ life_of machine.history
+    → scans_of (life_of last.history) ≡ scans_in (filter_events stretch) + scans_of (life_of machine.history)
+scans_grown machine last stretch is = ap scans_of is ∙ scans_of-append stretch (life_of machine.history)
 
--- all that happened to the module since the round before
+-- A clean round, with what came before it: the stretches before its poll was received, and after.
+pub record HasStretch (settings : Settings) (first : ℕ) (machine receipt last : Machine) : Type 0 where
+  pub before : Life
+  pub after_it : Life
+  pub number : ℕ
+  pub life : life_of receipt.history ≡ before ++ life_of machine.history
+  pub polled : life_of last.history ≡ after_it ++ (Commanded (commands.Poll number) ∷ life_of receipt.history)
+  -- a block was made by the time that the poll had been received
+  pub one_more : length (blocks_in settings machine) < length (blocks_of settings (Commanded (commands.Poll number) ∷ life_of receipt.history))
+  pub all_taken : last.round ≡ length (blocks_in settings last)
+  -- as many as the CPU has taken
+  pub taken : length (blocks_of settings (Commanded (commands.Poll number) ∷ life_of receipt.history)) ≡ last.round
+  pub between : IsBetween settings first last
+  -- the machine that has just received the poll
+  pub at_poll : Machine
+  pub at_poll_life : life_of at_poll.history ≡ Commanded (commands.Poll number) ∷ life_of receipt.history
+
+-- all that happened to the module since the round before, until it had received the poll
 abbrev pub stretch_of : ℕ → Life → Life
 stretch_of number before = Commanded (commands.Poll number) ∷ before
 
-pub has_stretch : (settings : Settings) (range : AreInRange settings) (first scans : ℕ) (machine begin last : Machine)
+pub has_stretch : (settings : Settings) (range : AreInRange settings) (first : ℕ) (machine begin receipt last : Machine)
     → IsBetween settings first machine → machine.round ≡ length (blocks_in settings machine)
-    → LeadsInTime settings first scans machine begin → Leads settings first begin (clean_round begin) last
-    → HasStretch settings first scans machine begin last
-has_stretch settings range first scans machine begin last b taken t leads =
+    → LeadsOn settings first machine begin → (c : IsCleanRound settings first begin receipt last)
+    → (s : HasStretch settings first machine receipt last) × (last.round ≡ begin.round + 1)
+has_stretch settings range first machine begin receipt last b taken t c =
     let g = grows settings first machine begin t.events t.no_restart t.leads in
     let at_begin : IsBetween settings first begin = record {
       sent = sent_all settings first t.events machine begin t.leads b.sent;
       kept = kept_all settings range first t.events machine begin t.no_restart t.leads b.kept;
     } in
-    let found = one_round settings range first begin at_begin in
-    let same : found.0 ≡ last = lead_to_one settings first (clean_round begin) begin found.0 last found.1.leads leads in
-    let r : HasRound settings first begin last = subst (λ (m : Machine). HasRound settings first begin m) same found.1 in
-    record {
-      before = g.stretch;
-      number = number_of first begin.round;
-      life = g.life;
-      few = omega (arith, g.few, t.few);
-      polled = r.life;
-      makes = record { one_more = omega (arith, r.all_taken, r.round, g.round); all_taken = r.all_taken };
-      round = r.round;
-      between = r.between;
-    }
+    let e = ends_round settings range first begin receipt last at_begin c in
+    let h = e.round in
+    let to = grows settings first begin receipt h.before h.none_before h.sent in
+    let from = grows settings first h.polled last h.after_it h.none_after h.rest in
+    let made : next_round h.polled.polls ≡ length (blocks_in settings h.polled) = e.kept_polled.one_life.in_life.made in
+    let newest : next_round h.polled.polls ≡ begin.round + 1 = ap next_round h.polls in
+    let blocks = ap (λ l. length (blocks_of settings l)) h.life in
+    let round : last.round ≡ begin.round + 1 = h.takes.round in (
+      record {
+        before = to.stretch ++ g.stretch;
+        after_it = from.stretch;
+        number = number_of first begin.round;
+        life = to.life ∙ ap (λ l. to.stretch ++ l) g.life ∙ sym (append_assoc to.stretch g.stretch (life_of machine.history));
+        polled = from.life ∙ ap (λ l. from.stretch ++ l) h.life;
+        one_more = omega (arith, g.round);
+        all_taken = e.all_taken;
+        taken = omega arith;
+        between = e.between;
+        at_poll = h.polled;
+        at_poll_life = h.life;
+      },
+      round,
+    )
+
+-- so it makes a block
+pub makes_block : (settings : Settings) (first : ℕ) (machine receipt last : Machine) → HasStretch settings first machine receipt last
+    → MakesBlock settings machine last
+makes_block settings first machine receipt last s =
+    let one_more = s.one_more in
+    let taken = s.taken in
+    record { one_more = omega (arith, s.all_taken); all_taken = s.all_taken }
 
 -- what holds at the end of a clean round, and at the start: how far the blocks are behind, now and at
 -- each time
@@ -170,57 +205,107 @@ pub reached_start : (settings : Settings) (first scans most behind : ℕ) (machi
 reached_start settings first scans most behind machine b taken =
     record { since = refl; near = omega arith; now = omega arith; all_taken = taken; between = b }
 
--- how far they are behind at the end of one more clean round
-now_behind : (settings : Settings) (first : ℕ) (untaken : Bool) (scans : ℕ) (machine done begin last : Machine) (later : Life)
-    → (untaken ≡ false → begin.round ≡ length (blocks_in settings begin))
-    → IsReached settings first scans (scans + behind_after untaken scans) (behind_after untaken scans) machine done later
-    → (s : HasStretch settings first scans done begin last)
-    → scans_behind scans (stretch_of s.number s.before ++ later) (life_of machine.history) ≤ behind_after untaken scans
-now_behind settings first true scans machine done begin last later all_taken r s =
-    let life = life_of machine.history in
-    let stretch = stretch_of s.number s.before in
-    let whole : life_of last.history ≡ (stretch ++ later) ++ life =
-    s.polled ∙ ap (stretch_of s.number) (s.life ∙ ap (λ l. s.before ++ l) r.since ∙ sym (append_assoc s.before later life)) in
-    let blocks_before = ap (λ l. length (blocks_of settings l)) r.since in
-    let blocks_now = ap (λ l. length (blocks_of settings l)) whole in
-    let one_more = s.makes.one_more in
-    let few = after_block settings scans life later stretch (omega arith) in
-    omega (arith, r.now, s.few)
-now_behind settings first false scans machine done begin last later all_taken r s =
-    let life = life_of machine.history in
-    let here = s.before ++ later in
-    let whole : life_of begin.history ≡ here ++ life =
-    s.life ∙ ap (λ l. s.before ++ l) r.since ∙ sym (append_assoc s.before later life) in
-    let count = ap (λ l. length (blocks_of settings l)) (s.polled ∙ ap (stretch_of s.number) whole) in
-    let count_begin = ap (λ l. length (blocks_of settings l)) whole in
-    let taken = all_taken refl in
-    let one_more = s.round in
-    let all = s.makes.all_taken in
-    let new = poll_is_new settings (here ++ life) s.number (is_new (latest_poll (here ++ life)) s.number) refl (omega arith) in
-    let less = behind_new scans here life s.number new in
-    let few = behind_more scans life later s.before in
-    omega (arith, r.now, s.few)
-  where
-    poll_is_new : (settings : Settings) (life : Life) (number : ℕ) (new : Bool) → is_new (latest_poll life) number ≡ new
-        → length (blocks_of settings life) < length (blocks_of settings (Commanded (commands.Poll number) ∷ life))
-        → is_new (latest_poll life) number ≡ true
-    poll_is_new settings life number true is more = is
-    poll_is_new settings life number false is more =
-        let same = ap length (blocks_old settings life number is) in absurd (omega arith)
+-- so it is for any that are further behind
+pub reached_behind : (settings : Settings) (first scans most behind more : ℕ) (machine last : Machine) (later : Life) → behind ≤ more
+    → IsReached settings first scans most behind machine last later → IsReached settings first scans most more machine last later
+reached_behind settings first scans most behind more machine last later le r =
+    record { since = r.since; near = r.near; now = omega (arith, r.now); all_taken = r.all_taken; between = r.between }
 
--- one more clean round in time
-pub reached_next : (settings : Settings) (first : ℕ) (untaken : Bool) (scans : ℕ) (machine done begin last : Machine) (later : Life)
-    → (untaken ≡ false → begin.round ≡ length (blocks_in settings begin))
-    → IsReached settings first scans (scans + behind_after untaken scans) (behind_after untaken scans) machine done later
-    → (s : HasStretch settings first scans done begin last)
-    → IsReached settings first scans (scans + behind_after untaken scans) (behind_after untaken scans) machine last (stretch_of s.number s.before ++ later)
-reached_next settings first untaken scans machine done begin last later all_taken r s =
-    let life = life_of machine.history in
-    let stretch = stretch_of s.number s.before in
+-- a poll that makes one more block is new
+poll_is_new : (settings : Settings) (life : Life) (number : ℕ) (new : Bool) → is_new (latest_poll life) number ≡ new
+    → length (blocks_of settings life) < length (blocks_of settings (Commanded (commands.Poll number) ∷ life))
+    → is_new (latest_poll life) number ≡ true
+poll_is_new settings life number true is more = is
+poll_is_new settings life number false is more =
+    let same = ap length (blocks_old settings life number is) in absurd (omega arith)
+
+module _ (settings : Settings) (first : ℕ) (untaken : Bool) (scans : ℕ) (machine done receipt last : Machine) (later : Life) (so_far : ℕ)
+    (r : IsReached settings first scans (scans + behind_after untaken scans) (behind_after untaken scans + so_far) machine done later)
+    (s : HasStretch settings first done receipt last)
+    (all_taken : untaken ≡ false → last.round ≡ length (blocks_in settings receipt) + 1)
+    (few : so_far + scans_in (filter_events s.before) ≤ scans) where
+  abbrev life : Life
+  life = life_of machine.history
+
+  -- what happened until the poll had been received
+  abbrev upto : Life
+  upto = stretch_of s.number s.before ++ later
+
+  pub since_receipt : life_of receipt.history ≡ (s.before ++ later) ++ life
+  since_receipt = s.life ∙ ap (λ l. s.before ++ l) r.since ∙ sym (append_assoc s.before later life)
+
+  -- how far the blocks are behind then
+  behind_then : (untaken' : Bool) → untaken ≡ untaken' → scans_behind scans upto life ≤ behind_after untaken scans
+  behind_then true is =
+      let blocks_before = ap (λ l. length (blocks_of settings l)) r.since in
+      let blocks_now = ap (λ l. length (blocks_of settings (stretch_of s.number l))) since_receipt in
+      let one_more = s.one_more in
+      let made = after_block settings scans life later (stretch_of s.number s.before) (omega arith) in
+      let most : behind_after untaken scans ≡ scans = ap (λ u. behind_after u scans) is in
+      omega (arith, r.now)
+  behind_then false is =
+      let blocks_receipt = ap (λ l. length (blocks_of settings l)) since_receipt in
+      let blocks_now = ap (λ l. length (blocks_of settings (stretch_of s.number l))) since_receipt in
+      let taken = s.taken in
+      let all = all_taken is in
+      let new = poll_is_new settings ((s.before ++ later) ++ life) s.number (is_new (latest_poll ((s.before ++ later) ++ life)) s.number) refl (omega arith) in
+      let less = behind_new scans (s.before ++ later) life s.number new in
+      let more = behind_more scans life later s.before in
+      let most : behind_after untaken scans ≡ 0 = ap (λ u. behind_after u scans) is in
+      omega (arith, r.now)
+
+  pub near_then : AtEachTime (λ l. scans_behind scans l life ≤ scans + behind_after untaken scans) upto
+  near_then =
+      behind_each scans life later (scans + behind_after untaken scans) (stretch_of s.number s.before) (omega (arith, r.now, few)) r.near
+
+  -- when the poll has been received, the blocks are as little behind as they may be
+  pub now_then : scans_behind scans upto life ≤ behind_after untaken scans
+  now_then = behind_then untaken refl
+
+  -- one more clean round in time
+  pub reached_next : (now : ℕ) → scans_in (filter_events s.after_it) ≤ now → now ≤ scans
+      → IsReached settings first scans (scans + behind_after untaken scans) (behind_after untaken scans + now) machine last (s.after_it ++ upto)
+  reached_next now within low =
+      let more = behind_more scans life upto s.after_it in
+      let then_behind = now_then in
+      record {
+        since =
+            s.polled
+            ∙ ap (λ l. s.after_it ++ stretch_of s.number l) since_receipt
+            ∙ sym (append_assoc s.after_it upto life);
+        near = behind_each scans life upto (scans + behind_after untaken scans) s.after_it (omega arith) near_then;
+        now = omega arith;
+        all_taken = s.all_taken;
+        between = s.between;
+      }
+
+-- events with few scans among them lead on in time
+pub few_in_time : (settings : Settings) (first scans : ℕ) (earlier machine last : Machine) (events : List Event) → HaveNoRestart events
+    → Leads settings first machine events last → scans_among events ≤ scans → IsWithin 0 earlier machine
+    → LeadsInTime settings first scans earlier machine last
+few_in_time settings first scans earlier machine last events none leads few within =
+    let g = grows settings first machine last events none leads in
+    let count = scans_grown machine last g.stretch g.life in
     record {
-      since = s.polled ∙ ap (stretch_of s.number) (s.life ∙ ap (λ l. s.before ++ l) r.since ∙ sym (append_assoc s.before later life));
-      near = behind_each scans life later (scans + behind_after untaken scans) stretch (omega (arith, r.now, s.few)) r.near;
-      now = now_behind settings first untaken scans machine done begin last later all_taken r s;
-      all_taken = s.makes.all_taken;
-      between = s.between;
+      leads_on = record { events = events; no_restart = none; leads = leads };
+      in_time = omega (arith, g.few, within);
     }
+
+-- a round with nothing between
+pub quick_round_in_time : (settings : Settings) (first : ℕ) (machine : Machine) → RoundWithNothingBetweenIsInTime settings first machine
+quick_round_in_time settings first machine untaken scans earlier begin last t all_taken leads =
+    let receipt = after settings first begin events.Poll in
+    let g = grows settings first begin last (clean_round begin) (tt, (tt, (tt, tt))) leads in
+    let count = scans_grown begin last g.stretch g.life in
+    let within : IsWithin 0 receipt last = omega (arith, g.few) in (
+      record {
+        begin = begin;
+        leads_on = t.leads_on;
+        round = record { before = []; after = []; none_before = tt; none_after = tt; sent = (refl, refl); answered = leads.1 };
+        in_time = t.in_time;
+        heard_in_time = omega arith;
+        all_taken = all_taken;
+      },
+      (refl, refl),
+      within,
+    )

@@ -1,24 +1,26 @@
 -- All clean rounds of a link that is polled in time.
-use Rattle.std.proofs.Common.{◌≡◌, ℕ, zero, suc, ◌+◌, ◌-◌, ◌*◌, ◌≤◌, min, Bool, true, false, List, [], ◌∷◌, ◌++◌, length, Some, slice_get, refl, ap, sym, subst, ◌∙◌, arith}
+use Rattle.std.proofs.Common.{◌≡◌, ℕ, zero, suc, ◌+◌, ◌-◌, ◌*◌, ◌≤◌, min, Bool, true, false, List, [], ◌∷◌, ◌++◌, length, Some, slice_get, refl, ap, sym, subst, ◌∙◌, arith, append_assoc}
 use Rattle.std.proofs.Math.Nat.{mul-le-mul_left, mul-le-mul_right}
 use Rattle.std.proofs.lemmas.List.{append_cancel_right}
-use Rattle.fio_input.specs.Delivery.{open_inputs, OpenHaveFiltersOf, NoneIsApplied}
+use Rattle.fio_input.specs.Delivery.{scans_in, open_inputs, OpenHaveFiltersOf, NoneIsApplied}
 use Rattle.fio_input.proofs.FewReports.{open_inputs-few}
 use Rattle.fio_module.specs.Settings.{Settings, AreInRange}
-use Rattle.fio_module.specs.Life.{Life, life_of, filter_events}
+use Rattle.fio_module.specs.Life.{Life, life_of, scans_of, filter_events}
 use Rattle.fio_module.specs.Log.{log_of}
 use Rattle.fio_module.specs.Blocks.{blocks_of, newest_end, waiting_of}
 use Rattle.fio_module.specs.Delivery.{AtEachTime}
 use Rattle.fio_module.specs.KeepingUp.{scans_behind, IsKeptUp}
 use Rattle.fio_module.proofs.Pace.{none_before}
+use Rattle.fio_module.proofs.Outages.{ends-grow}
+use Rattle.fio_module.proofs.NewLevels.{scans_of-append}
 use Rattle.fio_module.proofs.Polling.{has_room}
 use Rattle.fio_module.proofs.Stretches.{log-grown, behind_each, end_after_block}
 use Rattle.fio_world.specs.Link.{Machine}
 use Rattle.fio_world.specs.Claims.{blocks_in}
-use Rattle.fio_world.specs.InTime.{LeadsInTime, RoundsInTime, behind_after, HasArrived}
+use Rattle.fio_world.specs.InTime.{LeadsInTime, newest_of, IsRoundInTime, RoundsInTime, behind_after, HasArrived}
 use Rattle.fio_world.proofs.CatchingUp.{IsBetween}
-use Rattle.fio_world.proofs.CleanRoundsInTime.{grows, HasStretch, stretch_of, has_stretch, IsReached, reached_start, reached_next}
-use Rattle.fio_world.proofs.Arrivals.{whole, times, young, few_left, taken_end}
+use Rattle.fio_world.proofs.CleanRoundsInTime.{grows, scans_grown, HasStretch, stretch_of, has_stretch, makes_block, IsReached, reached_start, reached_behind, since_receipt, near_then, now_then, reached_next}
+use Rattle.fio_world.proofs.Arrivals.{whole, times, young, few_left_since, taken_end}
 
 -- What a block takes of what had been logged before an earlier time: all, or so many whole blocks of
 -- what is left at most.
@@ -43,9 +45,6 @@ module _ (settings : Settings) (range : AreInRange settings) (first filter : ℕ
   abbrev behind : ℕ
   behind = behind_after untaken scans
 
-  abbrev Reached : Machine → Life → Type 0
-  Reached last later = IsReached settings first scans (scans + behind) behind machine last later
-
   -- it is kept up with
   pub kept_up : (later : Life) → NoneIsApplied (filter_events later)
       → AtEachTime (λ l. scans_behind scans l life ≤ scans + behind) later
@@ -67,92 +66,133 @@ module _ (settings : Settings) (range : AreInRange settings) (first filter : ℕ
       few_behind true = omega arith
       few_behind false = omega arith
 
-  -- the clean round that has just ended
-  left_now : (begin last : Machine) (later : Life) (done : Machine) → HasStretch settings first scans done begin last
-      → Reached last later → NoneIsApplied (filter_events later)
-      → LeftOf settings filter (opened * (behind + (filter - 1))) 0 begin last
-  left_now begin last later done s r none =
-      let k = kept_up later none r.near in
-      let few = few_left settings range first filter scans (scans + behind) behind machine last later b taken r k in
-      let same : length (log_of (life_of last.history)) ≡ length (log_of (life_of begin.history)) = ap (λ l. length (log_of l)) s.polled in
-      let left = length (log_of (life_of begin.history)) - newest_end settings (life_of last.history) in
-      let product : left * filter ≡ (length (log_of (life_of last.history)) - newest_end settings (life_of last.history)) * filter =
-      ap (λ n. (n - newest_end settings (life_of last.history)) * filter) (sym same) in
-      let nothing_more : 0 * (settings.per_block * filter) ≡ 0 = grind arith in
-      record { logged = omega arith; few = λ some_left. omega arith }
+  module _ (done receipt last : Machine) (later : Life) (so_far : ℕ)
+      (r : IsReached settings first scans (scans + behind) (behind + so_far) machine done later)
+      (s : HasStretch settings first done receipt last)
+      (all_taken : untaken ≡ false → last.round ≡ length (blocks_in settings receipt) + 1)
+      (few : so_far + scans_in (filter_events s.before) ≤ scans) where
+    -- what happened until the poll had been received
+    abbrev upto_poll : Life
+    upto_poll = stretch_of s.number s.before ++ later
 
-  -- one that ended earlier
-  left_then : (earlier begin last done : Machine) (rounds most : ℕ) → HasStretch settings first scans done begin last
-      → LeftOf settings filter most rounds earlier done → LeftOf settings filter most (rounds + 1) earlier last
-  left_then earlier begin last done rounds most s l =
-      let before = life_of done.history in
-      let now = life_of last.history in
-      let logged = length (log_of (life_of earlier.history)) in
-      let stretch = stretch_of s.number s.before in
-      let whole : now ≡ stretch ++ before = s.polled ∙ ap (stretch_of s.number) s.life in
-      let grown = log-grown stretch before in
-      let log_now : length (log_of now) ≡ length (log_of (stretch ++ before)) = ap (λ l. length (log_of l)) whole in
-      let end_now : newest_end settings now ≡ newest_end settings (stretch ++ before) = ap (newest_end settings) whole in
-      let blocks_now : length (blocks_of settings now) ≡ length (blocks_of settings (stretch ++ before)) = ap (λ l. length (blocks_of settings l)) whole in
-      let one_more = s.makes.one_more in
-      let bound = min logged (newest_end settings before + settings.per_block) in
-      let old = l.logged in
-      let taken_more : bound ≤ newest_end settings (stretch ++ before) =
-      end_after_block settings before bound (omega arith) (omega arith) stretch (omega arith) in
-      let spread : (rounds + 1) * (settings.per_block * filter) ≡ rounds * (settings.per_block * filter) + settings.per_block * filter = grind arith in
-      record {
-        logged = omega arith;
-        few = λ some_left.
-            let left = logged - newest_end settings now in
-            let more : left + settings.per_block ≤ logged - newest_end settings before = omega arith in
-            let products : (left + settings.per_block) * filter ≤ (logged - newest_end settings before) * filter = mul-le-mul_right filter more in
-            let both : (left + settings.per_block) * filter ≡ left * filter + settings.per_block * filter = grind arith in
-            let earlier_few = l.few (omega arith) in
-            omega arith;
-      }
+    -- the clean round that has just ended
+    pub left_now : NoneIsApplied (filter_events (s.after_it ++ upto_poll)) → LeftOf settings filter (opened * (behind + (filter - 1))) 0 receipt last
+    left_now none =
+        let near = near_then settings first untaken scans machine done receipt last later so_far r s all_taken few in
+        let low = now_then settings first untaken scans machine done receipt last later so_far r s all_taken few in
+        let since = s.at_poll_life ∙ ap (stretch_of s.number) (since_receipt settings first untaken scans machine done receipt last later so_far r s all_taken few) in
+        let k = kept_up upto_poll (none_before s.after_it upto_poll none) near in
+        let most = few_left_since settings range filter scans (scans + behind) behind machine s.at_poll upto_poll since near low k in
+        let polled = stretch_of s.number (life_of receipt.history) in
+        let same : length (log_of (life_of s.at_poll.history)) ≡ length (log_of (life_of receipt.history)) = ap (λ l. length (log_of l)) s.at_poll_life in
+        let end : newest_end settings (life_of s.at_poll.history) ≡ newest_end settings polled = ap (newest_end settings) s.at_poll_life in
+        let grown = log-grown s.after_it polled in
+        let later_end = ends-grow settings s.after_it polled in
+        let log_last : length (log_of (life_of last.history)) ≡ length (log_of (s.after_it ++ polled)) = ap (λ l. length (log_of l)) s.polled in
+        let end_last : newest_end settings (life_of last.history) ≡ newest_end settings (s.after_it ++ polled) = ap (newest_end settings) s.polled in
+        let left = length (log_of (life_of receipt.history)) - newest_end settings (life_of last.history) in
+        let product : left * filter ≤ (length (log_of (life_of s.at_poll.history)) - newest_end settings (life_of s.at_poll.history)) * filter =
+        mul-le-mul_right filter (omega arith) in
+        let nothing_more : 0 * (settings.per_block * filter) ≡ 0 = grind arith in
+        record { logged = omega arith; few = λ some_left. omega arith }
+
+    -- one that ended earlier
+    pub left_then : (earlier : Machine) (rounds most : ℕ)
+        → LeftOf settings filter most rounds earlier done → LeftOf settings filter most (rounds + 1) earlier last
+    left_then earlier rounds most l =
+        let before = life_of done.history in
+        let now = life_of last.history in
+        let logged = length (log_of (life_of earlier.history)) in
+        let stretch = s.after_it ++ stretch_of s.number s.before in
+        let whole : now ≡ stretch ++ before =
+        s.polled ∙ ap (λ l. s.after_it ++ stretch_of s.number l) s.life ∙ sym (append_assoc s.after_it (stretch_of s.number s.before) before) in
+        let grown = log-grown stretch before in
+        let log_now : length (log_of now) ≡ length (log_of (stretch ++ before)) = ap (λ l. length (log_of l)) whole in
+        let end_now : newest_end settings now ≡ newest_end settings (stretch ++ before) = ap (newest_end settings) whole in
+        let blocks_now : length (blocks_of settings now) ≡ length (blocks_of settings (stretch ++ before)) = ap (λ l. length (blocks_of settings l)) whole in
+        let one_more = (makes_block settings first done receipt last s).one_more in
+        let bound = min logged (newest_end settings before + settings.per_block) in
+        let old = l.logged in
+        let taken_more : bound ≤ newest_end settings (stretch ++ before) =
+        end_after_block settings before bound (omega arith) (omega arith) stretch (omega arith) in
+        let spread : (rounds + 1) * (settings.per_block * filter) ≡ rounds * (settings.per_block * filter) + settings.per_block * filter = grind arith in
+        record {
+          logged = omega arith;
+          few = λ some_left.
+              let left = logged - newest_end settings now in
+              let more : left + settings.per_block ≤ logged - newest_end settings before = omega arith in
+              let products : (left + settings.per_block) * filter ≤ (logged - newest_end settings before) * filter = mul-le-mul_right filter more in
+              let both : (left + settings.per_block) * filter ≡ left * filter + settings.per_block * filter = grind arith in
+              let earlier_few = l.few (omega arith) in
+              omega arith;
+        }
 
   -- what clean rounds have reached
-  pub record HasChain (begins : List Machine) (last : Machine) : Type 0 where
+  pub record HasChain (receipts : List Machine) (last : Machine) : Type 0 where
     pub later : Life
-    pub reached : Reached last later
-    pub through : NoneIsApplied (filter_events later) → (rounds : ℕ) (begin : Machine) → slice_get begins rounds ≡ Some begin
-        → LeftOf settings filter (opened * (behind + (filter - 1))) rounds begin last
+    -- the scans since the newest poll was received
+    pub so_far : ℕ
+    pub since_newest : scans_of (life_of last.history) ≡ scans_of (life_of (newest_of machine receipts).history) + so_far
+    pub few : so_far ≤ scans
+    pub reached : IsReached settings first scans (scans + behind) (behind + so_far) machine last later
+    pub through : NoneIsApplied (filter_events later) → (rounds : ℕ) (receipt : Machine) → slice_get receipts rounds ≡ Some receipt
+        → LeftOf settings filter (opened * (behind + (filter - 1))) rounds receipt last
 
-  chain_next : (begin : Machine) (begins : List Machine) (done last : Machine)
-      → (untaken ≡ false → begin.round ≡ length (blocks_in settings begin)) → HasStretch settings first scans done begin last
-      → HasChain begins done → HasChain (begin ∷ begins) last
-  chain_next begin begins done last all_taken s c =
-      let r = reached_next settings first untaken scans machine done begin last c.later all_taken c.reached s in
-      record { later = stretch_of s.number s.before ++ c.later; reached = r; through = through r }
+  chain_next : (receipts : List Machine) (done receipt last : Machine)
+      → IsRoundInTime settings first untaken scans (newest_of machine receipts) done receipt last
+      → HasChain receipts done → HasChain (receipt ∷ receipts) last
+  chain_next receipts done receipt last x c =
+      let found = has_stretch settings range first done x.begin receipt last c.reached.between c.reached.all_taken x.leads_on x.round in
+      let s = found.0 in
+      let before = scans_grown done receipt s.before s.life in
+      let count = scans_of-append s.after_it (stretch_of s.number (life_of receipt.history)) in
+      let now : scans_of (life_of last.history) ≡ scans_in (filter_events s.after_it) + scans_of (life_of receipt.history) = ap scans_of s.polled ∙ count in
+      let since = c.since_newest in
+      let all_taken : untaken ≡ false → last.round ≡ length (blocks_in settings receipt) + 1 = λ is. found.1 ∙ ap (λ n. n + 1) (x.all_taken is) in
+      let few : c.so_far + scans_in (filter_events s.before) ≤ scans = omega (arith, x.in_time) in
+      let low : scans_in (filter_events s.after_it) ≤ scans = omega (arith, x.heard_in_time) in
+      let after_so = reached_next settings first untaken scans machine done receipt last c.later c.so_far c.reached s all_taken few
+      (scans_in (filter_events s.after_it)) (omega arith) low in
+      record {
+        later = s.after_it ++ (stretch_of s.number s.before ++ c.later);
+        so_far = scans_in (filter_events s.after_it);
+        since_newest = omega arith;
+        few = low;
+        reached = after_so;
+        through = through s all_taken few;
+      }
     where
-      through : Reached last (stretch_of s.number s.before ++ c.later)
-          → NoneIsApplied (filter_events (stretch_of s.number s.before ++ c.later))
-          → (rounds : ℕ) (earlier : Machine) → slice_get (begin ∷ begins) rounds ≡ Some earlier
+      through : (s : HasStretch settings first done receipt last)
+          → (untaken ≡ false → last.round ≡ length (blocks_in settings receipt) + 1)
+          → c.so_far + scans_in (filter_events s.before) ≤ scans
+          → NoneIsApplied (filter_events (s.after_it ++ (stretch_of s.number s.before ++ c.later)))
+          → (rounds : ℕ) (earlier : Machine) → slice_get (receipt ∷ receipts) rounds ≡ Some earlier
           → LeftOf settings filter (opened * (behind + (filter - 1))) rounds earlier last
-      through r none zero earlier is =
-          let same : begin ≡ earlier = cc in
+      through s all_taken few none zero earlier is =
+          let same : receipt ≡ earlier = cc in
           subst (λ m. LeftOf settings filter (opened * (behind + (filter - 1))) 0 m last) same
-          (left_now begin last (stretch_of s.number s.before ++ c.later) done s r none)
-      through r none (suc rounds) earlier is =
+          (left_now done receipt last c.later c.so_far c.reached s all_taken few none)
+      through s all_taken few none (suc rounds) earlier is =
           let one_more : rounds + 1 ≡ suc rounds = omega arith in
+          let none_upto = none_before s.after_it (stretch_of s.number s.before ++ c.later) none in
           subst (λ n. LeftOf settings filter (opened * (behind + (filter - 1))) n earlier last) one_more
-          (left_then earlier begin last done rounds (opened * (behind + (filter - 1))) s
-          (c.through (none_before (stretch_of s.number s.before) c.later none) rounds earlier is))
+          (left_then done receipt last c.later c.so_far c.reached s all_taken few earlier rounds (opened * (behind + (filter - 1)))
+          (c.through (none_before (stretch_of s.number s.before) c.later none_upto) rounds earlier is))
 
-  pub has_chain : (begins : List Machine) (last : Machine) → RoundsInTime settings first untaken scans machine begins last
-      → HasChain begins last
+  pub has_chain : (receipts : List Machine) (last : Machine) → RoundsInTime settings first untaken scans machine receipts last
+      → HasChain receipts last
   has_chain [] last rounds =
       let start : HasChain [] machine = record {
         later = [];
-        reached = reached_start settings first scans (scans + behind) behind machine b taken;
-        through = λ none n begin is. absurd (cc is);
+        so_far = 0;
+        since_newest = omega arith;
+        few = omega arith;
+        reached = reached_start settings first scans (scans + behind) (behind + 0) machine b taken;
+        through = λ none n receipt is. absurd (cc is);
       } in
       subst (HasChain []) (sym rounds) start
-  has_chain (begin ∷ begins) last rounds =
-      let done = rounds.0 in
-      let c = has_chain begins done rounds.1 in
-      let s = has_stretch settings range first scans done begin last c.reached.between c.reached.all_taken rounds.2.in_time rounds.2.leads in
-      chain_next begin begins done last rounds.2.all_taken s c
+  has_chain (receipt ∷ receipts) last rounds =
+      chain_next receipts rounds.0 receipt last rounds.2 (has_chain receipts rounds.0 rounds.1)
 
   -- so where nothing can be left after so many blocks, nothing is
   none_left : (rounds : ℕ) (begin last : Machine) → last.round ≡ length (blocks_in settings last)
@@ -171,41 +211,45 @@ module _ (settings : Settings) (range : AreInRange settings) (first filter : ℕ
       none (suc left) logged end is not = absurd (not (omega arith))
 
   -- what has arrived
-  pub arrives : (begins : List Machine) (last : Machine) (later : Life) → RoundsInTime settings first untaken scans machine begins last
+  pub arrives : (receipts : List Machine) (last : Machine) (later : Life) → RoundsInTime settings first untaken scans machine receipts last
       → life_of last.history ≡ later ++ life → NoneIsApplied (filter_events later)
-      → HasArrived settings filter (scans + behind) behind machine begins last
-  arrives begins last later rounds since none =
-      let c = has_chain begins last rounds in
+      → HasArrived settings filter (scans + behind) behind machine receipts last
+  arrives receipts last later rounds since none =
+      let c = has_chain receipts last rounds in
       let r = c.reached in
       let same : later ≡ c.later = append_cancel_right later c.later life (sym since ∙ r.since) in
       let none' = subst (λ l. NoneIsApplied (filter_events l)) same none in
       let k = kept_up c.later none' r.near in
+      let since_newest = c.since_newest in
       record {
-        whole = whole settings range first filter scans (scans + behind) behind machine last c.later b taken r k;
-        times = times settings range first filter scans (scans + behind) behind machine last c.later b taken r k;
-        through = λ n begin few is.
-            let left = none_left n begin last r.all_taken (c.through none' n begin is) few in
+        whole = whole settings range first filter scans (scans + behind) (behind + c.so_far) machine last c.later b taken r k;
+        times = times settings range first filter scans (scans + behind) (behind + c.so_far) machine last c.later b taken r k;
+        through = λ n receipt few is.
+            let left = none_left n receipt last r.all_taken (c.through none' n receipt is) few in
             omega (arith, taken_end settings last r.all_taken);
-        young = young settings range first filter scans (scans + behind) behind machine last c.later b taken r k;
+        young = λ more within.
+            young settings range first filter scans (scans + behind) (more + behind) machine last c.later b taken
+            (reached_behind settings first scans (scans + behind) (behind + c.so_far) (more + behind) machine last c.later (omega arith) r) k;
       }
 
-  -- and until the next clean round begins
-  pub keeps_up : (begins : List Machine) (last now : Machine) (later stretch : Life)
-      → RoundsInTime settings first untaken scans machine begins last → life_of last.history ≡ later ++ life
-      → LeadsInTime settings first scans last now
+  -- and as long as the next clean round may come
+  pub keeps_up : (receipts : List Machine) (last now : Machine) (later stretch : Life)
+      → RoundsInTime settings first untaken scans machine receipts last → life_of last.history ≡ later ++ life
+      → LeadsInTime settings first scans (newest_of machine receipts) last now
       → life_of now.history ≡ stretch ++ (later ++ life) → NoneIsApplied (filter_events (stretch ++ later))
       → IsKeptUp settings filter scans (scans + behind) life (stretch ++ later)
-  keeps_up begins last now later stretch rounds since t is none =
-      let c = has_chain begins last rounds in
+  keeps_up receipts last now later stretch rounds since t is none =
+      let c = has_chain receipts last rounds in
       let r = c.reached in
       let same : c.later ≡ later = append_cancel_right c.later later life (sym r.since ∙ since) in
       let near = subst (AtEachTime (λ l. scans_behind scans l life ≤ scans + behind)) same r.near in
-      let low = subst (λ l. scans_behind scans l life ≤ behind) same r.now in
-      let g = grows settings first last now t.events t.no_restart t.leads in
+      let low = subst (λ l. scans_behind scans l life ≤ behind + c.so_far) same r.now in
+      let g = grows settings first last now t.leads_on.events t.leads_on.no_restart t.leads_on.leads in
       let same_stretch : g.stretch ≡ stretch =
       append_cancel_right g.stretch stretch (later ++ life) (ap (λ l. g.stretch ++ l) (sym since) ∙ sym g.life ∙ is) in
-      let few = g.few in
-      let most = t.few in
+      let since_newest = c.since_newest in
+      let count = scans_grown last now g.stretch g.life in
+      let in_time = t.in_time in
       kept_up (stretch ++ later) none
       (subst (λ l. AtEachTime (λ l. scans_behind scans l life ≤ scans + behind) (l ++ later)) same_stretch
       (behind_each scans life later (scans + behind) g.stretch (omega arith) near))

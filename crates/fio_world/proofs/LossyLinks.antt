@@ -1,12 +1,16 @@
 -- Links that are kept up with deliver all, also where rounds are lost.
-use Rattle.std.proofs.Common.{◌≡◌, ℕ, ◌+◌, ◌-◌, ◌*◌, ◌≤◌, max, List, [], ◌∷◌, ◌++◌, length, ap, sym, subst, ◌∙◌, arith, append_assoc}
+use Rattle.std.proofs.Common.{◌≡◌, ℕ, ◌+◌, ◌-◌, ◌*◌, ◌≤◌, max, List, [], ◌∷◌, ◌++◌, length, refl, ap, sym, subst, ◌∙◌, arith, append_assoc}
 use Rattle.std.specs.List.{AllByRecursion}
 use Rattle.std.proofs.lemmas.List.{append_cancel_right}
 use Rattle.fio_input.proofs.FewReports.{open_inputs-few}
 use Rattle.fio_module.specs.Settings.{Settings, AreInRange}
-use Rattle.fio_module.specs.Life.{Life, life_of, filter_events}
+use Rattle.fio_module.specs.Life.{Life, life_of, scans_of, filter_events}
 use Rattle.fio_module.specs.Blocks.{blocks_of}
-use Rattle.fio_module.specs.KeepingUp.{IsKeptUp}
+use Rattle.fio_module.specs.Delivery.{AtEachTime}
+use Rattle.fio_module.specs.KeepingUp.{scans_behind, IsKeptUp}
+use Rattle.fio_module.proofs.NewLevels.{scans_of-append}
+use Rattle.fio_input.specs.Delivery.{scans_in}
+use Rattle.fio_world.specs.AnyTime.{LacksOnlyYoung}
 use Rattle.fio_module.proofs.Stretches.{behind_more, behind_each, after_block}
 use Rattle.fio_world.specs.Link.{Machine}
 use Rattle.fio_world.specs.Claims.{blocks_in}
@@ -14,7 +18,7 @@ use Rattle.fio_world.specs.LossyLinks.{Pause, scans_of_pause, IsRoundAfter, Roun
 use Rattle.fio_world.proofs.OneLifeRows.{kept_all}
 use Rattle.fio_world.proofs.CleanRounds.{sent_all}
 use Rattle.fio_world.proofs.CatchingUp.{IsBetween}
-use Rattle.fio_world.proofs.CleanRoundsInTime.{grows, stretch_of, has_stretch, IsReached, reached_start}
+use Rattle.fio_world.proofs.CleanRoundsInTime.{grows, scans_grown, stretch_of, has_stretch, IsReached}
 use Rattle.fio_world.proofs.Arrivals.{whole, times, young}
 use Rattle.fio_world.proofs.AnyTime.{lacks_only_young_since}
 
@@ -22,65 +26,106 @@ module _ (settings : Settings) (range : AreInRange settings) (first scans most :
   abbrev life : Life
   life = life_of machine.history
 
-  abbrev Reached : ℕ → Machine → Life → Type 0
-  Reached behind last later = IsReached settings first scans most behind machine last later
+  -- what holds at the end of a round, whose poll was received so many scans before, and when it was
+  record Reached (behind : ℕ) (receipt last : Machine) (later : Life) : Type 0 where
+    so_far : ℕ
+    since_receipt : scans_of (life_of last.history) ≡ scans_of (life_of receipt.history) + so_far
+    since : life_of last.history ≡ later ++ life
+    near : behind + so_far ≤ most → AtEachTime (λ l. scans_behind scans l life ≤ most) later
+    now : scans_behind scans later life ≤ behind + so_far
+    all_taken : last.round ≡ length (blocks_in settings last)
+    between : IsBetween settings first last
+
+  -- so it is kept up with
+  is_reached : (behind : ℕ) (receipt last : Machine) (later : Life) → (r : Reached behind receipt last later) → behind + r.so_far ≤ most
+      → IsReached settings first scans most (behind + r.so_far) machine last later
+  is_reached behind receipt last later r few =
+      record { since = r.since; near = r.near few; now = r.now; all_taken = r.all_taken; between = r.between }
 
   -- one more round
-  next_reached : (behind : ℕ) (pause : Pause) (done last : Machine) (later : Life) → Reached behind done later
-      → IsRoundAfter settings first pause done last → behind + scans_of_pause pause ≤ most
-      → (now : Life) × Reached (max (behind + scans_of_pause pause - scans) pause.untaken) last now
-  next_reached behind pause done last later r p few =
-      let t = p.settled in
+  next_reached : (behind : ℕ) (pause : Pause) (earlier done receipt last : Machine) (later : Life) → Reached behind earlier done later
+      → IsRoundAfter settings first pause earlier done receipt last → behind + scans_of_pause pause ≤ most
+      → (now : Life) × Reached (max (behind + scans_of_pause pause - scans) pause.untaken) receipt last now
+  next_reached behind pause earlier done receipt last later r p few =
+      let t = p.settled.leads_on in
       let g = grows settings first done p.between t.events t.no_restart t.leads in
       let at : IsBetween settings first p.between = record {
         sent = sent_all settings first t.events done p.between t.leads r.between.sent;
         kept = kept_all settings range first t.events done p.between t.no_restart t.leads r.between.kept;
       } in
-      let s = has_stretch settings range first pause.untaken p.between p.begin last at p.all_taken p.untaken p.leads in
+      let s = (has_stretch settings range first p.between p.begin receipt last at p.all_taken p.leads_on p.round).0 in
       let before = g.stretch ++ later in
       let stretch = stretch_of s.number s.before in
+      let upto = stretch ++ before in
+      let polled = stretch_of s.number (life_of receipt.history) in
       let since_between : life_of p.between.history ≡ before ++ life =
       g.life ∙ ap (λ l. g.stretch ++ l) r.since ∙ sym (append_assoc g.stretch later life) in
-      let since : life_of last.history ≡ (stretch ++ before) ++ life =
-      s.polled ∙ ap (stretch_of s.number) (s.life ∙ ap (λ l. s.before ++ l) since_between ∙ sym (append_assoc s.before before life)) in
+      let since_receipt : polled ≡ upto ++ life =
+      ap (stretch_of s.number) (s.life ∙ ap (λ l. s.before ++ l) since_between ∙ sym (append_assoc s.before before life)) in
+      let since : life_of last.history ≡ (s.after_it ++ upto) ++ life =
+      s.polled ∙ ap (λ l. s.after_it ++ l) since_receipt ∙ sym (append_assoc s.after_it upto life) in
+      let count_between = scans_grown done p.between g.stretch g.life in
+      let count_receipt = scans_grown p.between receipt s.before s.life in
+      let count_last : scans_of (life_of last.history) ≡ scans_in (filter_events s.after_it) + scans_of (life_of receipt.history) =
+      ap scans_of s.polled ∙ scans_of-append s.after_it polled in
+      let order = r.since_receipt in
+      let settled : r.so_far + scans_in (filter_events g.stretch) ≤ pause.settled = omega (arith, p.settled.in_time) in
+      let untaken : scans_in (filter_events s.before) ≤ pause.untaken = omega (arith, p.untaken) in
       let blocks_before = ap (λ l. length (blocks_of settings l)) since_between in
-      let blocks_now = ap (λ l. length (blocks_of settings l)) since in
-      let one_more = s.makes.one_more in
+      let blocks_now = ap (λ l. length (blocks_of settings l)) since_receipt in
+      let one_more = s.one_more in
+      let so = r.now in
       let so_far = behind_more scans life later g.stretch in
-      let made = after_block settings scans life before stretch (omega arith) in (
-        stretch ++ before,
+      let made = after_block settings scans life before stretch (omega arith) in
+      let more = behind_more scans life upto s.after_it in
+      let then_near = behind_each scans life before most stretch (omega arith) (behind_each scans life later most g.stretch (omega arith) (r.near (omega arith))) in (
+        s.after_it ++ upto,
         record {
+          so_far = scans_in (filter_events s.after_it);
+          since_receipt = omega arith;
           since = since;
-          near = behind_each scans life before most stretch (omega (arith, r.now, g.few, t.few, s.few))
-              (behind_each scans life later most g.stretch (omega (arith, r.now, g.few, t.few)) r.near);
-          now = omega (arith, r.now, g.few, t.few, s.few);
-          all_taken = s.makes.all_taken;
+          near = λ few_now. behind_each scans life upto most s.after_it (omega arith) then_near;
+          now = omega arith;
+          all_taken = s.all_taken;
           between = s.between;
         },
       )
 
   -- all rounds
   reached : (b : IsBetween settings first machine) → machine.round ≡ length (blocks_in settings machine)
-      → (pauses : List Pause) (last : Machine) → RoundsAfter settings first machine pauses last → BeginNear scans most pauses
-      → (later : Life) × Reached (left_behind scans pauses) last later
-  reached b taken [] last rounds near =
-      let start : (later : Life) × Reached 0 machine later = ([], reached_start settings first scans most 0 machine b taken) in
-      subst (λ m. (later : Life) × Reached 0 m later) (sym rounds) start
-  reached b taken (pause ∷ pauses) last rounds near =
-      let done = rounds.0 in
-      let r = reached b taken pauses done rounds.1 near.1 in
-      next_reached (left_behind scans pauses) pause done last r.0 r.1 rounds.2 near.0
+      → (pauses : List Pause) (receipt last : Machine) → RoundsAfter settings first machine pauses receipt last → BeginNear scans most pauses
+      → (later : Life) × Reached (left_behind scans pauses) receipt last later
+  reached b taken [] receipt last rounds near =
+      let start : (later : Life) × Reached 0 machine machine later = (
+        [],
+        record { so_far = 0; since_receipt = omega arith; since = refl; near = λ few. omega arith; now = omega arith; all_taken = taken; between = b },
+      ) in
+      subst (λ m. (later : Life) × Reached 0 m last later) (sym rounds.0) (subst (λ m. (later : Life) × Reached 0 machine m later) (sym rounds.1) start)
+  reached b taken (pause ∷ pauses) receipt last rounds near =
+      let earlier = rounds.0 in
+      let done = rounds.1 in
+      let r = reached b taken pauses earlier done rounds.2 near.1 in
+      next_reached (left_behind scans pauses) pause earlier done receipt last r.0 r.1 rounds.3 near.0
+
+-- they are never more behind than they may be
+left_within : (scans most : ℕ) (pauses : List Pause) → BeginNear scans most pauses → left_behind scans pauses ≤ most
+left_within scans most [] near = omega arith
+left_within scans most (pause ∷ pauses) near = omega (arith, near.0)
 
 -- where a link is kept up with
 pub all_arrives : (settings : Settings) → AreInRange settings → (first : ℕ) (machine : Machine) → IsBetween settings first machine
     → AllArrivesWhereKeptUpWith settings first machine
-all_arrives settings range first machine b filter scans most pauses last later p =
+all_arrives settings range first machine b filter scans most pauses receipt last later p =
     let life = life_of machine.history in
     let behind = left_behind scans pauses in
-    let found = reached settings range first scans most machine b p.all_taken pauses last p.rounds p.near in
-    let same : found.0 ≡ later = append_cancel_right found.0 later life (sym found.1.since ∙ p.since) in
-    let r : IsReached settings first scans most behind machine last later =
-    subst (λ l. IsReached settings first scans most behind machine last l) same found.1 in
+    let found = reached settings range first scans most machine b p.all_taken pauses receipt last p.rounds p.near in
+    let so_far = found.1.so_far in
+    let order = found.1.since_receipt in
+    let within = left_within scans most pauses p.near in
+    let at_once = is_reached settings range first scans most machine behind receipt last found.0 found.1 (omega (arith, p.heard_near)) in
+    let same : found.0 ≡ later = append_cancel_right found.0 later life (sym at_once.since ∙ p.since) in
+    let r : IsReached settings first scans most (behind + so_far) machine last later =
+    subst (λ l. IsReached settings first scans most (behind + so_far) machine last l) same at_once in
     let k : IsKeptUp settings filter scans most life later = record {
       nothing_waits = p.nothing_waits;
       some = p.some;
@@ -90,12 +135,18 @@ all_arrives settings range first machine b filter scans most pauses last later p
       behind = r.near;
       room = p.room;
     } in
-    let recent = young settings range first filter scans most behind machine last later b p.all_taken r k in
+    let recent = young settings range first filter scans most (behind + so_far) machine last later b p.all_taken r k in
     record {
-      whole = whole settings range first filter scans most behind machine last later b p.all_taken r k;
-      times = times settings range first filter scans most behind machine last later b p.all_taken r k;
+      whole = whole settings range first filter scans most (behind + so_far) machine last later b p.all_taken r k;
+      times = times settings range first filter scans most (behind + so_far) machine last later b p.all_taken r k;
       late = λ between now t.
-          lacks_only_young_since settings first filter behind between last now p.some r.all_taken recent t;
+          let grown = (grows settings first last now t.leads_on.events t.leads_on.no_restart t.leads_on.leads).life in
+          let count = scans_grown last now (grows settings first last now t.leads_on.events t.leads_on.no_restart t.leads_on.leads).stretch grown in
+          let in_time = t.in_time in
+          let longer : between - so_far + (behind + so_far) ≡ between + behind = omega arith in
+          subst (λ n. LacksOnlyYoung n filter settings now) longer
+          (lacks_only_young_since settings first filter (behind + so_far) (between - so_far) last now p.some r.all_taken recent
+          (record { leads_on = t.leads_on; in_time = omega arith }));
     }
 
 -- pauses in a pace leave no more behind than a lost answer keeps

@@ -1,55 +1,40 @@
 -- The promises, from what every run keeps.
-use Rattle.std.proofs.Common.{◌≡◌, ℕ, ◌+◌, ◌≤◌, ◌⊎◌, Bool, true, false, List, [], ◌∷◌, ◌++◌, length, take, map, refl, ap, sym, subst, ◌∙◌, arith, inl, inr, length-drop, if◌then◌else◌}
+use Rattle.std.proofs.Common.{◌≡◌, ℕ, ◌+◌, ◌≤◌, ◌⊎◌, length, take, map, refl, ap, sym, subst, ◌∙◌, arith, inl, inr, length-drop}
 use Rattle.std.specs.List.{flat_map, AllZip}
 use Rattle.std.proofs.lemmas.Bool.{cases_lt}
-use Rattle.std.proofs.lemmas.List.{map-append, take_all}
+use Rattle.std.proofs.lemmas.List.{take_all}
 use Rattle.fio_module.specs.Settings.{Settings, AreInRange}
 use Rattle.fio_module.specs.Life.{Life, life_of}
-use Rattle.fio_module.specs.Log.{Transition, entry_of, log_of}
-use Rattle.fio_module.specs.Blocks.{MadeBlock, blocks_of, end_of_blocks, newest_end, waiting_from}
+use Rattle.fio_module.specs.Log.{log_of}
+use Rattle.fio_module.specs.Blocks.{blocks_of, end_of_blocks, newest_end, waiting_from}
 use Rattle.fio_module.proofs.BlockLaws.{blocks_end_within}
-use Rattle.fio_cpu.specs.declared.record.Item.TheVariants as items
-use Rattle.fio_cpu.specs.Record.{item_of}
 use Rattle.fio_world.specs.Link.{Machine}
-use Rattle.fio_world.specs.Pieces.{Gap, Got, piece_of, pieces_of, taken, ArePieces}
+use Rattle.fio_world.specs.Pieces.{piece_of, taken, ArePieces}
 use Rattle.fio_world.specs.Headline.{RecordIsLog, Headline}
 use Rattle.fio_world.specs.Claims.{blocks_in, StandsAtTaken, RestIsLostOrWaits, HasTimes, IsTimed, sources_of}
 use Rattle.fio_world.specs.Rounds.{next_round, PollsOf, PollsReceivedHaveRounds, NewestPollMadeNewestBlock, BlockAnswersOf, AnswersCarryBlocks}
 use Rattle.fio_world.specs.Rising.{IsRising}
-use Rattle.fio_world.specs.Delivery.{CleanRoundTakesBlock}
+use Rattle.fio_world.specs.Delivery.{CleanRoundTakesBlock, EachCleanRoundTakesOne}
+use Rattle.fio_world.specs.StartingAnew.{DeliveryStartsAnew}
 use Rattle.fio_world.specs.Sound.{Delivers, IsSound, IsSoundRun, HoldsOfRuns, HoldsWithoutRestart}
 use Rattle.fio_world.proofs.MadeBlocks.{each-take}
 use Rattle.fio_world.proofs.PieceLaws.{taken_are_pieces, pieces_begin_log}
 use Rattle.fio_world.proofs.Runs.{invariant, rising, in_sequence, takes}
-use Rattle.fio_world.proofs.OneLife.{recorded_of}
 use Rattle.fio_world.proofs.OneLifeRows.{IsKept, kept, carries_own}
 use Rattle.fio_world.proofs.CleanRounds.{LastWereSent, last_were_sent, clean_round_takes_block}
+use Rattle.fio_world.proofs.WithinRounds.{each_clean_round_takes_one}
 use Rattle.fio_world.proofs.CatchingUp.{IsBetween, clean_round_takes_all, clean_rounds_catch_up}
-use Rattle.fio_world.proofs.Arrivals.{got_entries}
 use Rattle.fio_world.proofs.InAllRounds.{arrives, keeps_up}
-use Rattle.fio_world.proofs.CleanRoundsInTime.{has_stretch}
-use Rattle.fio_world.proofs.AnyTime.{never_late}
+use Rattle.fio_world.proofs.CleanRoundsInTime.{has_stretch, makes_block}
+use Rattle.fio_world.proofs.AnyTime.{never_late, never_late_exactly}
 use Rattle.fio_world.proofs.LossyLinks.{all_arrives}
 use Rattle.fio_world.proofs.NewLevels.{new_levels_are_recorded}
+use Rattle.fio_world.proofs.StartingAnew.{starts_anew}
 use Rattle.fio_world.proofs.WholeRecords.{whole_unless_full, whole_where_polled_often, whole_where_polled_for_each, whole_after_outage}
 use Rattle.fio_world.proofs.GapMarks.{gaps_name_times}
+use Rattle.fio_world.proofs.TakenSpans.{has_spans}
+use Rattle.fio_world.proofs.WholeLives.{got_blocks, takes_stretches}
 use Rattle.fio_world.proofs.Times.{BlockTimely, blocks_timely, blocks_timed}
-
--- the same with its gap mark
-got_marked : (lost : Bool) (stamp : ℕ) (ts : List Transition)
-    → map piece_of ((if lost then items.Gap ∷ [] else []) ++ map (item_of stamp) (map entry_of ts))
-    ≡ (if lost then Gap ∷ [] else []) ++ map (λ transition. Got (entry_of transition)) ts
-got_marked true stamp ts = ap (λ ps. Gap ∷ ps) (got_entries stamp ts)
-got_marked false stamp ts = got_entries stamp ts
-
--- and of several blocks
-got_blocks : (blocks : List MadeBlock)
-    → map piece_of (flat_map recorded_of blocks) ≡ flat_map pieces_of blocks
-got_blocks [] = refl
-got_blocks (block ∷ blocks) =
-    map-append piece_of (recorded_of block) (flat_map recorded_of blocks)
-    ∙ ap (λ ps. ps ++ map piece_of (flat_map recorded_of blocks)) (got_marked block.lost block.stamp block.transitions)
-    ∙ ap (λ ps. pieces_of block ++ ps) (got_blocks blocks)
 
 -- of two numbers at most one apart
 one_behind : (m b : ℕ) → m ≤ b → b ≤ m + 1 → (m ≡ b) ⊎ (m + 1 ≡ b)
@@ -122,8 +107,8 @@ module _ (settings : Settings) (range : AreInRange settings) (first : ℕ) (mach
         polled_often = whole_where_polled_often settings range machine pieces;
         polled_for_each = whole_where_polled_for_each settings range machine pieces;
         outage = whole_after_outage settings machine pieces;
-        rounds_make_blocks = λ scans begin last taken t leads.
-            (has_stretch settings range first scans machine begin last between taken t leads).makes;
+        rounds_make_blocks = λ begin receipt last taken t c.
+            makes_block settings first machine receipt last (has_stretch settings range first machine begin receipt last between taken t c).0;
         rounds_keep_up = λ filter untaken scans begins last now later stretch p t is none.
             keeps_up settings range first filter untaken scans machine between p.all_taken p.nothing_waits p.some p.filters p.enough
             begins last now later stretch p.rounds p.since t is none;
@@ -131,6 +116,7 @@ module _ (settings : Settings) (range : AreInRange settings) (first : ℕ) (mach
             arrives settings range first filter untaken scans machine between p.all_taken p.nothing_waits p.some p.filters p.enough
             begins last later p.rounds p.since p.not_applied;
         never_late = never_late settings range first machine between;
+        exactly = never_late_exactly settings range first machine between;
         new_levels = new_levels_are_recorded settings range first machine between;
         kept_up_with = all_arrives settings range first machine between;
       }
@@ -160,6 +146,9 @@ runs_are_sound settings first events machine range run =
       takes = takes settings range first machine i;
       in_sequence = in_sequence settings first machine i;
       clean_round = clean_round_takes_block settings range first machine s;
+      each_clean_round = each_clean_round_takes_one settings range first machine i;
+      starts_anew = starts_anew settings range first machine (record { sent = s; always = i });
+      lives = takes_stretches settings machine (has_spans settings range first events machine run);
       sound = λ none. sound settings range first machine s (kept settings range first events machine run none);
     }
 
@@ -197,6 +186,14 @@ answers_carry_blocks settings first events machine range run none place answer r
 pub clean_rounds_take_blocks : HoldsOfRuns (λ settings first events machine. CleanRoundTakesBlock settings first machine)
 clean_rounds_take_blocks settings first events machine range run =
     (runs_are_sound settings first events machine range run).clean_round
+
+pub each_clean_round_takes_a_block : HoldsOfRuns (λ settings first events machine. EachCleanRoundTakesOne settings first machine)
+each_clean_round_takes_a_block settings first events machine range run =
+    (runs_are_sound settings first events machine range run).each_clean_round
+
+pub delivery_starts_anew : HoldsOfRuns (λ settings first events machine. DeliveryStartsAnew settings first machine)
+delivery_starts_anew settings first events machine range run =
+    (runs_are_sound settings first events machine range run).starts_anew
 
 pub what_arrives : HoldsWithoutRestart Delivers
 what_arrives settings first events machine range run none =

@@ -12,7 +12,7 @@ use Rattle.fio_world.specs.Headers.{header_of}
 use Rattle.fio_world.specs.Hexadecimal.{octets_in}
 use Rattle.fio_world.specs.Lines.{is_skipped, numbered}
 use Rattle.fio_world.specs.Scripts.{Scenario, readings, events_of, HasGoodFront, HaveGoodFront}
-use Rattle.fio_world.specs.Steps.{event_of}
+use Rattle.fio_world.specs.Steps.{event_found, event_of}
 use Rattle.fio_world.specs.Words.{after_prefix}
 use Rattle.fio_world.specs.declared.event.Event.{Event}
 use Rattle.fio_world.specs.declared.script.events.TheConstants.{MAX_EVENTS}
@@ -108,19 +108,25 @@ read_at number other None None event is = absurd (cc is)
 read_at number other None (Some plain) event is = is
 read_at number other (Some word) plain event is = framed_at number other (octets_in word) event is
 
-pub is_read_as : (restarts : Bool) (number : ℕ) (line : List ℕ) (event : Event)
-    → event_at restarts (number, line) ≡ Ok event → IsReadAs restarts line event
-is_read_as restarts number line event is other =
+pub is_read_as : (restarts : Bool) (number : ℕ) (line : List ℕ) (found : Option Event) (is_one : found ≢ None)
+    → event_at restarts (number, line) ≡ Ok (event_found found is_one) → IsReadAs restarts line found
+is_read_as restarts number line None is_one is = absurd (is_one refl)
+is_read_as restarts number line (Some event) is_one is = λ other.
     read_at number other (after_prefix (codes "send ") line) (plain_event restarts line) event is
+
+read_again : (restarts : Bool) (number : ℕ) (line : List ℕ) (found : Option Event) → IsReadAs restarts line found
+    → (is_one : found ≢ None) → event_at restarts (number, line) ≡ Ok (event_found found is_one)
+read_again restarts number line None read is_one = absurd read
+read_again restarts number line (Some event) read is_one = read number
 
 -- the same line is read as the same event
 pub same_line : (restarts : Bool) (number : ℕ) (above line : List ℕ) (found : Option Form) (form : Form)
     → IfSome found (λ form. IsReadAs restarts above (event_of form)) → found ≡ Some form → above ≡ line
-    → Ok (event_of form) ≡ event_at restarts (number, line)
-same_line restarts number above line None form read is same = absurd (cc is)
-same_line restarts number above line (Some other) form read is same =
+    → (is_one : event_of form ≢ None) → Ok (event_found (event_of form) is_one) ≡ event_at restarts (number, line)
+same_line restarts number above line None form read is same is_one = absurd (cc is)
+same_line restarts number above line (Some other) form read is same is_one =
     let form_is : other ≡ form = cc is in
-    rw (← form_is, ← same) (sym (read number))
+    rw (← same) (sym (read_again restarts number above (event_of form) (rw (← form_is) read) is_one))
 
 -- lines that give these events stand above the lines that are left
 pub record HaveRead (restarts : Bool) (all left : List (ℕ × List ℕ)) (events : List Event) : Type 0 where

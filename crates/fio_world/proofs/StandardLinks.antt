@@ -6,6 +6,7 @@ use Rattle.fio_input.proofs.FewReports.{open_inputs-few}
 use Rattle.fio_module.specs.Settings.{AreInRange, standard_settings}
 use Rattle.fio_module.specs.Life.{Life, life_of, scans_of, filter_events}
 use Rattle.fio_module.specs.Log.{log_of}
+use Rattle.fio_module.specs.Blocks.{newest_end}
 use Rattle.fio_module.specs.KeepingUp.{IsYoung}
 use Rattle.fio_world.specs.declared.event.Event.{Event}
 use Rattle.fio_world.specs.Link.{Machine}
@@ -13,19 +14,22 @@ use Rattle.fio_world.specs.Headline.{end_taken}
 use Rattle.fio_world.specs.InTime.{IsPolledInTime, behind_after}
 use Rattle.fio_world.specs.AnyTime.{IsStandardLink, StandardLinkIsNeverLater}
 use Rattle.fio_world.specs.NewLevels.{StandardLinkRecordsNewLevels}
+use Rattle.fio_world.specs.LossyLinks.{left_behind, StandardLinkKeptUpIsNeverLater}
+use Rattle.fio_world.specs.StartingAnew.{StandardLinkStartsAnew}
 use Rattle.fio_world.specs.Sound.{Delivers}
+use Rattle.fio_world.proofs.LossyLinks.{standard_limits_have_room}
 use Rattle.fio_world.proofs.MadeBlocks.{each-map}
-use Rattle.fio_world.proofs.Promises.{what_arrives}
+use Rattle.fio_world.proofs.Promises.{delivery_starts_anew, what_arrives}
 
 -- the standard settings are in their ranges
 pub standard_in_range : (id : ℕ) → id ≤ 255 → AreInRange (standard_settings id)
 standard_in_range id fits =
     record { id_fits = fits; some_per_block = omega arith; few_per_block = omega arith; many_waiting = omega arith }
 
-module _ (scans : ℕ) (untaken : Bool) (few : 64 * scans ≤ 255 * 5) (id first : ℕ) (events : List Event) (begins : List Machine)
-    (machine last now : Machine) (later : Life) (l : IsStandardLink id first events untaken scans machine begins last later now) where
+module _ (scans : ℕ) (untaken : Bool) (few : 64 * scans ≤ 255 * 5) (id first : ℕ) (events : List Event) (receipts : List Machine)
+    (machine last now : Machine) (later : Life) (l : IsStandardLink id first events untaken scans machine receipts last later now) where
   -- it is polled in time
-  pub polled : IsPolledInTime (standard_settings id) first 5 untaken scans machine begins last later
+  pub polled : IsPolledInTime (standard_settings id) first 5 untaken scans machine receipts last later
   polled =
       let all : open_inputs (filter_events (life_of machine.history)) * scans ≤ 64 * scans =
       mul-le-mul_right scans (open_inputs-few (filter_events (life_of machine.history))) in
@@ -46,21 +50,21 @@ module _ (scans : ℕ) (untaken : Bool) (few : 64 * scans ≤ 255 * 5) (id first
 -- so many scans after another, and their filter
 pub standard_late : (scans : ℕ) (untaken : Bool) (late : ℕ) → 64 * scans ≤ 255 * 5
     → scans + behind_after untaken scans + 5 ≤ late + 2 → StandardLinkIsNeverLater scans untaken late
-standard_late scans untaken late few old id first events begins machine last now later l =
-    let p = polled scans untaken few id first events begins machine last now later l in
-    let d = delivers scans untaken few id first events begins machine last now later l in
+standard_late scans untaken late few old id first events receipts machine last now later l =
+    let p = polled scans untaken few id first events receipts machine last now later l in
+    let d = delivers scans untaken few id first events receipts machine last now later l in
     let now_life = life_of now.history in
     each-map (IsYoung (scans + behind_after untaken scans) 5 now_life) (λ transition. scans_of now_life ≤ transition.scans + late)
     (λ transition is. omega arith) (drop (end_taken (standard_settings id) now) (log_of now_life))
-    (d.never_late 5 untaken scans begins last now later p l.until)
+    (d.never_late 5 untaken scans receipts last now later p l.until)
 
 -- and so many after the last sample of a new level
 pub standard_records : (scans : ℕ) (untaken : Bool) (late : ℕ) → 64 * scans ≤ 255 * 5
     → scans + behind_after untaken scans + 5 ≤ late + 2 → late ≤ 65535 → StandardLinkRecordsNewLevels scans untaken late
-standard_records scans untaken late few old small id first events begins machine last now later l input level before samples after is new long =
-    let p = polled scans untaken few id first events begins machine last now later l in
-    let d = delivers scans untaken few id first events begins machine last now later l in
-    let r = d.new_levels 5 untaken scans begins last now later p l.until input level before samples after is new (omega arith) in
+standard_records scans untaken late few old small id first events receipts machine last now later l input level before samples after is new long =
+    let p = polled scans untaken few id first events receipts machine last now later l in
+    let d = delivers scans untaken few id first events receipts machine last now later l in
+    let r = d.new_levels 5 untaken scans receipts last now later p l.until input level before samples after is new (omega arith) in
     let g = r.gained in
     record {
       place = r.place;
@@ -68,3 +72,49 @@ standard_records scans untaken late few old small id first events begins machine
       logged = r.logged;
       gained = record { place = g.place; since = g.since; there = g.there; timed = λ same. g.timed (same, omega arith) };
     }
+
+-- a standard link that is kept up with
+pub standard_kept_up : StandardLinkKeptUpIsNeverLater 19 76 79
+standard_kept_up id first events pauses machine receipt last now later between l t near =
+    let settings = standard_settings id in
+    let d = what_arrives settings first events machine (standard_in_range id l.id_fits) l.is_run l.no_restart in
+    let has = standard_limits_have_room id (life_of machine.history) in
+    let a = d.kept_up_with 5 19 76 pauses receipt last later (record {
+      all_taken = l.all_taken;
+      nothing_waits = l.nothing_waits;
+      some = omega arith;
+      filters = l.filters;
+      enough = has.0;
+      room = has.1;
+      near = l.near;
+      rounds = l.rounds;
+      heard_near = l.heard_near;
+      since = l.since;
+      not_applied = l.not_applied;
+    }) in
+    let now_life = life_of now.history in (
+      a.whole,
+      each-map (IsYoung (between + left_behind 19 pauses) 5 now_life) (λ transition. scans_of now_life ≤ transition.scans + 79)
+          (λ transition is. omega arith) (drop (end_taken settings now) (log_of now_life)) (a.late between now t),
+    )
+
+-- a standard link after restarts
+pub standard_starts_anew : StandardLinkStartsAnew 19 41
+standard_starts_anew id first events begin receipt machine receipts last now later fits run ended nothing filters rounds since none t =
+    let settings = standard_settings id in
+    let all = open_inputs-few (filter_events (life_of machine.history)) in
+    let a = delivery_starts_anew settings first events begin (standard_in_range id fits) run 5 19 receipt machine receipts last later (record {
+      ended = ended;
+      nothing_waits = nothing;
+      some = omega arith;
+      filters = filters;
+      enough = omega arith;
+      rounds = rounds;
+      since = since;
+      not_applied = none;
+    }) in
+    let now_life = life_of now.history in (
+      a.whole,
+      each-map (IsYoung (19 + 19) 5 now_life) (λ transition. scans_of now_life ≤ transition.scans + 41)
+          (λ transition is. omega arith) (drop (newest_end settings (life_of last.history)) (log_of now_life)) (a.young now t),
+    )

@@ -1,7 +1,7 @@
 -- What arrives: clean rounds deliver blocks, nothing is lost unless the buffer was full, and it never
 -- is where the module is polled often.
 use Rattle.std.specs.Prelude.{◌≡◌, ℕ, zero, suc, ◌+◌, ◌*◌, ◌<◌, ◌≤◌, true, List, [], ◌∷◌, ◌++◌, map, length, take, slice_get, Some}
-use Rattle.std.specs.List.{flat_map}
+use Rattle.std.specs.List.{AllByRecursion, flat_map}
 use Rattle.fio_message.specs.declared.commands.Command.TheVariants as commands
 use Rattle.fio_message.specs.Blocks.{Block}
 use Rattle.fio_module.specs.Settings.{Settings}
@@ -13,16 +13,16 @@ use Rattle.fio_module.specs.FiltersThatDiffer.{IsPolledForEach}
 use Rattle.fio_cpu.specs.declared.record.Item.TheVariants as items
 use Rattle.fio_cpu.specs.Record.{recorded}
 use Rattle.fio_world.specs.declared.event.Event.{Event}
-use Rattle.fio_world.specs.declared.event.Event.TheVariants.{Poll, ToModule, ToCpu}
-use Rattle.fio_world.specs.Link.{Machine, Leads}
+use Rattle.fio_world.specs.declared.event.Event.TheVariants.{Poll, ToModule, ToCpu, Restart}
+use Rattle.fio_world.specs.Link.{Machine, after, Leads}
 use Rattle.fio_world.specs.Frames.{HasBlock}
 use Rattle.fio_world.specs.Claims.{blocks_in}
 use Rattle.fio_world.specs.Rounds.{CarriesBlock}
 use Rattle.fio_world.specs.Pieces.{Got, piece_of, pieces_of}
 use Rattle.fio_world.specs.Headline.{end_taken}
 
--- a clean round of a machine: the CPU polls, the module receives the frame just sent, and the CPU
--- hears the answer just sent
+-- a clean round with nothing between: the CPU polls, the module receives the frame just sent, and the
+-- CPU hears the answer just sent
 abbrev pub clean_round : Machine → List Event
 clean_round machine =
     Poll ∷ ToModule (length machine.to_module + 1) ∷ ToCpu (length machine.to_cpu + 1) ∷ []
@@ -48,10 +48,58 @@ abbrev pub CleanRoundTakesBlock : Settings → ℕ → Machine → Type 0
 CleanRoundTakesBlock settings first machine =
     (later : Machine) × TakesBlock settings first machine later
 
+-- an event within a clean round: no other poll is sent, and nothing is restarted
+abbrev pub IsWithinRound : Event → Type 0
+IsWithinRound Poll = ⊥
+IsWithinRound Restart = ⊥
+IsWithinRound other = Unit {0}
+
+-- A clean round: the CPU polls, the module receives the poll, and the CPU hears the answer to it before it
+-- polls again. Scans, other commands and older answers come between as they may, but no restart. `receipt`
+-- is the machine at which the module receives the poll.
+pub record IsCleanRound (settings : Settings) (first : ℕ) (begin receipt last : Machine)
+    : Type 0 where
+  -- what comes before the poll is received, and after
+  pub before : List Event
+  pub after : List Event
+  pub none_before : AllByRecursion IsWithinRound before
+  pub none_after : AllByRecursion IsWithinRound after
+  pub sent : Leads settings first begin (Poll ∷ before) receipt
+  pub answered :
+      Leads settings first receipt
+      (ToModule (length begin.to_module + 1) ∷ (after ++ ToCpu (length receipt.to_cpu + 1) ∷ []))
+      last
+
+-- in a clean round nothing comes between
+abbrev pub HasNothingBetween : (settings : Settings) (first : ℕ) (begin receipt last : Machine) →
+    IsCleanRound settings first begin receipt last → Type 0
+HasNothingBetween settings first begin receipt last round =
+    (round.before ≡ []) × (round.after ≡ [])
+
+-- a clean round with nothing between is one
+abbrev pub RoundWithNothingBetweenIsClean : Settings → ℕ → Machine → Type 0
+RoundWithNothingBetweenIsClean settings first machine = (last : Machine) →
+    Leads settings first machine (clean_round machine) last →
+    IsCleanRound settings first machine (after settings first machine Poll) last
+
+-- The CPU takes one block in a clean round: the answer to a poll of its round.
+pub record TakesOne (machine later : Machine) : Type 0 where
+  pub answer : Block
+  pub place : ℕ
+  pub answered : HasBlock later.to_cpu place answer machine.round
+  -- the round is one more, and the record is longer by what the block adds
+  pub round : later.round ≡ machine.round + 1
+  pub items : later.items ≡ machine.items ++ recorded answer
+
+-- in each clean round the CPU takes one block
+abbrev pub EachCleanRoundTakesOne : Settings → ℕ → Machine → Type 0
+EachCleanRoundTakesOne settings first machine = (receipt later : Machine) →
+    IsCleanRound settings first machine receipt later → TakesOne machine later
+
 -- after one clean round the CPU has taken every block that was made
 abbrev pub CleanRoundTakesAll : Settings → ℕ → Machine → Type 0
-CleanRoundTakesAll settings first machine = (later : Machine) →
-    Leads settings first machine (clean_round machine) later →
+CleanRoundTakesAll settings first machine = (receipt later : Machine) →
+    IsCleanRound settings first machine receipt later →
     later.round ≡ length (blocks_in settings later)
 
 -- so many clean rounds with nothing between lead from one machine to another

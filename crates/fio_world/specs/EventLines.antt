@@ -51,8 +51,9 @@ event_at restarts line =
     (ok_or (plain_event restarts line.1) (BadLine line.0))
 
 -- a line is read as this event, whatever its number
-abbrev pub IsReadAs : Bool → List ℕ → Event → Type 0
-IsReadAs restarts line event = (number : ℕ) → event_at restarts (number, line) ≡ Ok event
+abbrev pub IsReadAs : Bool → List ℕ → Option Event → Type 0
+IsReadAs restarts line None = ⊥
+IsReadAs restarts line (Some event) = (number : ℕ) → event_at restarts (number, line) ≡ Ok event
 
 -- the fault of a line below as many events as a script may have
 abbrev pub too_many_at : ℕ × List ℕ → Result Event ScriptError

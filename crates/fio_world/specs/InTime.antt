@@ -4,7 +4,7 @@ use Rattle.std.specs.Prelude.{◌≡◌, ℕ, ◌+◌, ◌-◌, ◌*◌, ◌%◌
 use Rattle.std.specs.List.{AllByRecursion}
 use Rattle.fio_input.specs.Delivery.{open_inputs, OpenHaveFiltersOf, NoneIsApplied}
 use Rattle.fio_module.specs.Settings.{Settings}
-use Rattle.fio_module.specs.Life.{Life, life_of, loads_of, filter_events}
+use Rattle.fio_module.specs.Life.{Life, life_of, scans_of, loads_of, filter_events}
 use Rattle.fio_module.specs.Log.{Transition, entry_of, log_of}
 use Rattle.fio_module.specs.Blocks.{waiting_of}
 use Rattle.fio_module.specs.KeepingUp.{IsKeptUp, IsYoung}
@@ -12,52 +12,79 @@ use Rattle.fio_cpu.specs.declared.record.Item.{Item}
 use Rattle.fio_cpu.specs.declared.record.Item.TheVariants as items
 use Rattle.fio_world.specs.declared.event.Event.{Event}
 use Rattle.fio_world.specs.declared.event.Event.TheVariants.{Scan, LineSync, Raise, Poll, ToModule, ToCpu}
-use Rattle.fio_world.specs.Link.{Machine, Leads}
+use Rattle.fio_world.specs.Link.{Machine, after, Leads}
 use Rattle.fio_world.specs.Claims.{blocks_in}
 use Rattle.fio_world.specs.Pieces.{Got, piece_of}
 use Rattle.fio_world.specs.Headline.{HaveNoRestart, end_taken}
-use Rattle.fio_world.specs.Delivery.{clean_round}
+use Rattle.fio_world.specs.Delivery.{clean_round, IsCleanRound, HasNothingBetween}
 
--- how many scans there are among events
-abbrev pub scans_among : List Event → ℕ
-scans_among [] = 0
-scans_among (Scan raw ∷ events) = scans_among events + 1
-scans_among (other ∷ events) = scans_among events
+-- so many scans at most came to the module from one machine to another
+abbrev pub IsWithin : ℕ → Machine → Machine → Type 0
+IsWithin scans earlier now =
+    scans_of (life_of now.history) ≤ scans_of (life_of earlier.history) + scans
 
--- Some events without a restart, with at most so many scans among them, lead from one machine to
--- another. Polls, commands and deliveries, lost and repeated ones, come as they may.
-pub record LeadsInTime (settings : Settings) (first scans : ℕ) (machine later : Machine)
-    : Type 0 where
+-- Some events without a restart lead from one machine to another. Polls, commands and deliveries, lost and
+-- repeated ones, come as they may.
+pub record LeadsOn (settings : Settings) (first : ℕ) (machine later : Machine) : Type 0 where
   pub events : List Event
   pub no_restart : HaveNoRestart events
-  pub few : scans_among events ≤ scans
   pub leads : Leads settings first machine events later
 
--- A clean round in time. Where `untaken` is false, the CPU has taken all blocks when it begins.
-pub record IsRoundInTime (settings : Settings) (first : ℕ) (untaken : Bool) (scans : ℕ)
-    (machine begin last : Machine) : Type 0 where
-  pub in_time : LeadsInTime settings first scans machine begin
-  pub all_taken : untaken ≡ false → begin.round ≡ length (blocks_in settings begin)
-  pub leads : Leads settings first begin (clean_round begin) last
+-- such events lead on, to at most so many scans after an earlier machine
+pub record LeadsInTime (settings : Settings) (first scans : ℕ) (earlier machine later : Machine)
+    : Type 0 where
+  pub leads_on : LeadsOn settings first machine later
+  pub in_time : IsWithin scans earlier later
 
--- Clean rounds in time lead from one machine to another, each from where the one before it ended.
--- These are the machines at which they begin, newest first.
+-- A clean round in time, after what has led on: the module receives its poll at most so many scans after an
+-- earlier machine, and the CPU hears the answer at most so many after that. Where `untaken` is false, the CPU
+-- had taken all blocks when it sent that poll, and the module made none before it received it.
+pub record IsRoundInTime (settings : Settings) (first : ℕ) (untaken : Bool) (scans : ℕ)
+    (earlier machine receipt last : Machine) : Type 0 where
+  pub begin : Machine
+  pub leads_on : LeadsOn settings first machine begin
+  pub round : IsCleanRound settings first begin receipt last
+  pub in_time : IsWithin scans earlier receipt
+  pub heard_in_time : IsWithin scans receipt last
+  pub all_taken : untaken ≡ false → begin.round ≡ length (blocks_in settings receipt)
+
+-- the newest of these, given newest first, or the first machine where there are none
+abbrev pub newest_of : Machine → List Machine → Machine
+newest_of machine [] = machine
+newest_of machine (receipt ∷ receipts) = receipt
+
+-- Clean rounds in time lead from one machine to another, each from where the one before it ended; the module
+-- receives each poll at most so many scans after the one before. `receipts` are the machines at which it
+-- receives them, newest first.
 abbrev pub RoundsInTime : Settings → ℕ → Bool → ℕ → Machine → List Machine → Machine → Type 0
 RoundsInTime settings first untaken scans machine [] last = last ≡ machine
-RoundsInTime settings first untaken scans machine (begin ∷ begins) last =
-    (done : Machine) × RoundsInTime settings first untaken scans machine begins done
-    × IsRoundInTime settings first untaken scans done begin last
+RoundsInTime settings first untaken scans machine (receipt ∷ receipts) last =
+    (done : Machine) × RoundsInTime settings first untaken scans machine receipts done
+    × IsRoundInTime settings first untaken scans (newest_of machine receipts) done receipt last
 
--- how many scans the blocks are behind at most at the end of a clean round: none where each clean
--- round makes one
+-- A clean round with nothing between that begins in time is one in time, and ends as soon as its poll has been
+-- received.
+abbrev pub RoundWithNothingBetweenIsInTime : Settings → ℕ → Machine → Type 0
+RoundWithNothingBetweenIsInTime settings first machine =
+    (untaken : Bool) (scans : ℕ) (earlier begin last : Machine) →
+    LeadsInTime settings first scans earlier machine begin →
+    (untaken ≡ false → begin.round ≡ length (blocks_in settings begin)) →
+    Leads settings first begin (clean_round begin) last →
+    let receipt = after settings first begin Poll in
+    (round : IsRoundInTime settings first untaken scans earlier machine receipt last)
+    × HasNothingBetween settings first round.begin receipt last round.round
+    × IsWithin 0 receipt last
+
+-- how many scans the blocks are behind at most when the poll of a clean round has been received: none
+-- where each makes one
 abbrev pub behind_after : Bool → ℕ → ℕ
 behind_after untaken scans = if untaken then scans else 0
 
--- Polled in time: the CPU had taken all blocks and nothing waited. Since then a clean round has begun
--- at least once in so many scans, in which the open inputs change no more often than a block takes,
--- and the module has applied no configuration.
+-- Polled in time: the CPU had taken all blocks and nothing waited. Since then the module has received the
+-- poll of a clean round at least once in so many scans, in which the open inputs change no more often than a
+-- block takes, and it has applied no configuration.
 pub record IsPolledInTime (settings : Settings) (first filter : ℕ) (untaken : Bool) (scans : ℕ)
-    (machine : Machine) (begins : List Machine) (last : Machine) (later : Life) : Type 0 where
+    (machine : Machine) (receipts : List Machine) (last : Machine) (later : Life) : Type 0 where
   pub all_taken : machine.round ≡ length (blocks_in settings machine)
   pub nothing_waits : waiting_of settings (life_of machine.history) ≡ []
   -- the filters of the open inputs are at least this
@@ -66,7 +93,7 @@ pub record IsPolledInTime (settings : Settings) (first filter : ℕ) (untaken : 
   pub enough :
       open_inputs (filter_events (life_of machine.history)) * scans
       ≤ settings.per_block * filter
-  pub rounds : RoundsInTime settings first untaken scans machine begins last
+  pub rounds : RoundsInTime settings first untaken scans machine receipts last
   -- what has happened to the module since then
   pub since : life_of last.history ≡ later ++ life_of machine.history
   pub not_applied : NoneIsApplied (filter_events later)
@@ -87,9 +114,9 @@ arrived settings machine last =
     (take (end_taken settings last) (log_of (life_of last.history)))
 
 -- What has arrived at the end of a clean round, where the blocks are never more than `most` scans
--- behind, and at the end of a clean round no more than `behind`.
+-- behind, and when the poll of a clean round has been received no more than `behind`.
 pub record HasArrived (settings : Settings) (filter most behind : ℕ)
-    (machine : Machine) (begins : List Machine) (last : Machine) : Type 0 where
+    (machine : Machine) (receipts : List Machine) (last : Machine) : Type 0 where
   -- the record has gained the transitions logged since, each once and in order, and no gap mark
   pub whole :
       map piece_of last.items
@@ -100,27 +127,28 @@ pub record HasArrived (settings : Settings) (filter most behind : ℕ)
       loads_of (life_of last.history) ≡ loads_of (life_of machine.history)
       → most + filter ≤ 65537
       → last.items ≡ machine.items ++ map timed_item (arrived settings machine last)
-  -- through all that had been logged before the clean round so many rounds earlier began, which are
-  -- as many as blocks that take what may be left
+  -- through all that had been logged when the module received the poll of the clean round so many rounds
+  -- earlier, which are as many as blocks that take what may be left
   pub through :
-      (rounds : ℕ) (begin : Machine)
+      (rounds : ℕ) (receipt : Machine)
       → open_inputs (filter_events (life_of machine.history)) * (behind + (filter - 1))
       ≤ rounds * (settings.per_block * filter)
-      → slice_get begins rounds ≡ Some begin
-      → length (log_of (life_of begin.history)) ≤ end_taken settings last
-  -- and through all but what the latest scans reported
+      → slice_get receipts rounds ≡ Some receipt
+      → length (log_of (life_of receipt.history)) ≤ end_taken settings last
+  -- and through all but what the latest scans reported, and those since the newest of these polls
   pub young :
-      AllByRecursion (IsYoung behind filter (life_of last.history))
+      (since : ℕ) → IsWithin since (newest_of machine receipts) last
+      → AllByRecursion (IsYoung (since + behind) filter (life_of last.history))
       (drop (end_taken settings last) (log_of (life_of last.history)))
 
 -- Where a link is polled in time, all arrives in time.
 abbrev pub AllArrivesInTime : Settings → ℕ → Machine → Type 0
 AllArrivesInTime settings first machine =
-    (filter : ℕ) (untaken : Bool) (scans : ℕ) (begins : List Machine) (last : Machine)
+    (filter : ℕ) (untaken : Bool) (scans : ℕ) (receipts : List Machine) (last : Machine)
     (later : Life) →
-    IsPolledInTime settings first filter untaken scans machine begins last later →
+    IsPolledInTime settings first filter untaken scans machine receipts last later →
     let behind = behind_after untaken scans in
-    HasArrived settings filter (scans + behind) behind machine begins last
+    HasArrived settings filter (scans + behind) behind machine receipts last
 
 -- Each clean round, and what comes before it since the one before, makes a new block, which the CPU
 -- takes: where the CPU had taken all blocks, it has taken all again, and one more at least.
@@ -128,23 +156,23 @@ pub record MakesBlock (settings : Settings) (machine last : Machine) : Type 0 wh
   pub one_more : length (blocks_in settings machine) < length (blocks_in settings last)
   pub all_taken : last.round ≡ length (blocks_in settings last)
 
--- each clean round that begins in time, where the CPU has taken all, makes a block
+-- each clean round after a time at which the CPU has taken all makes a block
 abbrev pub RoundsMakeBlocks : Settings → ℕ → Machine → Type 0
 RoundsMakeBlocks settings first machine =
-    (scans : ℕ) (begin last : Machine) →
+    (begin receipt last : Machine) →
     machine.round ≡ length (blocks_in settings machine) →
-    LeadsInTime settings first scans machine begin →
-    Leads settings first begin (clean_round begin) last →
+    LeadsOn settings first machine begin →
+    IsCleanRound settings first begin receipt last →
     MakesBlock settings machine last
 
--- The blocks keep up: they are never more scans behind than lie between two clean rounds, and twice as
--- many where a clean round may begin before the CPU has taken all, until the next one begins.
+-- The blocks keep up: they are never more scans behind than lie between the polls of two clean rounds, and
+-- twice as many where a clean round may repeat a block, as long as the next such poll may be received.
 abbrev pub RoundsKeepUp : Settings → ℕ → Machine → Type 0
 RoundsKeepUp settings first machine =
-    (filter : ℕ) (untaken : Bool) (scans : ℕ) (begins : List Machine) (last now : Machine)
+    (filter : ℕ) (untaken : Bool) (scans : ℕ) (receipts : List Machine) (last now : Machine)
     (later stretch : Life) →
-    IsPolledInTime settings first filter untaken scans machine begins last later →
-    LeadsInTime settings first scans last now →
+    IsPolledInTime settings first filter untaken scans machine receipts last later →
+    LeadsInTime settings first scans (newest_of machine receipts) last now →
     life_of now.history ≡ stretch ++ (later ++ life_of machine.history) →
     NoneIsApplied (filter_events (stretch ++ later)) →
     IsKeptUp settings filter scans (scans + behind_after untaken scans)

@@ -21,12 +21,15 @@ pub mod Headline
 pub mod Claims
 pub mod Rounds
 pub mod Rising
+pub mod Restarts
 pub mod Delivery
 pub mod InTime
 pub mod AnyTime
 pub mod NewLevels
 pub mod LossyLinks
 pub mod LostRounds
+pub mod Sharpness
+pub mod StartingAnew
 pub mod Sound
 -- what contracts see of a world
 pub mod EndToEnd

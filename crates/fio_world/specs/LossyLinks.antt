@@ -1,20 +1,22 @@
 -- Links that lose rounds or are down for a while, and catch up again.
-use Rattle.std.specs.Prelude.{◌≡◌, ℕ, ◌+◌, ◌-◌, ◌*◌, ◌≤◌, max, List, [], ◌∷◌, ◌++◌, map, length}
+use Rattle.std.specs.Prelude.{◌≡◌, ℕ, ◌+◌, ◌-◌, ◌*◌, ◌≤◌, max, List, [], ◌∷◌, ◌++◌, map, length, drop}
 use Rattle.std.specs.List.{AllByRecursion}
 use Rattle.fio_input.specs.Delivery.{open_inputs, OpenHaveFiltersOf, NoneIsApplied}
 use Rattle.fio_module.specs.Settings.{Settings, standard_settings}
-use Rattle.fio_module.specs.Life.{Life, life_of, loads_of, filter_events}
-use Rattle.fio_module.specs.Log.{entry_of}
+use Rattle.fio_module.specs.Life.{Life, life_of, scans_of, loads_of, filter_events}
+use Rattle.fio_module.specs.Log.{entry_of, log_of}
 use Rattle.fio_module.specs.Blocks.{waiting_of}
-use Rattle.fio_world.specs.Link.{Machine, Leads}
+use Rattle.fio_world.specs.declared.event.Event.{Event}
+use Rattle.fio_world.specs.Link.{Machine, IsRun}
 use Rattle.fio_world.specs.Claims.{blocks_in}
 use Rattle.fio_world.specs.Pieces.{Got, piece_of}
-use Rattle.fio_world.specs.Delivery.{clean_round}
-use Rattle.fio_world.specs.InTime.{LeadsInTime, timed_item, arrived}
+use Rattle.fio_world.specs.Headline.{HaveNoRestart, end_taken}
+use Rattle.fio_world.specs.Delivery.{IsCleanRound}
+use Rattle.fio_world.specs.InTime.{IsWithin, LeadsOn, LeadsInTime, timed_item, arrived}
 use Rattle.fio_world.specs.AnyTime.{LacksOnlyYoung}
 
--- The scans before a clean round, since the one before it ended: so many to a time at which the CPU has
--- taken all blocks, and so many more to where it begins.
+-- The scans before the module receives the poll of a clean round, since it received that of the one before: so
+-- many to a time at which the CPU has taken all blocks, and so many more.
 pub record Pause : Type 0 where
   pub settled : ℕ
   pub untaken : ℕ
@@ -23,32 +25,34 @@ pub record Pause : Type 0 where
 abbrev pub scans_of_pause : Pause → ℕ
 scans_of_pause pause = pause.settled + pause.untaken
 
--- A clean round after such a pause.
-pub record IsRoundAfter (settings : Settings) (first : ℕ) (pause : Pause) (machine last : Machine)
-    : Type 0 where
+-- A clean round after such a pause, since an earlier machine.
+pub record IsRoundAfter (settings : Settings) (first : ℕ) (pause : Pause)
+    (earlier machine receipt last : Machine) : Type 0 where
   pub between : Machine
-  pub settled : LeadsInTime settings first pause.settled machine between
+  pub settled : LeadsInTime settings first pause.settled earlier machine between
   pub all_taken : between.round ≡ length (blocks_in settings between)
   pub begin : Machine
-  pub untaken : LeadsInTime settings first pause.untaken between begin
-  pub leads : Leads settings first begin (clean_round begin) last
+  pub leads_on : LeadsOn settings first between begin
+  pub round : IsCleanRound settings first begin receipt last
+  pub untaken : IsWithin pause.untaken between receipt
 
--- Clean rounds after such pauses, newest first, lead from one machine to another.
-abbrev pub RoundsAfter : Settings → ℕ → Machine → List Pause → Machine → Type 0
-RoundsAfter settings first machine [] last = last ≡ machine
-RoundsAfter settings first machine (pause ∷ pauses) last =
-    (done : Machine) × RoundsAfter settings first machine pauses done
-    × IsRoundAfter settings first pause done last
+-- Clean rounds after such pauses, newest first, lead from one machine to another; the module receives the
+-- newest poll at `receipt`.
+abbrev pub RoundsAfter : Settings → ℕ → Machine → List Pause → Machine → Machine → Type 0
+RoundsAfter settings first machine [] receipt last = (receipt ≡ machine) × (last ≡ machine)
+RoundsAfter settings first machine (pause ∷ pauses) receipt last =
+    (earlier : Machine) × (done : Machine) × RoundsAfter settings first machine pauses earlier done
+    × IsRoundAfter settings first pause earlier done receipt last
 
--- By how many scans the blocks are behind at most at the end of these rounds, where each makes up for so
--- many: by those left and those of the pause, less those that the round makes up for; but by those after
+-- By how many scans the blocks are behind at most when the newest of these polls has been received, where each
+-- round makes up for so many: by those left and those of the pause, less those that the round makes up for; but by those after
 -- the CPU had last taken all at least, since its block may be as old as that.
 abbrev pub left_behind : ℕ → List Pause → ℕ
 left_behind scans [] = 0
 left_behind scans (pause ∷ pauses) =
     max (left_behind scans pauses + scans_of_pause pause - scans) pause.untaken
 
--- when each round begins, they are no more than `most` scans behind
+-- when each of these polls is received, they are no more than `most` scans behind
 abbrev pub BeginNear : ℕ → ℕ → List Pause → Type 0
 BeginNear scans most [] = Unit {0}
 BeginNear scans most (pause ∷ pauses) =
@@ -58,7 +62,7 @@ BeginNear scans most (pause ∷ pauses) =
 -- make up for `scans` scans, with blocks never more than `most` behind, as many as the buffer has room
 -- for; and the module has applied no configuration.
 pub record IsKeptUpWith (settings : Settings) (first filter scans most : ℕ)
-    (machine : Machine) (pauses : List Pause) (last : Machine) (later : Life) : Type 0 where
+    (machine : Machine) (pauses : List Pause) (receipt last : Machine) (later : Life) : Type 0 where
   pub all_taken : machine.round ≡ length (blocks_in settings machine)
   pub nothing_waits : waiting_of settings (life_of machine.history) ≡ []
   -- the filters of the open inputs are at least this
@@ -71,13 +75,15 @@ pub record IsKeptUpWith (settings : Settings) (first filter scans most : ℕ)
       open_inputs (filter_events (life_of machine.history)) * (most + (filter - 1))
       ≤ settings.waiting * filter
   pub near : BeginNear scans most pauses
-  pub rounds : RoundsAfter settings first machine pauses last
+  pub rounds : RoundsAfter settings first machine pauses receipt last
+  -- nor are they more than that when the CPU hears the answer to the newest poll
+  pub heard_near : IsWithin (most - left_behind scans pauses) receipt last
   -- what has happened to the module since then
   pub since : life_of last.history ≡ later ++ life_of machine.history
   pub not_applied : NoneIsApplied (filter_events later)
 
 -- What has arrived then at the end of a clean round, and at any time after it.
-pub record ArrivesLate (settings : Settings) (first filter most behind : ℕ) (machine last : Machine)
+pub record ArrivesLate (settings : Settings) (first filter most behind : ℕ) (machine receipt last : Machine)
     : Type 0 where
   -- the record has gained the transitions logged since, each once and in order, and no gap mark
   pub whole :
@@ -89,17 +95,17 @@ pub record ArrivesLate (settings : Settings) (first filter most behind : ℕ) (m
       loads_of (life_of last.history) ≡ loads_of (life_of machine.history)
       → most + filter ≤ 65537
       → last.items ≡ machine.items ++ map timed_item (arrived settings machine last)
-  -- n scans after the round, what the record lacks is at most n + behind + f - 2 scans old
+  -- n scans after the newest poll was received, what the record lacks is at most n + behind + f - 2 scans old
   pub late :
-      (scans : ℕ) (now : Machine) → LeadsInTime settings first scans last now
+      (scans : ℕ) (now : Machine) → LeadsInTime settings first scans receipt last now
       → LacksOnlyYoung (scans + behind) filter settings now
 
 -- Where a link is kept up with, all arrives: whole, and late by no more than the blocks are behind.
 abbrev pub AllArrivesWhereKeptUpWith : Settings → ℕ → Machine → Type 0
 AllArrivesWhereKeptUpWith settings first machine =
-    (filter scans most : ℕ) (pauses : List Pause) (last : Machine) (later : Life) →
-    IsKeptUpWith settings first filter scans most machine pauses last later →
-    ArrivesLate settings first filter most (left_behind scans pauses) machine last
+    (filter scans most : ℕ) (pauses : List Pause) (receipt last : Machine) (later : Life) →
+    IsKeptUpWith settings first filter scans most machine pauses receipt last later →
+    ArrivesLate settings first filter most (left_behind scans pauses) machine receipt last
 
 -- a pause of at most so many scans, of which at most so many come after the CPU had last taken all
 pub record IsPauseOf (scans untaken : ℕ) (pause : Pause) : Type 0 where
@@ -132,3 +138,37 @@ StandardLimitsHaveRoom scans most =
     (id : ℕ) (life : Life) →
     (open_inputs (filter_events life) * scans ≤ (standard_settings id).per_block * 5)
     × (open_inputs (filter_events life) * (most + (5 - 1)) ≤ (standard_settings id).waiting * 5)
+
+-- A standard link that is kept up with: under the standard limits, after any run without restarts that ended
+-- where the CPU had taken all blocks and nothing waited, with filters of at least 5 for the open inputs. Since
+-- then clean rounds have come that each make up for `scans` scans, with blocks never more than `most` behind,
+-- and the module has applied no configuration.
+pub record IsStandardLinkKeptUp (id first : ℕ) (events : List Event) (scans most : ℕ)
+    (machine : Machine) (pauses : List Pause) (receipt last : Machine) (later : Life) : Type 0 where
+  pub id_fits : id ≤ 255
+  pub no_restart : HaveNoRestart events
+  pub is_run : IsRun (standard_settings id) first events machine
+  pub all_taken : machine.round ≡ length (blocks_in (standard_settings id) machine)
+  pub nothing_waits : waiting_of (standard_settings id) (life_of machine.history) ≡ []
+  pub filters : OpenHaveFiltersOf (filter_events (life_of machine.history)) 5
+  pub near : BeginNear scans most pauses
+  pub rounds : RoundsAfter (standard_settings id) first machine pauses receipt last
+  pub heard_near : IsWithin (most - left_behind scans pauses) receipt last
+  pub since : life_of last.history ≡ later ++ life_of machine.history
+  pub not_applied : NoneIsApplied (filter_events later)
+
+-- Such a link loses nothing, and is never later than so many scans: until the blocks are more than `most`
+-- behind, what the record lacks is at most so many scans old.
+abbrev pub StandardLinkKeptUpIsNeverLater : ℕ → ℕ → ℕ → Type 0
+StandardLinkKeptUpIsNeverLater scans most late =
+    (id first : ℕ) (events : List Event) (pauses : List Pause) (machine receipt last now : Machine)
+    (later : Life) (between : ℕ) →
+    IsStandardLinkKeptUp id first events scans most machine pauses receipt last later →
+    LeadsInTime (standard_settings id) first between receipt last now →
+    left_behind scans pauses + between ≤ most →
+    (map piece_of last.items
+    ≡ map piece_of machine.items
+    ++ map (λ transition. Got (entry_of transition)) (arrived (standard_settings id) machine last))
+    × AllByRecursion
+    (λ transition. scans_of (life_of now.history) ≤ transition.scans + late)
+    (drop (end_taken (standard_settings id) now) (log_of (life_of now.history)))

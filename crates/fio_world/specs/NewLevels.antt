@@ -8,7 +8,7 @@ use Rattle.fio_module.specs.NewLevels.{HasNewLevelAfter, IsLoggedAt}
 use Rattle.fio_world.specs.declared.event.Event.{Event}
 use Rattle.fio_world.specs.Link.{Machine}
 use Rattle.fio_world.specs.Pieces.{Got, piece_of}
-use Rattle.fio_world.specs.InTime.{LeadsInTime, IsPolledInTime, behind_after, timed_item}
+use Rattle.fio_world.specs.InTime.{LeadsInTime, newest_of, IsPolledInTime, behind_after, timed_item}
 use Rattle.fio_world.specs.AnyTime.{IsStandardLink}
 
 -- the record has gained this transition since a machine; with its time, where that is in time
@@ -30,13 +30,13 @@ pub record IsRecorded (input : ℕ) (level : Bool) (life samples : Life) (machin
 
 -- Where a link is polled in time, new levels are recorded: an open input that keeps a new level for as
 -- many samples in a row as its filter asks for is in the record once more than n + f - 2 scans came
--- after the last of them, or 2 n + f - 2 where a clean round may begin before the CPU has taken all.
+-- after the last of them, or 2 n + f - 2 where a clean round may repeat a block.
 abbrev pub NewLevelsAreRecorded : Settings → ℕ → Machine → Type 0
 NewLevelsAreRecorded settings first machine =
-    (filter : ℕ) (untaken : Bool) (scans : ℕ) (begins : List Machine) (last now : Machine)
+    (filter : ℕ) (untaken : Bool) (scans : ℕ) (receipts : List Machine) (last now : Machine)
     (later : Life) →
-    IsPolledInTime settings first filter untaken scans machine begins last later →
-    LeadsInTime settings first scans last now →
+    IsPolledInTime settings first filter untaken scans machine receipts last later →
+    LeadsInTime settings first scans (newest_of machine receipts) last now →
     (input : ℕ) (level : Bool) (before samples after : Life) →
     let life = before ++ life_of machine.history in
     let most = scans + behind_after untaken scans in
@@ -51,9 +51,9 @@ NewLevelsAreRecorded settings first machine =
 -- many scans came after the last of its samples: with a filter of f samples, f - 1 more after the first.
 abbrev pub StandardLinkRecordsNewLevels : ℕ → Bool → ℕ → Type 0
 StandardLinkRecordsNewLevels scans untaken late =
-    (id first : ℕ) (events : List Event) (begins : List Machine) (machine last now : Machine)
+    (id first : ℕ) (events : List Event) (receipts : List Machine) (machine last now : Machine)
     (later : Life) →
-    IsStandardLink id first events untaken scans machine begins last later now →
+    IsStandardLink id first events untaken scans machine receipts last later now →
     (input : ℕ) (level : Bool) (before samples after : Life) →
     let life = before ++ life_of machine.history in
     life_of now.history ≡ after ++ (samples ++ life) →

@@ -8,13 +8,16 @@ ghost use Rattle.fio_world.specs.Pieces.{TakenArePieces, PiecesBeginLog};
 ghost use Rattle.fio_world.specs.Headline.{Headline};
 ghost use Rattle.fio_world.specs.Rounds.{PollsOf, PollsReceivedHaveRounds, NewestPollMadeNewestBlock, BlockAnswersOf, AnswersCarryBlocks};
 ghost use Rattle.fio_world.specs.Rising.{IsRising};
+ghost use Rattle.fio_world.specs.Restarts.{TakesStretchOfEachLife};
 ghost use Rattle.fio_world.specs.Sound.{HoldsOfRuns, HoldsWithoutRestart, IsSoundRun, LeadToOneMachine};
-ghost use Rattle.fio_world.specs.Delivery.{CleanRoundTakesBlock, CleanRoundTakesAll, CleanRoundsCatchUp, IsWholeUnlessFull, GapsNameTimes, IsWholeWherePolledOften, IsWholeWherePolledForEach, IsWholeAfterOutage};
-ghost use Rattle.fio_world.specs.InTime.{RoundsMakeBlocks, RoundsKeepUp, AllArrivesInTime, ScansMoveOut};
+ghost use Rattle.fio_world.specs.Delivery.{RoundWithNothingBetweenIsClean, CleanRoundTakesBlock, EachCleanRoundTakesOne, CleanRoundTakesAll, CleanRoundsCatchUp, IsWholeUnlessFull, GapsNameTimes, IsWholeWherePolledOften, IsWholeWherePolledForEach, IsWholeAfterOutage};
+ghost use Rattle.fio_world.specs.InTime.{RoundWithNothingBetweenIsInTime, RoundsMakeBlocks, RoundsKeepUp, AllArrivesInTime, ScansMoveOut};
 ghost use Rattle.std.specs.Prelude.{false};
-ghost use Rattle.fio_world.specs.AnyTime.{IsNeverLate, StandardLinkIsNeverLater};
+ghost use Rattle.fio_world.specs.AnyTime.{IsNeverLate, IsNeverLateExactly, StandardLinkIsNeverLater};
 ghost use Rattle.fio_world.specs.NewLevels.{NewLevelsAreRecorded, StandardLinkRecordsNewLevels};
-ghost use Rattle.fio_world.specs.LossyLinks.{AllArrivesWhereKeptUpWith, OutagesArePossible, RoundsCatchUp, StandardLimitsHaveRoom};
+ghost use Rattle.fio_world.specs.LossyLinks.{AllArrivesWhereKeptUpWith, OutagesArePossible, RoundsCatchUp, StandardLimitsHaveRoom, StandardLinkKeptUpIsNeverLater};
+ghost use Rattle.fio_world.specs.Sharpness.{StandardLinkIsAsLate, LosesWhereAScanLater};
+ghost use Rattle.fio_world.specs.StartingAnew.{DeliveryStartsAnew, StandardLinkStartsAnew};
 ghost use Rattle.fio_world.specs.LostRounds.{LostRoundsArePossible};
 ghost use Rattle.std.specs.List.{AllByRecursion};
 ghost use Rattle.fio_world.specs.Collected.{Collects};
@@ -52,6 +55,14 @@ pub fn record_rises()
     ensures { HoldsOfRuns (λ settings first events machine. IsRising machine) }
 {}
 
+/// Whatever restarts, of each of the module's lives the CPU has taken one stretch of its blocks, all of them but
+/// perhaps the first and perhaps the last, and the record is what these are, life by life, each entry with its
+/// time. So without a gap mark a restart loses at most `waiting` + `per_block` transitions, and those that were
+/// pushed out between the last block taken before it and the first one after it.
+pub fn one_stretch_of_each_life_is_taken()
+    ensures { HoldsOfRuns (λ settings first events machine. TakesStretchOfEachLife settings machine) }
+{}
+
 /// The rounds of the polls sent never fall, are at most the CPU's, and from the one delivered last
 /// on are at least the newest that the module has received.
 pub fn polls_are_in_order()
@@ -78,11 +89,22 @@ pub fn answers_carry_blocks()
     ensures { HoldsWithoutRestart AnswersCarryBlocks }
 {}
 
-/// After any events, restarts included, a clean round takes a block: none of its events is refused,
-/// the module answers, and the CPU takes the answer.
+/// After any events, restarts included, a clean round takes a block: with nothing between none of its
+/// events is refused, the module answers, and the CPU takes the answer; and in each one the CPU takes one
+/// block, whatever else comes between.
 pub fn clean_rounds_take_blocks()
-    ensures { HoldsOfRuns (λ settings first events machine.
+    ensures possible { HoldsOfRuns (λ settings first events machine.
         CleanRoundTakesBlock settings first machine) }
+    ensures each { HoldsOfRuns (λ settings first events machine.
+        EachCleanRoundTakesOne settings first machine) }
+{}
+
+/// A clean round with nothing between is a clean round, and where it begins in time it is one in time.
+pub fn rounds_with_nothing_between_are_clean()
+    ensures clean { (settings : Settings) (first : ℕ) (machine : Machine)
+        → RoundWithNothingBetweenIsClean settings first machine }
+    ensures in_time { (settings : Settings) (first : ℕ) (machine : Machine)
+        → RoundWithNothingBetweenIsInTime settings first machine }
 {}
 
 /// Without restarts: after one clean round the CPU has taken every block that was made, and after
@@ -117,27 +139,30 @@ pub fn polled_often_is_whole()
 {}
 
 /// Without restarts each clean round, with what comes before it since the one before, makes a block,
-/// whatever was lost or repeated. So the blocks are never more scans behind than lie between two clean
-/// rounds, and twice as many where answers are lost.
+/// whatever was lost or repeated. So the blocks are never more scans behind than lie between the polls
+/// of two clean rounds as the module receives them, and twice as many where answers are lost.
 pub fn clean_rounds_keep_up()
     ensures blocks { HoldsWithoutRestart RoundsMakeBlocks }
     ensures behind { HoldsWithoutRestart RoundsKeepUp }
 {}
 
-/// Where clean rounds come at least every n scans, with k * n at most `per_block` * f, from a time on
-/// at which the CPU has taken all blocks and nothing waits, and no configuration is applied: the
-/// record gains each transition once, in order, with its time, and no gap mark; and at the end of a
-/// clean round it lacks none that was logged before the one two rounds earlier began, or more than
-/// n + f - 2 scans ago. Where no answer is lost it is one round, and f - 2 scans.
+/// Where the module receives the poll of a clean round at least every n scans, with k * n at most
+/// `per_block` * f, from a time on at which the CPU has taken all blocks and nothing waits, and no
+/// configuration is applied: the record gains each transition once, in order, with its time, and no gap
+/// mark; and at the end of a clean round it lacks none that had been logged when the module received the
+/// poll of the one two rounds earlier, or more than n + f - 2 scans before it received that of this one.
+/// Where no answer is lost it is one round, and f - 2 scans.
 pub fn all_arrives_in_time()
     ensures { HoldsWithoutRestart AllArrivesInTime }
 {}
 
 /// The record is never late where a link is polled in time: at any time what the log has and the record
-/// has not is at most n + f - 2 scans old, or 2 n + f - 2 where a clean round may begin before the CPU
-/// has taken all, until the next clean round has ended.
+/// has not is at most n + f - 2 scans old, or 2 n + f - 2 where a clean round may repeat a block, until n
+/// scans after the module received the poll of the latest. With blocks counted whole it is at most so many as the
+/// largest of n - 1 + j n - f (j b / k) over all j, and n more where a clean round may.
 pub fn records_are_never_late()
-    ensures { HoldsWithoutRestart IsNeverLate }
+    ensures late { HoldsWithoutRestart IsNeverLate }
+    ensures exactly { HoldsWithoutRestart IsNeverLateExactly }
 {}
 
 /// Under the standard limits, with up to 64 open inputs, filters of at least 5 and a clean round at least
@@ -148,9 +173,22 @@ pub fn standard_links_are_never_late()
     ensures answers_lost { StandardLinkIsNeverLater 19 true 41 }
 {}
 
+/// Both are reached: there are such links that lack a transition which is 22 scans old, and 41 where answers
+/// are lost.
+pub fn standard_links_are_as_late()
+    ensures no_answer_lost { StandardLinkIsAsLate 19 false 22 }
+    ensures answers_lost { StandardLinkIsAsLate 19 true 41 }
+{}
+
+/// With a scan more between two clean rounds than is often enough, a link can lose transitions: with 64 open
+/// inputs, filters of 1, and blocks of 64, a clean round every scan is often enough, and every 2 scans is not.
+pub fn links_polled_too_seldom_lose()
+    ensures { LosesWhereAScanLater (record { id = 0; per_block = 64; waiting = 1024 }) 1 1 }
+{}
+
 /// Where a link is polled in time, an open input that keeps a new level for as many samples in a row as
 /// its filter asks for is in the record once more than n + f - 2 scans came after the last of them, or
-/// 2 n + f - 2 where a clean round may begin before the CPU has taken all.
+/// 2 n + f - 2 where a clean round may repeat a block.
 pub fn new_levels_are_recorded()
     ensures { HoldsWithoutRestart NewLevelsAreRecorded }
 {}
@@ -179,10 +217,27 @@ pub fn outages_within_a_pace()
     ensures standard { StandardLimitsHaveRoom 19 76 }
 {}
 
+/// Under the standard limits, with up to 64 open inputs, filters of at least 5 and clean rounds that each make
+/// up for 19 scans, a link whose blocks are never more than 76 scans behind loses nothing, and a transition is
+/// in the record at most 79 scans after its own.
+pub fn standard_links_kept_up_are_never_late()
+    ensures { StandardLinkKeptUpIsNeverLater 19 76 79 }
+{}
+
 /// A round begins at least every n scans, and each clean one makes up for s. Where of each c + 1 rounds in a
 /// row at most l are lost, with c n at most (c - l) s, the blocks are never more than (l + 1) n behind.
 pub fn lost_rounds()
     ensures { LostRoundsArePossible }
+{}
+
+/// After any events, restarts included, delivery starts anew with a clean round that leaves nothing waiting:
+/// where clean rounds come in time from then on, the record gains each transition once, in order, with its time,
+/// and no gap mark, and none is more than 2 n + f - 2 scans late. Under the standard limits, with up to 64 open
+/// inputs, filters of at least 5 and a clean round at least every 19 scans, that is 41.
+pub fn delivery_starts_anew()
+    ensures anew { HoldsOfRuns (λ settings first events machine.
+        DeliveryStartsAnew settings first machine) }
+    ensures standard { StandardLinkStartsAnew 19 41 }
 {}
 
 /// Scans that come while a poll or its answer is under way lead where they lead before the poll is

@@ -5,26 +5,13 @@
  *     fuzz BUFFERS SEED
  */
 #include "fio2070.h"
+#include "random_frames.h"
 
 #include <stdio.h>
 #include <stdlib.h>
 #include <string.h>
 #include <sys/mman.h>
 #include <unistd.h>
-
-enum { LONGEST = 800 };
-
-static uint64_t random_state;
-
-/* xorshift64* */
-static uint64_t next_random(void) {
-    random_state ^= random_state >> 12;
-    random_state ^= random_state << 25;
-    random_state ^= random_state >> 27;
-    return random_state * 2685821657736338717u;
-}
-
-static unsigned below(unsigned bound) { return (unsigned)(next_random() >> 33) % bound; }
 
 /* The end of some pages, behind which stands one that may not be touched. */
 static uint8_t *guarded_end(void) {
@@ -33,24 +20,6 @@ static uint8_t *guarded_end(void) {
         (uint8_t *)mmap(NULL, (pages + 1) * page, PROT_READ | PROT_WRITE, MAP_PRIVATE | MAP_ANONYMOUS, -1, 0);
     if (start == MAP_FAILED || mprotect(start + pages * page, page, PROT_NONE) != 0) exit(2);
     return start + pages * page;
-}
-
-/* Fills the octets; most of them begin with a type and have a length near the one it needs. */
-static size_t fill(uint8_t *octets) {
-    static const uint16_t needed[] = {2, 5, 2, 1, 1, 2, 17, 9, 9, 2, 9, 1, 8, 2, 2, 13, 13, 8, 9, 9, 9, 2, 9, 9};
-    size_t length = below(LONGEST + 1), place;
-    unsigned kind = below(24), count = below(256);
-    int begins = below(8) != 0;
-    if (begins) {
-        length = needed[kind];
-        if (kind == 2 || kind == 17) length += 3 * count;
-        if (below(4) == 0) length = length + below(3) - 1;
-    }
-    for (place = 0; place < length; place++) octets[place] = (uint8_t)next_random();
-    if (begins && length > 0) octets[0] = (uint8_t)(kind < 12 ? 49 + kind : 165 + kind);
-    if (begins && kind == 2 && length > 1) octets[1] = (uint8_t)count;
-    if (begins && kind == 17 && length > 2) octets[2] = (uint8_t)count;
-    return length;
 }
 
 static struct fio2070_configuration_item items[FIO2070_MOST_ENTRIES];
@@ -97,7 +66,7 @@ static int is_again(size_t count, const uint8_t *octets, size_t length) {
 /* The words of a fault are there exactly for a fault. */
 static int has_text(struct fio2070_fault fault, uint8_t *text_end) {
     size_t count = fio2070_fault_text(&fault, text_end - FIO2070_LONGEST_FAULT_TEXT, FIO2070_LONGEST_FAULT_TEXT);
-    return (count == 0) == (fault.kind == FIO2070_NO_FAULT);
+    return (count == 0) == (fault.kind == FIO2070_FAULT_NONE);
 }
 
 static int reads_command(const uint8_t *octets, size_t length, uint8_t *text_end) {
@@ -107,7 +76,7 @@ static int reads_command(const uint8_t *octets, size_t length, uint8_t *text_end
     memset(&command, 0, sizeof command);
     fault = fio2070_decode_command(octets, length, &command);
     if (!has_text(fault, text_end)) return 0;
-    if (fault.kind != FIO2070_NO_FAULT) return count == 0 && command.code == 0;
+    if (fault.kind != FIO2070_FAULT_NONE) return count == 0 && command.code == 0;
     return command.count == count && is_again(write_command(&command, octets, count), octets, length);
 }
 
@@ -121,8 +90,8 @@ static int reads_answer(const uint8_t *octets, size_t length, uint8_t *text_end)
     fault = fio2070_decode_answer(octets, length, &answer);
     block_fault = fio2070_read_block(octets, length, &header);
     if (!has_text(fault, text_end) || !has_text(block_fault, text_end)) return 0;
-    if ((block_fault.kind == FIO2070_NO_FAULT) != (answer.code == 182)) return 0;
-    if (fault.kind != FIO2070_NO_FAULT) return count == 0 && answer.code == 0;
+    if ((block_fault.kind == FIO2070_FAULT_NONE) != (answer.code == 182)) return 0;
+    if (fault.kind != FIO2070_FAULT_NONE) return count == 0 && answer.code == 0;
     return answer.count == count && header.count == count && is_again(write_answer(&answer, octets, count), octets, length);
 }
 
@@ -133,8 +102,8 @@ static int is_heard(const uint8_t *octets, size_t length) {
     poller.number = length > 1 && below(2) ? octets[1] : (uint8_t)next_random();
     before = poller.number;
     heard = fio2070_poller_hear(&poller, octets, length, record + FIO2070_MOST_RECORD_ITEMS - room, room);
-    if (heard.kind == FIO2070_TAKEN) return heard.items <= room && poller.number == (before + 1) % 256;
-    return poller.number == before && (heard.kind != FIO2070_NO_ROOM || heard.items > room);
+    if (heard.kind == FIO2070_HEARD_TAKEN) return heard.items <= room && poller.number == (before + 1) % 256;
+    return poller.number == before && (heard.kind != FIO2070_HEARD_NO_ROOM || heard.items > room);
 }
 
 static int is_received(struct fio2070_module *device, const uint8_t *octets, size_t length, uint8_t *answer) {
@@ -143,23 +112,51 @@ static int is_received(struct fio2070_module *device, const uint8_t *octets, siz
     memset(&read, 0, sizeof read);
     fio2070_module_scan(device, next_random());
     if (fio2070_module_waiting(device) > FIO2070_MOST_WAITING) return 0;
-    return count == 0 || (fio2070_decode_answer(answer, count, &read).kind == FIO2070_NO_FAULT &&
-                          read.code == octets[0] + FIO2070_ANSWER);
+    return count == 0 || (fio2070_decode_answer(answer, count, &read).kind == FIO2070_FAULT_NONE &&
+                          read.code == octets[0] + FIO2070_TYPE_ANSWER);
+}
+
+/* Both checkers take the octets, as sent or as heard; now and then below a start and a poll for the block that they may be. */
+static int is_judged(struct fio2070_checker *checker, struct fio2070_content_checker *content, const uint8_t *octets,
+                     size_t length) {
+    uint8_t poll[2] = {FIO2070_TYPE_POLL, 0}, rule;
+    struct fio2070_breach breach;
+    struct fio2070_content_breach entry;
+    if (length > 1) poll[1] = octets[1];
+    if (below(4) == 0) {
+        fio2070_checker_start(checker);
+        fio2070_content_start(content);
+        fio2070_content_sent(content, poll, 2);
+        if (fio2070_checker_sent(checker, poll, 2, &breach) != 0) return 0;
+    }
+    if (below(2)) {
+        fio2070_content_sent(content, octets, length);
+        rule = fio2070_checker_sent(checker, octets, length, &breach);
+        return rule == breach.rule && rule <= FIO2070_RULE_REFUSAL;
+    }
+    rule = fio2070_content_heard(content, octets, length, &entry);
+    if (rule != entry.rule || rule > FIO2070_CONTENT_APART || (rule != 0 && entry.entry >= octets[2])) return 0;
+    rule = fio2070_checker_heard(checker, octets, length, &breach);
+    return rule == breach.rule && rule <= FIO2070_RULE_REFUSAL;
 }
 
 int main(int arguments, char **words) {
     long buffers = arguments > 1 ? atol(words[1]) : 1000, number, failed = 0;
     uint8_t *end = guarded_end(), *text_end = guarded_end(), *answer = guarded_end() - FIO2070_LONGEST_FRAME;
     static struct fio2070_module device;
+    static struct fio2070_checker checker;
+    static struct fio2070_content_checker content;
     uint8_t octets[LONGEST + 1];
     random_state = arguments > 2 ? strtoul(words[2], NULL, 10) : 1;
     fio2070_module_start(&device, 2, FIO2070_MOST_ENTRIES);
+    fio2070_checker_start(&checker);
+    fio2070_content_start(&content);
     for (number = 0; number < buffers; number++) {
         size_t length = fill(octets);
         uint8_t *start = end - length;
         memcpy(start, octets, length);
         if (!reads_command(start, length, text_end) || !reads_answer(start, length, text_end) ||
-            !is_heard(start, length) || !is_received(&device, start, length, answer) ||
+            !is_heard(start, length) || !is_judged(&checker, &content, start, length) || !is_received(&device, start, length, answer) ||
             memcmp(start, octets, length) != 0) {
             printf("buffer %ld of %lu octets\n", number, (unsigned long)length);
             failed++;

@@ -29,22 +29,22 @@ static void reads_blocks(void) {
     struct fio2070_block_header header = {9, 9, 9, 9, 9};
     struct fio2070_entry entries[2] = {{7, 7, 7}, {7, 7, 7}};
     uint8_t two[sizeof BLOCK];
-    CHECK(same_fault(fio2070_read_block(SHORTEST, sizeof SHORTEST, &header), FIO2070_NO_FAULT, 0, 0, 0));
+    CHECK(same_fault(fio2070_read_block(SHORTEST, sizeof SHORTEST, &header), FIO2070_FAULT_NONE, 0, 0, 0));
     CHECK(header.number == 5 && header.status == 0 && header.count == 0 && header.stamp == 1000);
     CHECK(fio2070_block_entries(SHORTEST, sizeof SHORTEST, entries, 2) == 0 && entries[0].input == 7);
-    CHECK(same_fault(fio2070_read_block(BLOCK, sizeof BLOCK, &header), FIO2070_NO_FAULT, 0, 0, 0));
+    CHECK(same_fault(fio2070_read_block(BLOCK, sizeof BLOCK, &header), FIO2070_FAULT_NONE, 0, 0, 0));
     CHECK(header.number == 5 && header.status == 0 && header.count == 1 && header.stamp == 1000);
-    CHECK(fio2070_block_entries(BLOCK, sizeof BLOCK, entries, 0) == 1 && entries[0].input == 7);
+    CHECK(fio2070_block_entries(BLOCK, sizeof BLOCK, entries, 0) == 0 && entries[0].input == 7);
     CHECK(fio2070_block_entries(BLOCK, sizeof BLOCK, entries, 2) == 1);
     CHECK(entries[0].input == 12 && entries[0].state == 1 && entries[0].stamp == 999 && entries[1].input == 7);
     memcpy(two, BLOCK, sizeof two);
     two[2] = 2;
     header.number = 9;
-    CHECK(same_fault(fio2070_read_block(two, sizeof two, &header), FIO2070_WRONG_LENGTH, 0, 14, 11));
+    CHECK(same_fault(fio2070_read_block(two, sizeof two, &header), FIO2070_FAULT_WRONG_LENGTH, 0, 14, 11));
     CHECK(header.number == 9 && header.count == 1);
     CHECK(fio2070_block_entries(two, sizeof two, entries, 2) == 0);
-    CHECK(same_fault(fio2070_read_block(BLOCK, 1, &header), FIO2070_WRONG_LENGTH, 0, 8, 1));
-    CHECK(same_fault(fio2070_read_block((const uint8_t *)"\xb1", 1, &header), FIO2070_UNKNOWN_TYPE, 0xb1, 0, 0));
+    CHECK(same_fault(fio2070_read_block(BLOCK, 1, &header), FIO2070_FAULT_WRONG_LENGTH, 0, 8, 1));
+    CHECK(same_fault(fio2070_read_block((const uint8_t *)"\xb1", 1, &header), FIO2070_FAULT_UNKNOWN_TYPE, 0xb1, 0, 0));
     CHECK(fio2070_widen(0x10002, 0xfffe) == 0xfffe && fio2070_widen(0x10002, 3) == 3);
     CHECK(fio2070_widen(0x10002, 2) == 0x10002 && fio2070_widen(5, 0xfffe) == 0xfffffffe);
 }
@@ -56,15 +56,15 @@ static void refuses(void) {
     memset(&command, 9, sizeof command);
     memset(&answer, 9, sizeof answer);
     memset(long_octets, 0x30, sizeof long_octets);
-    CHECK(same_fault(fio2070_decode_command(poll, 0, &command), FIO2070_EMPTY, 0, 0, 0));
-    CHECK(same_fault(fio2070_decode_answer(poll, 0, &answer), FIO2070_EMPTY, 0, 0, 0));
-    CHECK(same_fault(fio2070_decode_command(long_octets, 774, &command), FIO2070_TOO_LONG, 0, 0, 774));
-    CHECK(same_fault(fio2070_decode_command(long_octets, 1, &command), FIO2070_UNKNOWN_TYPE, 48, 0, 0));
-    CHECK(same_fault(fio2070_decode_command(BLOCK, 2, &command), FIO2070_UNKNOWN_TYPE, 182, 0, 0));
-    CHECK(same_fault(fio2070_decode_command((const uint8_t *)"3", 1, &command), FIO2070_WRONG_LENGTH, 0, 2, 1));
-    CHECK(same_fault(fio2070_decode_command(poll, 3, &command), FIO2070_WRONG_LENGTH, 0, 2, 3));
-    CHECK(same_fault(fio2070_decode_answer(BLOCK, 1, &answer), FIO2070_WRONG_LENGTH, 0, 8, 1));
-    CHECK(same_fault(fio2070_decode_answer(b60502, 3, &answer), FIO2070_WRONG_LENGTH, 0, 14, 3));
+    CHECK(same_fault(fio2070_decode_command(poll, 0, &command), FIO2070_FAULT_EMPTY, 0, 0, 0));
+    CHECK(same_fault(fio2070_decode_answer(poll, 0, &answer), FIO2070_FAULT_EMPTY, 0, 0, 0));
+    CHECK(same_fault(fio2070_decode_command(long_octets, 774, &command), FIO2070_FAULT_TOO_LONG, 0, 0, 774));
+    CHECK(same_fault(fio2070_decode_command(long_octets, 1, &command), FIO2070_FAULT_UNKNOWN_TYPE, 48, 0, 0));
+    CHECK(same_fault(fio2070_decode_command(BLOCK, 2, &command), FIO2070_FAULT_UNKNOWN_TYPE, 182, 0, 0));
+    CHECK(same_fault(fio2070_decode_command((const uint8_t *)"3", 1, &command), FIO2070_FAULT_WRONG_LENGTH, 0, 2, 1));
+    CHECK(same_fault(fio2070_decode_command(poll, 3, &command), FIO2070_FAULT_WRONG_LENGTH, 0, 2, 3));
+    CHECK(same_fault(fio2070_decode_answer(BLOCK, 1, &answer), FIO2070_FAULT_WRONG_LENGTH, 0, 8, 1));
+    CHECK(same_fault(fio2070_decode_answer(b60502, 3, &answer), FIO2070_FAULT_WRONG_LENGTH, 0, 14, 3));
     CHECK(command.code == 9 && command.controls[7] == 9 && answer.code == 9 && answer.status == 9);
 }
 
@@ -108,6 +108,11 @@ static void writes_commands(void) {
     CHECK(fio2070_encode_configure_inputs(&absent, 1, out, sizeof out) == 0);
     CHECK(fio2070_encode_configure_inputs(many, 255, out, sizeof out) == 767);
     CHECK(fio2070_encode_configure_inputs(many, 256, out, sizeof out) == 0);
+    CHECK(fio2070_encode_configure_inputs_length(items, 2) == 8 && fio2070_encode_configure_inputs_length(many, 255) == 767);
+    CHECK(fio2070_encode_configure_inputs_length(&absent, 1) == 0);
+    CHECK(fio2070_encode_configure_inputs_length(many, 256) == 0);
+    CHECK(fio2070_encode_other_command_length(57, 772) == 773 && fio2070_encode_other_command_length(56, 0) == 1);
+    CHECK(fio2070_encode_other_command_length(57, 773) == 0 && fio2070_encode_other_command_length(54, 1) == 0);
     CHECK(is_written(fio2070_encode_raw_inputs(out, sizeof out), "\x34", 1));
     CHECK(is_written(fio2070_encode_filtered_inputs(out, sizeof out), "\x35", 1));
     CHECK(is_written(fio2070_encode_poll(5, out, sizeof out), "\x36\5", 2));
@@ -140,6 +145,11 @@ static void writes_answers(void) {
     CHECK(fio2070_encode_block_answer(5, &absent, 1, 0, 1000, out, sizeof out) == 0);
     CHECK(fio2070_encode_block_answer(5, many, 255, 0, 1000, out, sizeof out) == 773);
     CHECK(fio2070_encode_block_answer(5, many, 256, 0, 1000, out, sizeof out) == 0);
+    CHECK(fio2070_encode_block_answer_length(&entry, 1) == 11 && fio2070_encode_block_answer_length(many, 255) == 773);
+    CHECK(fio2070_encode_block_answer_length(&absent, 1) == 0);
+    CHECK(fio2070_encode_block_answer_length(many, 256) == 0);
+    CHECK(fio2070_encode_other_answer_length(188, 1) == 2 && fio2070_encode_other_answer_length(184, 772) == 773);
+    CHECK(fio2070_encode_other_answer_length(184, 773) == 0 && fio2070_encode_other_answer_length(182, 1) == 0);
     CHECK(is_written(fio2070_encode_watchdog_answer(1, out, sizeof out), "\xba\1", 2));
     CHECK(is_written(fio2070_encode_other_answer(188, (const uint8_t *)"\2", 1, out, sizeof out), "\xbc\2", 2));
     CHECK(fio2070_encode_other_answer(182, BLOCK, 1, out, sizeof out) == 0);
@@ -149,14 +159,14 @@ static void writes_answers(void) {
 static struct fio2070_command command_in(const char *octets, size_t length) {
     struct fio2070_command command;
     memset(&command, 9, sizeof command);
-    CHECK(fio2070_decode_command((const uint8_t *)octets, length, &command).kind == FIO2070_NO_FAULT);
+    CHECK(fio2070_decode_command((const uint8_t *)octets, length, &command).kind == FIO2070_FAULT_NONE);
     return command;
 }
 
 static struct fio2070_answer answer_in(const void *octets, size_t length) {
     struct fio2070_answer answer;
     memset(&answer, 9, sizeof answer);
-    CHECK(fio2070_decode_answer((const uint8_t *)octets, length, &answer).kind == FIO2070_NO_FAULT);
+    CHECK(fio2070_decode_answer((const uint8_t *)octets, length, &answer).kind == FIO2070_FAULT_NONE);
     return answer;
 }
 
@@ -166,7 +176,8 @@ static int shows(const char *octets, size_t length, const char *expected) {
     uint8_t text[64];
     size_t count = strlen(expected);
     memset(text, '?', sizeof text);
-    if (fio2070_show(frame, length, text, count - 1) != count || text[0] != '?') return 0;
+    if (fio2070_show_length(frame, length) != count) return 0;
+    if (fio2070_show(frame, length, text, count - 1) != 0 || text[0] != '?') return 0;
     return fio2070_show(frame, length, text, sizeof text) == count && memcmp(text, expected, count) == 0
            && text[count] == '?';
 }
@@ -178,7 +189,7 @@ static void reads_commands(void) {
     CHECK(command.code == 49 && command.clear == 0xa5 && command.block == 0 && command.load == 0 && command.count == 0);
     CHECK(command_in("\x32\0\1\0\0", 5).load == 65536);
     CHECK(command_in(configuration, 8).count == 2);
-    CHECK(fio2070_command_items((const uint8_t *)configuration, 8, items, 1) == 2 && items[0].input == 7);
+    CHECK(fio2070_command_items((const uint8_t *)configuration, 8, items, 1) == 0 && items[0].input == 7);
     CHECK(fio2070_command_items((const uint8_t *)configuration, 8, items, 2) == 2);
     CHECK(items[0].input == 12 && items[0].ignore == 0 && items[0].leading == 5 && items[0].trailing == 3);
     CHECK(items[1].input == 3 && items[1].ignore == 1 && items[1].leading == 0 && items[1].trailing == 0);
@@ -214,28 +225,28 @@ static void hears(void) {
     struct fio2070_heard heard;
     uint8_t lost[sizeof BLOCK];
     heard = fio2070_poller_hear(&poller, BLOCK, sizeof BLOCK, items, 0);
-    CHECK(heard.kind == FIO2070_NO_ROOM && heard.items == 1 && poller.number == 5);
+    CHECK(heard.kind == FIO2070_HEARD_NO_ROOM && heard.items == 1 && poller.number == 5);
     heard = fio2070_poller_hear(&poller, BLOCK, sizeof BLOCK, items, FIO2070_MOST_RECORD_ITEMS);
-    CHECK(heard.kind == FIO2070_TAKEN && heard.entries == 1 && heard.status == 0 && heard.items == 1);
-    CHECK(poller.number == 6 && heard.number == 0 && heard.code == 0 && heard.fault.kind == FIO2070_NO_FAULT);
+    CHECK(heard.kind == FIO2070_HEARD_TAKEN && heard.entries == 1 && heard.status == 0 && heard.items == 1);
+    CHECK(poller.number == 6 && heard.number == 0 && heard.code == 0 && heard.fault.kind == FIO2070_FAULT_NONE);
     CHECK(items[0].gap == 0 && items[0].input == 12 && items[0].state == 1);
     CHECK(items[0].stamp == 999 && items[0].wide == 999);
     heard = fio2070_poller_hear(&poller, BLOCK, sizeof BLOCK, items, FIO2070_MOST_RECORD_ITEMS);
-    CHECK(heard.kind == FIO2070_STALE && heard.number == 5 && heard.items == 0 && poller.number == 6);
+    CHECK(heard.kind == FIO2070_HEARD_STALE && heard.number == 5 && heard.items == 0 && poller.number == 6);
     CHECK(fio2070_poller_poll(&poller, out, sizeof out) == 2 && out[0] == 54 && out[1] == 6);
     memcpy(lost, BLOCK, sizeof lost);
     lost[1] = 255;
-    lost[6] = FIO2070_MORE | FIO2070_LOST;
+    lost[6] = FIO2070_BIT_MORE | FIO2070_BIT_LOST;
     poller.number = 255;
     heard = fio2070_poller_hear(&poller, lost, sizeof lost, items, 1);
-    CHECK(heard.kind == FIO2070_NO_ROOM && heard.items == 2 && poller.number == 255);
+    CHECK(heard.kind == FIO2070_HEARD_NO_ROOM && heard.items == 2 && poller.number == 255);
     heard = fio2070_poller_hear(&poller, lost, sizeof lost, items, 2);
-    CHECK(heard.kind == FIO2070_TAKEN && heard.status == 12 && heard.items == 2 && poller.number == 0);
+    CHECK(heard.kind == FIO2070_HEARD_TAKEN && heard.status == 12 && heard.items == 2 && poller.number == 0);
     CHECK(items[0].gap == 1 && items[0].wide == 0 && items[1].gap == 0 && items[1].wide == 999);
     heard = fio2070_poller_hear(&poller, (const uint8_t *)"\xb3\1", 2, items, 2);
-    CHECK(heard.kind == FIO2070_OTHER && heard.code == 179 && poller.number == 0);
+    CHECK(heard.kind == FIO2070_HEARD_OTHER && heard.code == 179 && poller.number == 0);
     heard = fio2070_poller_hear(&poller, BLOCK, sizeof BLOCK - 1, items, 2);
-    CHECK(heard.kind == FIO2070_UNREADABLE && same_fault(heard.fault, FIO2070_WRONG_LENGTH, 0, 11, 10));
+    CHECK(heard.kind == FIO2070_HEARD_UNREADABLE && same_fault(heard.fault, FIO2070_FAULT_WRONG_LENGTH, 0, 11, 10));
 }
 
 /* ---- The rules of a transcript ---- */
@@ -252,15 +263,49 @@ static void checks(void) {
     fio2070_checker_start(&checker);
     CHECK(fio2070_checker_sent(&checker, (const uint8_t *)"\x36\xff", 2, &breach) == 0);
     CHECK(is_breach(breach, 0, 0, 0, 0));
-    CHECK(fio2070_checker_sent(&checker, (const uint8_t *)"\x36\0", 2, &breach) == FIO2070_ADVANCE);
-    CHECK(is_breach(breach, FIO2070_ADVANCE, 1, 255, 0));
+    CHECK(fio2070_checker_sent(&checker, (const uint8_t *)"\x36\0", 2, &breach) == FIO2070_RULE_ADVANCE);
+    CHECK(is_breach(breach, FIO2070_RULE_ADVANCE, 1, 255, 0));
     CHECK(fio2070_checker_heard(&checker, empty, sizeof empty, &breach) == 0);
     CHECK(fio2070_checker_sent(&checker, (const uint8_t *)"\x36\2", 2, &breach) == 0);
-    CHECK(fio2070_checker_heard(&checker, empty, sizeof empty, &breach) == FIO2070_NUMBER);
-    CHECK(is_breach(breach, FIO2070_NUMBER, 1, 2, 1));
+    CHECK(fio2070_checker_heard(&checker, empty, sizeof empty, &breach) == FIO2070_RULE_NUMBER);
+    CHECK(is_breach(breach, FIO2070_RULE_NUMBER, 1, 2, 1));
     CHECK(fio2070_checker_sent(&checker, (const uint8_t *)"\x36\2", 2, &breach) == 0);
-    CHECK(fio2070_checker_heard(&checker, (const uint8_t *)"\xb3\0", 2, &breach) == FIO2070_PAIR);
-    CHECK(is_breach(breach, FIO2070_PAIR, 1, 182, 179));
+    CHECK(fio2070_checker_heard(&checker, (const uint8_t *)"\xb3\0", 2, &breach) == FIO2070_RULE_PAIR);
+    CHECK(is_breach(breach, FIO2070_RULE_PAIR, 1, 182, 179));
+}
+
+/* ---- The rules on content ---- */
+
+static int is_entry(struct fio2070_content_breach breach, int rule, int entry, int input) {
+    return breach.rule == rule && breach.entry == entry && breach.input == input;
+}
+
+/* Input 12 goes to 0 at 10; the next block has an entry of input 13, and then that of input 12 once more. */
+static void judges_content(void) {
+    static const uint8_t empty[] = {182, 255, 0, 0, 0, 0, 0, 5}, once[] = {182, 0, 1, 12, 0, 10, 0, 0, 0, 0, 11};
+    static const uint8_t again[] = {182, 1, 2, 13, 0, 11, 12, 0, 12, 0, 0, 0, 0, 21};
+    static const uint8_t before[] = {182, 2, 1, 141, 0, 9, 0, 0, 0, 0, 31};
+    static const uint8_t near[] = {182, 3, 1, 140, 0, 13, 0, 0, 0, 0, 41};
+    struct fio2070_content_checker content;
+    struct fio2070_content_breach breach;
+    memset(&content, 0xa5, sizeof content);
+    fio2070_content_start(&content);
+    fio2070_content_sent(&content, (const uint8_t *)"\x33\2\x0c\5\3\x0d\5\3", 8);
+    CHECK(fio2070_content_heard(&content, (const uint8_t *)"\xb3\0", 2, &breach) == 0 && is_entry(breach, 0, 0, 0));
+    fio2070_content_sent(&content, (const uint8_t *)"\x36\xff", 2);
+    CHECK(fio2070_content_heard(&content, empty, sizeof empty, &breach) == 0);
+    fio2070_content_sent(&content, (const uint8_t *)"\x36\0", 2);
+    CHECK(fio2070_content_heard(&content, once, sizeof once, &breach) == 0);
+    fio2070_content_sent(&content, (const uint8_t *)"\x36\1", 2);
+    CHECK(fio2070_content_heard(&content, again, sizeof again, &breach) == FIO2070_CONTENT_ALTERNATE);
+    CHECK(is_entry(breach, FIO2070_CONTENT_ALTERNATE, 1, 12));
+    CHECK(fio2070_content_heard(&content, again, sizeof again, &breach) == 0 && is_entry(breach, 0, 0, 0));
+    fio2070_content_sent(&content, (const uint8_t *)"\x36\2", 2);
+    CHECK(fio2070_content_heard(&content, before, sizeof before, &breach) == FIO2070_CONTENT_ORDER);
+    CHECK(is_entry(breach, FIO2070_CONTENT_ORDER, 0, 13));
+    fio2070_content_sent(&content, (const uint8_t *)"\x36\3", 2);
+    CHECK(fio2070_content_heard(&content, near, sizeof near, &breach) == FIO2070_CONTENT_APART);
+    CHECK(is_entry(breach, FIO2070_CONTENT_APART, 0, 12));
 }
 
 /* ---- Parts of a module ---- */
@@ -284,10 +329,36 @@ static void counts(void) {
     CHECK(fio2070_counter_now(&counter) == 0);
 }
 
+/* A leading and a trailing filter, and at which of the samples below they make transitions. */
+struct wave {
+    uint8_t leading, trailing;
+    uint8_t changes[11];
+};
+
+static const struct wave waves[] = {
+    {3, 2, {0, 0, 0, 0, 0, 0, 1, 0, 0, 0, 1}},
+    {0, 0, {0, 1, 0, 1, 1, 0, 0, 1, 1, 1, 0}},
+    {1, 1, {0, 1, 0, 1, 1, 0, 0, 1, 1, 1, 0}},
+};
+
+static void filters_edges(const struct wave *wave) {
+    static const uint8_t samples[11] = {1, 0, 0, 1, 0, 0, 0, 1, 0, 1, 1};
+    static struct fio2070_filters inputs;
+    struct fio2070_configuration_item item = {2, 0, 0, 0};
+    int place;
+    item.leading = wave->leading;
+    item.trailing = wave->trailing;
+    fio2070_filters_start(&inputs);
+    CHECK(fio2070_filters_configure(&inputs, &item, 1).kind == FIO2070_CONFIGURED_APPLIED);
+    for (place = 0; place < 11; place++) {
+        uint64_t changes = (uint64_t)wave->changes[place] << 2;
+        CHECK(fio2070_filters_scan(&inputs, (uint64_t)samples[place] << 2) == changes);
+    }
+}
+
 static void filters(void) {
     static const struct fio2070_configuration_item twice[] = {{12, 0, 5, 5}, {12, 0, 2, 2}};
-    static const struct fio2070_configuration_item absent[] = {{3, 0, 1, 1}, {64, 0, 1, 1}}, wave = {2, 0, 3, 2};
-    static const int samples[] = {1, 0, 0, 1, 0, 0, 0, 1, 0, 1, 1};
+    static const struct fio2070_configuration_item absent[] = {{3, 0, 1, 1}, {64, 0, 1, 1}};
     static struct fio2070_configuration_item many[256];
     static struct fio2070_filters inputs;
     struct fio2070_configured done;
@@ -300,21 +371,15 @@ static void filters(void) {
     CHECK(fio2070_filters_scan(&inputs, 0) == 0 && fio2070_filters_filtered(&inputs) == 0);
     /* The last item of an input holds, and a configuration starts its samples anew. */
     fio2070_filters_start(&inputs);
-    CHECK(fio2070_filters_configure(&inputs, twice, 2).kind == FIO2070_APPLIED);
+    CHECK(fio2070_filters_configure(&inputs, twice, 2).kind == FIO2070_CONFIGURED_APPLIED);
     CHECK(fio2070_filters_scan(&inputs, 0) == 0);
-    CHECK(fio2070_filters_configure(&inputs, twice, 2).kind == FIO2070_APPLIED);
+    CHECK(fio2070_filters_configure(&inputs, twice, 2).kind == FIO2070_CONFIGURED_APPLIED);
     CHECK(fio2070_filters_scan(&inputs, 0) == 0 && fio2070_filters_scan(&inputs, 0) == 1 << 12);
     done = fio2070_filters_configure(&inputs, absent, 2);
-    CHECK(done.kind == FIO2070_ABSENT_INPUT && done.place == 1);
+    CHECK(done.kind == FIO2070_CONFIGURED_ABSENT_INPUT && done.place == 1);
     done = fio2070_filters_configure(&inputs, many, 256);
-    CHECK(done.kind == FIO2070_TOO_MANY_ITEMS && done.place == 0);
-    /* Leading filter 3, trailing filter 2: transitions at the samples 7 and 11. */
-    fio2070_filters_start(&inputs);
-    CHECK(fio2070_filters_configure(&inputs, &wave, 1).kind == FIO2070_APPLIED);
-    for (place = 0; place < 11; place++) {
-        uint64_t expected = place == 6 || place == 10 ? 4 : 0;
-        CHECK(fio2070_filters_scan(&inputs, (uint64_t)samples[place] << 2) == expected);
-    }
+    CHECK(done.kind == FIO2070_CONFIGURED_TOO_MANY_ITEMS && done.place == 0);
+    for (place = 0; place < 3; place++) filters_edges(&waves[place]);
 }
 
 /* ---- The module ---- */
@@ -337,10 +402,16 @@ static void is_a_module(void) {
     CHECK(fio2070_module_start(&device, 2, 255) == 0);
     CHECK(fio2070_module_waiting(&device) == 0 && fio2070_module_counter(&device) == 0);
     CHECK(fio2070_module_filtered(&device) == ~(uint64_t)0 && fio2070_module_watchdog_ms(&device) == 0);
+    CHECK(fio2070_module_raw(&device) == ~(uint64_t)0 && fio2070_module_flags(&device) == FIO2070_BIT_WAS_RESET);
+    CHECK(fio2070_module_errors(&device).receive == 0 && fio2070_module_errors(&device).transmit == 0);
     CHECK(answers("\x3c", 1, "\xbc\2", 2));
     CHECK(answers("\x31\0", 2, "\xb1\x80\0\0\0\0\0\0", 8) && answers("\x31\x80", 2, "\xb1\0\0\0\0\0\0\0", 8));
     fio2070_module_raise(&device, 3);
-    CHECK(answers("\x31\1", 2, "\xb1\2\0\0\0\0\0\0", 8));
+    CHECK(fio2070_module_flags(&device) == 3);
+    CHECK(answers("\x31\1", 2, "\xb1\2\0\0\0\0\0\0", 8) && fio2070_module_flags(&device) == 2);
+    fio2070_module_set_errors(&device, 7, 255);
+    CHECK(fio2070_module_errors(&device).receive == 7 && fio2070_module_errors(&device).transmit == 255);
+    CHECK(answers("\x31\0", 2, "\xb1\2\7\xff\0\0\0\0", 8) && answers("\x3c", 1, "\xbc\2", 2));
     CHECK(answers("\x38", 1, "", 0) && answers("\x33", 1, "", 0) && answers("", 0, "", 0));
     CHECK(answers("\x33\1\x40\1\1", 5, "\xb3\1", 2) && answers("\x33\1\x0c\1\1", 5, "\xb3\0", 2));
     CHECK(answers("\x32\0\0\3\xe6", 5, "\xb2\0", 2));
@@ -348,6 +419,7 @@ static void is_a_module(void) {
     fio2070_module_scan(&device, ~((uint64_t)1 << 12));
     CHECK(fio2070_module_counter(&device) == 999 && fio2070_module_waiting(&device) == 1);
     CHECK(fio2070_module_filtered(&device) == ~((uint64_t)1 << 12));
+    CHECK(fio2070_module_raw(&device) == ~((uint64_t)1 << 12));
     CHECK(answers("\x34", 1, "\xb4\xff\xef\xff\xff\xff\xff\xff\xff\0\0\3\xe7", 13));
     CHECK(answers("\x36\5", 2, "\xb6\5\1\x0c\3\xe7\0\0\0\3\xe7", 11));
     CHECK(answers("\x36\5", 2, "\xb6\5\1\x0c\3\xe7\2\0\0\3\xe7", 11));
@@ -359,6 +431,7 @@ static void is_a_module(void) {
     CHECK(answers("\x3a\xc8", 2, "\xba\1", 2) && fio2070_module_watchdog_ms(&device) == 100);
     fio2070_module_restart(&device);
     CHECK(fio2070_module_counter(&device) == 0 && fio2070_module_watchdog_ms(&device) == 0);
+    CHECK(fio2070_module_errors(&device).receive == 0 && fio2070_module_errors(&device).transmit == 0);
     CHECK(answers("\x3c", 1, "\xbc\2", 2) && answers("\x31\0", 2, "\xb1\x80\0\0\0\0\0\0", 8));
 }
 
@@ -386,6 +459,53 @@ static void overflows(void) {
     CHECK(fio2070_module_waiting(&device) == 0);
 }
 
+/* ---- Pointers that are null, where the length is 0 ---- */
+
+static void takes_nulls(void) {
+    struct fio2070_block_header header;
+    struct fio2070_command command;
+    struct fio2070_answer answer;
+    struct fio2070_fault empty = {1, 0, 0, {0}, 0};
+    CHECK(fio2070_read_block(NULL, 0, &header).kind == FIO2070_FAULT_EMPTY);
+    CHECK(fio2070_decode_command(NULL, 0, &command).kind == FIO2070_FAULT_EMPTY);
+    CHECK(fio2070_decode_answer(NULL, 0, &answer).kind == FIO2070_FAULT_EMPTY);
+    CHECK(fio2070_block_entries(NULL, 0, NULL, 0) == 0 && fio2070_block_entries(BLOCK, sizeof BLOCK, NULL, 0) == 0);
+    CHECK(fio2070_block_entries(SHORTEST, sizeof SHORTEST, NULL, 0) == 0);
+    CHECK(fio2070_command_items(NULL, 0, NULL, 0) == 0 && fio2070_command_items((const uint8_t *)"3", 2, NULL, 0) == 0);
+    CHECK(fio2070_show(NULL, 0, NULL, 0) == 0 && fio2070_show_length(NULL, 0) == 6);
+    CHECK(fio2070_show(NULL, 0, out, sizeof out) == 6 && memcmp(out, "empty\n", 6) == 0);
+    CHECK(fio2070_fault_text(&empty, NULL, 0) == 0 && fio2070_encode_poll(5, NULL, 0) == 0);
+    CHECK(is_written(fio2070_encode_configure_inputs(NULL, 0, out, sizeof out), "\x33\0", 2));
+    CHECK(fio2070_encode_configure_inputs(NULL, 0, NULL, 0) == 0 && fio2070_encode_configure_inputs_length(NULL, 0) == 2);
+    CHECK(is_written(fio2070_encode_block_answer(5, NULL, 0, 0, 1000, out, sizeof out), SHORTEST, sizeof SHORTEST));
+    CHECK(fio2070_encode_block_answer(5, NULL, 0, 0, 0, NULL, 0) == 0 && fio2070_encode_block_answer_length(NULL, 0) == 8);
+    CHECK(is_written(fio2070_encode_other_command(56, NULL, 0, out, sizeof out), "\x38", 1));
+    CHECK(is_written(fio2070_encode_other_answer(183, NULL, 0, out, sizeof out), "\xb7", 1));
+    CHECK(fio2070_encode_other_command(56, NULL, 0, NULL, 0) == 0 && fio2070_encode_other_answer(183, NULL, 0, NULL, 0) == 0);
+}
+
+static void ends_take_nulls(void) {
+    static struct fio2070_filters inputs;
+    struct fio2070_poller poller = {5};
+    struct fio2070_checker checker;
+    struct fio2070_breach breach;
+    struct fio2070_content_checker content;
+    struct fio2070_content_breach entry;
+    fio2070_filters_start(&inputs);
+    fio2070_checker_start(&checker);
+    fio2070_content_start(&content);
+    fio2070_content_sent(&content, NULL, 0);
+    CHECK(fio2070_content_heard(&content, NULL, 0, &entry) == 0);
+    CHECK(fio2070_module_start(&device, 2, 255) == 0 && fio2070_module_receive(&device, NULL, 0, out) == 0);
+    CHECK(fio2070_filters_configure(&inputs, NULL, 0).kind == FIO2070_CONFIGURED_APPLIED);
+    CHECK(fio2070_poller_poll(&poller, NULL, 0) == 0);
+    CHECK(fio2070_poller_hear(&poller, NULL, 0, NULL, 0).kind == FIO2070_HEARD_UNREADABLE);
+    CHECK(fio2070_poller_hear(&poller, BLOCK, sizeof BLOCK, NULL, 0).kind == FIO2070_HEARD_NO_ROOM);
+    CHECK(fio2070_poller_hear(&poller, SHORTEST, sizeof SHORTEST, NULL, 0).kind == FIO2070_HEARD_TAKEN);
+    CHECK(fio2070_checker_sent(&checker, NULL, 0, &breach) == FIO2070_RULE_READABLE);
+    CHECK(fio2070_checker_heard(&checker, NULL, 0, &breach) == 0);
+}
+
 int main(void) {
     reads_blocks();
     refuses();
@@ -396,10 +516,13 @@ int main(void) {
     reads_answers();
     hears();
     checks();
+    judges_content();
     counts();
     filters();
     is_a_module();
     overflows();
+    takes_nulls();
+    ends_take_nulls();
     printf("%d passed, %d failed\n", passed, failed);
     return failed != 0;
 }

@@ -45,6 +45,14 @@ static void checkers(void) {
     check(same(&one, &other, sizeof one), "checker");
 }
 
+static void contents(void) {
+    struct fio2070_content_checker one, other;
+    fill(&one, &other, sizeof one);
+    fio2070_content_start(&one);
+    fio2070_content_start(&other);
+    check(same(&one, &other, sizeof one), "content_checker");
+}
+
 static void filters(void) {
     static struct fio2070_filters one, other;
     fill(&one, &other, sizeof one);
@@ -64,6 +72,7 @@ static void modules(void) {
 int main(void) {
     counters();
     checkers();
+    contents();
     filters();
     modules();
     printf("%d passed, %d failed\n", passed, failed);

@@ -32,7 +32,7 @@ static void reads_and_writes() {
     CHECK(!fio2070::encode::configure_inputs(absent));
     CHECK(fio2070::command_items(*configuration).size() == 2 && fio2070::command_items(*configuration)[1].ignore == 1);
     auto command = fio2070::decode_command(fio2070::encode::poll(5));
-    CHECK(command && command->code == 54 && command->block == 5 && command.fault().kind() == FIO2070_NO_FAULT);
+    CHECK(command && command->code == 54 && command->block == 5 && command.fault().kind() == FIO2070_FAULT_NONE);
     CHECK(fio2070::show(fio2070::encode::poll(5)) == "poll block 5\n" && fio2070::show(List({7})) == "unknown type 7\n");
     auto nothing = fio2070::decode_command(List());
     CHECK(!nothing && !nothing.message() && nothing.fault().text() == "empty");
@@ -61,12 +61,20 @@ static void has_values() {
     CHECK(octets(*fio2070::encode::block_answer(5, {{12, 1, 999}}, 0, 1000)) == BLOCK);
     CHECK(fio2070::decode_command({0x36, 5}).value().block == 5);
     CHECK(fio2070::block_entries(BLOCK) == std::vector<fio2070::Entry>({{12, 1, 999}}));
+    CHECK(*fio2070::decode_command({0x36, 5}) == *fio2070::decode_command({0x36, 5}));
+    CHECK(*fio2070::decode_command({0x36, 5}) != *fio2070::decode_command({0x36, 6}));
+    CHECK(*fio2070::decode_answer(BLOCK) == *fio2070::decode_answer(BLOCK));
+    CHECK(*fio2070::decode_answer({0xb2, 0}) != *fio2070::decode_answer({0xb2, 1}));
+    CHECK(*fio2070::read_block(BLOCK) == fio2070::BlockHeader({5, 0, 1, 0, 1000}));
+    CHECK(*fio2070::read_block(BLOCK) != fio2070::BlockHeader({5, 0, 1, 0, 1001}));
+    CHECK(fio2070::ErrorCounts({3, 4}) == fio2070::ErrorCounts({3, 4}) && fio2070::ErrorCounts({3, 4}) != fio2070::ErrorCounts({3, 5}));
+    CHECK(fio2070::Outputs({{1}, {2}}) == fio2070::Outputs({{1}, {2}}) && fio2070::Outputs({{1}, {2}}) != fio2070::Outputs({{1}, {3}}));
     std::string text;
     try {
         (void)fio2070::decode_command({0x33}).value();
     } catch (const fio2070::FaultError &error) {
         text = error.what();
-        CHECK(error.fault().kind() == FIO2070_WRONG_LENGTH);
+        CHECK(error.fault().kind() == FIO2070_FAULT_WRONG_LENGTH);
     }
     CHECK(text == "wrong length needed 2 got 1");
     fio2070::Poller poller(5);
@@ -90,9 +98,9 @@ static void polls_a_module() {
     auto heard = poller.hear(*answer);
     CHECK(heard.is_taken() && heard.entries() == 1 && heard.status() == 0 && poller.number() == 6);
     CHECK(poller.record().size() == 1 && poller.record()[0].input == 12 && poller.record()[0].wide == 1);
-    CHECK(poller.hear(*answer).kind() == FIO2070_STALE && poller.hear(*answer).stale_number() == 5);
+    CHECK(poller.hear(*answer).kind() == FIO2070_HEARD_STALE && poller.hear(*answer).stale_number() == 5);
     CHECK(poller.hear(List({0xb3, 0})).other_code() == 179);
-    CHECK(poller.hear(List()).kind() == FIO2070_UNREADABLE && poller.hear(List()).fault().text() == "empty");
+    CHECK(poller.hear(List()).kind() == FIO2070_HEARD_UNREADABLE && poller.hear(List()).fault().text() == "empty");
     CHECK(poller.hear(List({0xb6, 6, 0, 12, 0, 0, 0, 1})).is_taken() && poller.record().size() == 2);
     CHECK(poller.record()[1].gap == 1);
     module->receive(fio2070::encode::watchdog(200));
@@ -100,6 +108,10 @@ static void polls_a_module() {
     module->receive(fio2070::encode::load_counter(999));
     module->line_sync();
     CHECK(module->counter() == 999);
+    module->set_errors(3, 4);
+    CHECK(module->errors().receive == 3 && module->errors().transmit == 4 && module->flags() == 0x80);
+    CHECK((*module->receive(fio2070::encode::status(0)))[2] == 3);
+    CHECK(module->raw() == ~(std::uint64_t(1) << 12));
     module->raise(1);
     CHECK((*module->receive(fio2070::encode::status(0)))[1] == 0x81);
     fio2070::Outputs outputs{};
@@ -119,9 +131,25 @@ static void has_parts() {
     CHECK(counter.now() == 5);
     fio2070::Filters filters;
     const fio2070::ConfigurationItem items[] = {{12, 0, 2, 2}}, absent[] = {{64, 0, 1, 1}};
-    CHECK(filters.configure(items).kind == FIO2070_APPLIED && filters.configure(absent).kind == FIO2070_ABSENT_INPUT);
+    CHECK(filters.configure(items).kind == FIO2070_CONFIGURED_APPLIED && filters.configure(absent).kind == FIO2070_CONFIGURED_ABSENT_INPUT);
     CHECK(filters.scan(0) == 0 && filters.scan(0) == 1 << 12 && filters.raw() == 0);
     CHECK(filters.filtered() == ~(std::uint64_t(1) << 12));
+}
+
+/* An entry of input 12 comes once more in the next block, behind one of input 13. */
+static void judges_content() {
+    const std::uint8_t empty[] = {182, 255, 0, 0, 0, 0, 0, 5}, once[] = {182, 0, 1, 12, 0, 10, 0, 0, 0, 0, 11};
+    const std::uint8_t again[] = {182, 1, 2, 13, 0, 11, 12, 0, 12, 0, 0, 0, 0, 21};
+    fio2070::ContentChecker content;
+    content.sent(fio2070::encode::poll(255));
+    CHECK(content.heard(empty).rule == 0);
+    content.sent(fio2070::encode::poll(0));
+    CHECK(content.heard(once).rule == 0);
+    content.sent(fio2070::encode::poll(1));
+    fio2070_content_breach breach = content.heard(again);
+    CHECK(breach.rule == FIO2070_CONTENT_ALTERNATE && breach.entry == 1 && breach.input == 12);
+    CHECK(breach == breach && breach != content.heard(again));
+    CHECK(content.heard(again).rule == 0);
 }
 
 int main() {
@@ -129,6 +157,7 @@ int main() {
     has_values();
     polls_a_module();
     has_parts();
+    judges_content();
     std::printf("%d passed, %d failed\n", passed, failed);
     return failed != 0;
 }

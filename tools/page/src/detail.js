@@ -33,16 +33,23 @@ class Fields {
 // The name of a word: the word before it, as in `block 5`.
 const nameOf = (all, place) => place % 2 === 0 || place === 0 ? all[place].word : all[place - 1].word + ' ' + all[place].word;
 
-function linesWith(lines, spans) {
+// `broken` is the line of the entry that breaks a rule on content.
+function linesWith(lines, spans, broken) {
   const list = element('ol', { 'aria-label': 'Words' });
   let place = 0;
-  for (const line of lines) {
-    const item = element('li');
+  for (const [number, line] of lines.entries()) {
+    const item = element('li', { class: number === broken && 'reason' });
     item.append(/^ */.exec(line)[0]);
     line.trim().split(' ').forEach((_, index) => item.append(...(index ? [' '] : []), spans[place++]));
     list.append(item);
   }
   return list;
+}
+
+// An octet. What it is read as is its name to a screen reader.
+function octetSpan(octet, index, names) {
+  const digits = hexText([octet]), title = names.join(', ');
+  return element('span', { role: 'img', tabindex: index === 0 ? '0' : '-1', title, 'aria-label': title ? `${digits} ${title}` : digits }, digits);
 }
 
 // The element of a message of a log.
@@ -55,14 +62,12 @@ export function detailOf(log, place, textOf) {
   const isMessage = !log.isFaulty[place];
   const fields = isMessage ? fieldsOf(octets, lines, textOf) : Array.from(octets, () => []);
   const wordSpans = all.map((it) => element('span', {}, it.word));
-  const octetSpans = Array.from(octets, (octet, index) => element('span', {
-    tabindex: index === 0 ? '0' : '-1',
-    title: fields[index].map((field) => nameOf(all, field)).join(', '),
-  }, hexText([octet])));
+  const octetSpans = Array.from(octets, (octet, index) => octetSpan(octet, index, fields[index].map((field) => nameOf(all, field))));
   if (isMessage) new Fields(octetSpans, wordSpans, fields);
   const grid = element('div', { class: 'grid', role: 'group', 'aria-label': 'Octets', onkeydown: (event) => step(event, octetSpans) },
     ...octetSpans.flatMap((it) => [it, '\u200b']));
-  return element('div', {}, head, way, reason, linesWith(lines, wordSpans), grid);
+  const content = log.contents.get(place);
+  return element('div', {}, head, way, reason, linesWith(lines, wordSpans, content ? content.entry + 1 : -1), grid);
 }
 
 // The keys left and right go from octet to octet.

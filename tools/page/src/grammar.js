@@ -84,7 +84,7 @@ export function inPieces(patterns, text) {
 export function inMarks(patterns, text) {
   if (text.length > LONGEST_LINE) return [];
   return delimited(patterns, text).map(({ start, octets }) => ({ ...START, ...headOf(patterns, text.slice(0, start)),
-    notation: 'marks', octets, shape: 'text, marks' }));
+    notation: 'marks', octets, start, shape: 'text, marks' }));
 }
 
 function headOf(patterns, text) {

@@ -1,11 +1,15 @@
 // The view Inputs: the record of the log that is open as waveforms, moved by wheel, keys and touch.
 
 import { counted, element, say } from './dom.js';
+import { saveText } from './messages.js';
+import { contentLine, recordLines } from './record.js';
 import { Waves } from './waves.js';
 
 const HELP = 'Wheel or + and − zoom, dragging or ← → move, ↑ ↓ choose an input, . and , its next and last transition, Enter goes to its message, 0 shows all.';
+const MOST_SHOWN = 2000;
 const LEGEND = [['×', 'warn', 'a poll without an answer'], ['↷', 'bad', 'a block that the CPU left out'],
-  ['▨', 'bad', 'a gap mark: entries are missing']];
+  ['▨', 'bad', 'a gap mark: entries are missing'],
+  ['◆', 'bad', 'an entry that breaks a rule on content']];
 
 export class InputsView {
   // `goTo(place)` shows a message.
@@ -13,24 +17,40 @@ export class InputsView {
     this.goTo = goTo;
     this.note = element('p', { id: 'record-note' }, 'No log is open. Open one, or an example.');
     this.reading = element('p', { class: 'mono', id: 'reading', role: 'status' });
-    this.canvas = element('canvas', { class: 'waves', id: 'waves', tabindex: '0', role: 'img', 'aria-label': 'Waveforms',
+    this.canvas = element('canvas', { class: 'waves', id: 'waves', tabindex: '0', role: 'application', 'aria-label': 'Waveforms',
       'aria-describedby': 'waves-help' });
     this.head = element('canvas', { class: 'axis', role: 'presentation' });
     this.waves = new Waves(this.head, this.canvas);
     this.buttons = element('div', { class: 'row controls' },
       this.button('Zoom in', () => this.waves.zoom(0.5)), this.button('Zoom out', () => this.waves.zoom(2)),
       this.button('◀ Back', () => this.waves.pan(-0.4)), this.button('On ▶', () => this.waves.pan(0.4)),
-      this.button('All', () => this.waves.fit()));
+      this.button('All', () => this.waves.fit()), this.range = element('span', { class: 'soft mono', id: 'range' }));
+    this.text = element('pre', { class: 'report', id: 'record-text', tabindex: '0', role: 'group', 'aria-label': 'The record as text' });
+    this.shown = element('details', { class: 'record', ontoggle: () => this.drawText() },
+      element('summary', { id: 'show-record' }, 'The record as text'), this.text,
+      element('button', { id: 'save-record', onclick: () => saveText(this.log.name + '.record', this.recordText()) }, 'Save the record'));
     root.append(this.note, this.buttons, this.reading, element('div', { class: 'wave-box' }, this.head, this.canvas),
       element('p', { class: 'soft' }, ...LEGEND.flatMap(([sign, kind, words]) =>
         [element('span', { class: kind }, sign), ` ${words}   `])),
-      element('p', { class: 'soft', id: 'waves-help' }, HELP));
+      element('p', { class: 'soft', id: 'waves-help' }, HELP), this.shown);
     this.listen();
     this.setHidden(true);
+    this.shown.hidden = true;
   }
 
   button(words, act) {
     return element('button', { onclick: () => { act(); this.draw(); } }, words);
+  }
+
+  // What `fio2070 record` writes of the log.
+  recordText() {
+    return recordLines(this.log).map((line) => line + '\n').join('');
+  }
+
+  drawText() {
+    if (!this.shown.open) return;
+    const lines = recordLines(this.log), more = lines.length - MOST_SHOWN;
+    this.text.textContent = lines.slice(0, MOST_SHOWN).join('\n') + (more > 0 ? `\n… and ${counted(more, 'line')} more` : '') + '\n';
   }
 
   setHidden(isHidden) {
@@ -45,14 +65,25 @@ export class InputsView {
       : `The record of a CPU that heard this log, by the proved poller: `
         + [counted(record.times.length, 'transition'), counted(this.waves.lanes.length, 'input'),
           counted(record.gaps.length, 'gap mark'), counted(record.lostPolls.length, 'unanswered poll')].join(', ')
-        + `. Times are milliseconds of the module’s counter.`;
+        + `. Times are milliseconds of the module’s counter.` + this.brokenWords();
     this.canvas.setAttribute('aria-label', 'Waveforms of ' + this.note.textContent);
     this.reading.textContent = '';
+    this.shown.hidden = !log.isJudged;
+    this.shown.open = false;
+    this.text.textContent = '';
     this.draw();
   }
 
+  // How many entries break a rule on content, and the first.
+  brokenWords() {
+    const { contents } = this.log, first = contents.keys().next();
+    return first.done ? '' : ` Blocks with an entry that breaks a rule on content: ${contents.size}; the first: ${contentLine(this.log, first.value)}.`;
+  }
+
   draw() {
-    if (this.log && this.canvas.clientWidth > 0) this.waves.draw();
+    if (!this.log || this.canvas.clientWidth === 0) return;
+    this.waves.draw();
+    this.range.textContent = `${Math.round(this.waves.from)} to ${Math.round(this.waves.to)} ms`;
   }
 
   listen() {
@@ -110,9 +141,10 @@ export class InputsView {
     const time = lane.times[found.index];
     if (time < waves.from || time > waves.to) waves.pan((time - (waves.from + waves.to) / 2) / (waves.to - waves.from));
     const place = this.log.record.places[lane.indexes[found.index]];
-    this.reading.replaceChildren(`input ${lane.input} state ${lane.states[found.index]} at ${time} ms `,
+    const broken = this.log.record.broken.includes(lane.indexes[found.index]) ? `breaks ${this.log.reason(place).split(':')[0]} ` : '';
+    this.reading.replaceChildren(`input ${lane.input} state ${lane.states[found.index]} at ${time} ms ${broken}`,
       element('button', { id: 'to-message', onclick: () => this.goTo(place) }, `Line ${this.log.lines[place]}`));
-    say(`input ${lane.input} becomes ${lane.states[found.index]} at ${time} milliseconds`);
+    say(`input ${lane.input} becomes ${lane.states[found.index]} at ${time} milliseconds ${broken}`);
     this.draw();
   }
 

@@ -23,6 +23,11 @@ export class Judge {
     return octets.length > 1 && !this.loose.has(octets[0]);
   }
 
+  // Whether octets are of a type whose messages have any length: a cut is not seen.
+  isLoose(octets) {
+    return octets.length > 0 && this.loose.has(octets[0]);
+  }
+
   // How many octets a message still needs; 0 where that cannot be said.
   missing(octets) {
     const { fault } = this.decode(octets);

@@ -4,16 +4,17 @@
 // A message is given by its address and length in the machine's memory: `place` puts octets there.
 
 const FAULTS = { none: 0, unknownType: 3 };
-const SET_OUTPUTS = 55;
-export const POLL = 54, BLOCK = POLL + 128;
+export const LOAD = 50, POLL = 54, BLOCK = POLL + 128;
 export const HEARD = { taken: 0, unreadable: 1, other: 2, stale: 3, noRoom: 4 };
 export const STATUS_BITS = { more: 8, lost: 4, again: 2, outOfSequence: 1 };
 
-const MOST_FRAME = 773, MOST_ENTRIES = 255, MOST_RECORD_ITEMS = 256, MOST_FAULT_TEXT = 65;
-const SIZE = { result: 32, message: 32, element: 4, recordItem: 12, module: 4112, checker: 4096, text: 32768 };
+const MOST_FRAME = 773, MOST_RECORD_ITEMS = 256, MOST_FAULT_TEXT = 65;
+const SIZE = { result: 32, message: 32, element: 4, recordItem: 12, module: 4112, checker: 4096, content: 1168, text: 32768 };
 
 // The rules of `check`, by their numbers in a breach.
 export const RULES = ['', 'readable', 'pair', 'number', 'advance', 'same', 'sequence', 'limits', 'rest', 'refusal'];
+// The rules on content, likewise.
+export const CONTENT_RULES = ['', 'order', 'alternate', 'apart'];
 
 export class Library {
   constructor(machine) {
@@ -55,24 +56,14 @@ export class Library {
   }
 
   command() {
-    const { data, all } = this.machine, at = this.message;
-    return {
-      fault: null, isAnswer: false,
-      code: all[at], clear: all[at + 1], block: all[at + 2], timeout: all[at + 3], count: all[at + 4],
-      body: data.getUint16(at + 6, true), load: data.getUint32(at + 8, true),
-      levels: all[at] === SET_OUTPUTS ? all.slice(at + 12, at + 20) : null,
-      controls: all[at] === SET_OUTPUTS ? all.slice(at + 20, at + 28) : null,
-    };
+    const { all } = this.machine, at = this.message;
+    return { fault: null, isAnswer: false, code: all[at], block: all[at + 2] };
   }
 
   answer() {
     const { data, all } = this.machine, at = this.message;
-    return {
-      fault: null, isAnswer: true,
-      code: all[at], flags: all[at + 1], receiveErrors: all[at + 2], transmitErrors: all[at + 3], status: all[at + 4],
-      block: all[at + 5], count: all[at + 6], body: data.getUint16(at + 10, true), stamp: data.getUint32(at + 12, true),
-      inputs: data.getBigUint64(at + 16, true),
-    };
+    return { fault: null, isAnswer: true, code: all[at], status: all[at + 4], block: all[at + 5], count: all[at + 6],
+      stamp: data.getUint32(at + 12, true) };
   }
 
   faultText(fault) {
@@ -85,23 +76,6 @@ export class Library {
     return this.decoder.decode(this.machine.octets(this.text, length));
   }
 
-  // The items of a configuration.
-  items(address, length) {
-    return this.listOf('fio2070_command_items', address, length,
-      ({ all }, at) => ({ input: all[at], ignore: all[at + 1], leading: all[at + 2], trailing: all[at + 3] }));
-  }
-
-  // The entries of a block answer.
-  entries(address, length) {
-    return this.listOf('fio2070_block_entries', address, length,
-      ({ all, data }, at) => ({ input: all[at], state: all[at + 1], stamp: data.getUint16(at + 2, true) }));
-  }
-
-  listOf(call, address, length, element) {
-    const count = Number(this.calls[call](BigInt(address), BigInt(length), BigInt(this.elements), BigInt(MOST_ENTRIES)));
-    return Array.from({ length: count }, (_, place) => element(this.machine, this.elements + place * SIZE.element));
-  }
-
   // The octets of a configuration with these items.
   encodeConfiguration(items) {
     const { all } = this.machine;
@@ -111,13 +85,8 @@ export class Library {
     return this.machine.octets(this.out, length).slice();
   }
 
-  widen(answerStamp, stamp) {
-    return this.calls.fio2070_widen(answerStamp, stamp) >>> 0;
-  }
-
-  // The lines that `show` writes of a message; empty where the library has no such call.
+  // The text that `show` writes of a message, or the words of its fault.
   show(address, length) {
-    if (!this.machine.has('fio2070_show')) return '';
     const size = Number(this.calls.fio2070_show(BigInt(address), BigInt(length), BigInt(this.text), BigInt(SIZE.text)));
     return this.decoder.decode(this.machine.octets(this.text, size));
   }
@@ -133,9 +102,14 @@ export class Library {
     return this.calls.fio2070_module_start(BigInt(address), id, perBlock) === 0 ? new Module(this, address) : null;
   }
 
-  // What judges transcripts, or null where the library has no such call.
+  // What judges transcripts.
   checker() {
-    return this.machine.has('fio2070_checker_start') ? new Checker(this) : null;
+    return new Checker(this);
+  }
+
+  // What judges the entries of transcripts.
+  contentChecker() {
+    return new ContentChecker(this);
   }
 }
 
@@ -249,5 +223,29 @@ class Checker {
     if (rule === 0) return null;
     const [, hasDue, due, got] = library.machine.octets(library.result, 4);
     return { rule, hasDue: hasDue !== 0, due, got };
+  }
+}
+
+class ContentChecker {
+  constructor(library) {
+    this.library = library;
+    this.at = BigInt(library.machine.reserve(SIZE.content));
+  }
+
+  start() {
+    this.library.calls.fio2070_content_start(this.at);
+  }
+
+  sent(address, length) {
+    this.library.calls.fio2070_content_sent(this.at, BigInt(address), BigInt(length));
+  }
+
+  // The first entry of a block that the CPU heard which breaks a rule: the rule's number, its index and its input. Null where
+  // none does.
+  heard(address, length) {
+    const { library } = this;
+    if (library.calls.fio2070_content_heard(this.at, BigInt(address), BigInt(length), BigInt(library.result)) === 0) return null;
+    const [rule, entry, input] = library.machine.octets(library.result, 3);
+    return { rule, entry, input };
   }
 }

@@ -1,7 +1,7 @@
 // A log that is open: its messages in the machine's memory, each decoded and judged once by the proved library, and
 // counts of what was found.
 
-import { BLOCK, POLL, RULES, STATUS_BITS } from './library.js';
+import { BLOCK, CONTENT_RULES, LOAD, POLL, RULES, STATUS_BITS } from './library.js';
 import { DIRECTION } from './messagelist.js';
 import { wordsOf } from './words.js';
 import { recordOf } from './record.js';
@@ -12,7 +12,7 @@ export class Log {
   // `read` is what readLog gives. `end` says where the log was taken: what was sent there is what the CPU sent or heard.
   constructor(library, arena, name, read, end) {
     const { messages } = read;
-    Object.assign(this, { library, name, form: read.form, hasTimes: messages.clocks.some((clock) => clock !== '') });
+    Object.assign(this, { library, name, form: read.form, doubts: read.doubts, hasTimes: messages.clocks.some((clock) => clock !== '') });
     this.hasDirections = messages.directions.some((it) => it !== DIRECTION.none);
     Object.assign(this, { count: messages.count, starts: messages.starts, lengths: messages.lengths, lines: messages.lines,
       times: messages.times, clocks: messages.clocks });
@@ -20,6 +20,7 @@ export class Log {
     this.arena = arena.hold(messages.octets.subarray(0, messages.end));
     this.poller = arena.poller;
     this.checker = arena.checker;
+    this.contentChecker = arena.contentChecker;
     this.codes = new Uint8Array(this.count);
     this.blocks = new Uint8Array(this.count);
     this.status = new Uint8Array(this.count);
@@ -27,6 +28,7 @@ export class Log {
     this.stamps = new Uint32Array(this.count);
     this.isFaulty = new Uint8Array(this.count);
     this.breaches = new Map();
+    this.contents = new Map();
     this.decodeAll();
     this.directions = this.directionsOf(messages.directions);
     this.judgeAll();
@@ -84,26 +86,33 @@ export class Log {
 
   // Whether the rules can be judged: they speak of what a CPU's end sent and heard.
   get isJudged() {
-    return this.end !== ENDS.none && this.checker !== null;
+    return this.end !== ENDS.none;
   }
 
   judgeAll() {
     if (!this.isJudged) return;
-    const { checker } = this;
+    const { checker } = this, contents = new Contents(this);
     checker.start();
     for (let place = 0; place < this.count; place++) {
       if (this.directions[place] === DIRECTION.none) continue;
       const breach = checker.judge(this.directions[place] === DIRECTION.sent, this.address(place), this.lengths[place]);
       if (breach) this.breaches.set(place, breach);
+      contents.judge(place, breach !== null);
     }
   }
 
   // Why a message breaks a rule, in words; empty where it breaks none.
   reason(place) {
-    const breach = this.breaches.get(place);
+    const breach = this.breaches.get(place), content = this.contents.get(place);
+    if (content) return `${CONTENT_RULES[content.rule]}: input ${content.input}`;
     if (!breach) return '';
     const due = breach.hasDue ? `: ${breach.due} was due, ${breach.got} came` : '';
     return RULES[breach.rule] + due;
+  }
+
+  // Whether a message breaks a rule, of either kind.
+  isBroken(place) {
+    return this.breaches.has(place) || this.contents.has(place);
   }
 
   // What `check` says of the log, where it can be judged.
@@ -129,6 +138,42 @@ export class Log {
   }
 }
 
+// Judges the entries by the rules on content, where the nine rules are kept: below a breach from the next poll on. A load of
+// the counter that was sent above still counts then.
+class Contents {
+  constructor(log) {
+    Object.assign(this, { log, checker: log.contentChecker, isOpen: true, load: -1 });
+    this.checker.start();
+  }
+
+  judge(place, isBroken) {
+    const { log } = this;
+    if (isBroken) this.isOpen = false;
+    else if (log.directions[place] === DIRECTION.sent) this.send(place);
+    else if (this.isOpen) this.hear(place);
+  }
+
+  send(place) {
+    const { log } = this;
+    if (!this.isOpen && log.codes[place] === POLL) {
+      this.checker.start();
+      if (this.load >= 0) this.take(this.load);
+      this.isOpen = true;
+    }
+    if (log.codes[place] === LOAD) this.load = place;
+    if (this.isOpen) this.take(place);
+  }
+
+  take(place) {
+    this.checker.sent(this.log.address(place), this.log.lengths[place]);
+  }
+
+  hear(place) {
+    const { log } = this, found = this.checker.heard(log.address(place), log.lengths[place]);
+    if (found) log.contents.set(place, found);
+  }
+}
+
 function summaryOf(log) {
   const counts = { messages: log.count, faults: 0, polls: 0, unanswered: 0, blocks: 0, entries: 0, repeats: 0, gaps: 0 };
   for (let place = 0; place < log.count; place++) {
@@ -145,5 +190,5 @@ function summaryOf(log) {
       counts.gaps += log.status[place] & STATUS_BITS.lost ? 1 : 0;
     }
   }
-  return { ...counts, breaches: log.breaches.size };
+  return { ...counts, breaches: log.breaches.size, contents: log.contents.size };
 }

@@ -39,10 +39,6 @@ class Machine {
   octets(address, size) {
     return this.all.subarray(address, address + size);
   }
-
-  has(name) {
-    return name in this.exports;
-  }
 }
 
 // Starts the first build that this browser can run; an Error says why none could.

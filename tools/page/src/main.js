@@ -18,7 +18,8 @@ import { wordsOf } from './words.js';
 // What the log that is open needs in the machine's memory: its octets, and a poller.
 class Arena {
   constructor(library) {
-    Object.assign(this, { machine: library.machine, address: 0, size: 0, poller: library.poller(0), checker: library.checker() });
+    Object.assign(this, { machine: library.machine, address: 0, size: 0, poller: library.poller(0), checker: library.checker(),
+      contentChecker: library.contentChecker() });
   }
 
   hold(octets) {
@@ -41,6 +42,13 @@ function useTheme() {
   const set = (isDark) => { document.documentElement.dataset.theme = isDark ? 'dark' : 'light'; };
   set(dark.matches);
   dark.addEventListener('change', () => set(dark.matches));
+  // Paper is light.
+  let before = '';
+  window.addEventListener('beforeprint', () => {
+    before = document.documentElement.dataset.theme;
+    set(false);
+  });
+  window.addEventListener('afterprint', () => set(before === 'dark'));
   byId('theme').addEventListener('click', () => set(document.documentElement.dataset.theme !== 'dark'));
 }
 
@@ -73,18 +81,20 @@ async function start() {
   window.addEventListener('error', (event) => trouble(event.message));
   window.addEventListener('unhandledrejection', (event) => trouble(event.reason.message));
   const bits = new URLSearchParams(location.search).get('bits');
-  let machine;
+  let library;
   try {
-    machine = await startMachine(BUILDS.filter((build) => bits === null || build.bits === Number(bits)));
+    library = new Library(await startMachine(BUILDS.filter((build) => bits === null || build.bits === Number(bits))));
+    // Some browsers run the library, and pass it no numbers of 64 bits.
+    library.show(library.frame, 0);
   } catch (reason) {
     byId('trouble').append(` (${reason.message})`);
     return;
   }
-  if (machine.build.bits === 32) byId('lowered').textContent = ', wasm-opt, which lowered it to 32-bit addresses,';
+  const { build } = library.machine;
+  if (build.bits === 32) byId('lowered').textContent = ', wasm-opt, which lowered it to 32-bit addresses,';
   trouble('');
-  startViews(new Library(machine));
-  document.documentElement.dataset.bits = String(machine.build.bits);
-  document.documentElement.dataset.rules = String(machine.has('fio2070_checker_start'));
+  startViews(library);
+  document.documentElement.dataset.bits = String(build.bits);
 }
 
 start();

@@ -21,6 +21,7 @@ const FACTS = [
   ['gaps', 'gap mark', (log, place) => hasBit(log, place, STATUS_BITS.lost), 'bad'],
   ['faults', 'faulty line', (log, place) => log.isFaulty[place] === 1, 'bad'],
   ['breaches', 'breach', (log, place) => log.breaches.has(place), 'bad'],
+  ['contents', 'content breach', (log, place) => log.contents.has(place), 'bad'],
 ];
 
 const pluralOf = (noun) => noun.endsWith('y') ? noun.slice(0, -1) + 'ies' : noun.endsWith('h') ? noun + 'es' : noun + 's';
@@ -47,8 +48,8 @@ export class MessagesView {
   }
 
   columns() {
-    return [{ head: 'Line', width: '4.5rem', kind: 'number' }, { head: 'Time', width: 'var(--time)', kind: 'time' },
-      { head: 'Direction', width: '5.2rem', kind: 'way' }, { head: 'Message', width: 'minmax(21rem, 1.6fr)', kind: 'words' },
+    return [{ head: 'Line', width: '3.6rem', kind: 'number' }, { head: 'Time', width: 'var(--time)', kind: 'time' },
+      { head: 'Direction', width: '5.2rem', kind: 'way' }, { head: 'Message', width: 'minmax(18rem, 1.6fr)', kind: 'words' },
       { head: 'Rule', width: 'var(--rule)', kind: 'rule' }, { head: 'Octets', width: 'var(--octets)', kind: 'octets' }];
   }
 
@@ -62,18 +63,17 @@ export class MessagesView {
     this.search.value = this.way.value = '';
     this.filter = { fact: 'messages', way: '', text: '' };
     this.table.root.classList.toggle('has-times', log.hasTimes);
-    this.table.root.classList.toggle('has-rules', log.breaches.size > 0);
+    this.table.root.classList.toggle('has-rules', log.breaches.size + log.contents.size > 0);
     this.drawFacts();
     this.note.textContent = this.noteOf(log);
     this.narrow({});
   }
 
   noteOf(log) {
-    const judged = log.isJudged ? ''
-      : log.end === 'none' ? ' The rules are not judged: this log does not say what the CPU sent and heard.'
-        : ' The rules are not judged: the library of this page has no checker.';
+    const judged = log.isJudged ? '' : ' The rules are not judged: this log does not say what the CPU sent and heard.';
     const reversed = log.looksReversed ? ' Most directions are those of the other end: was it taken at the module?' : '';
-    return `${log.name}, read as ${log.form}.${judged}${reversed}`;
+    const doubts = log.doubts.map((words) => ` ${words[0].toUpperCase()}${words.slice(1)}.`).join('');
+    return `${log.name}, read as ${log.form}.${judged}${reversed}${doubts}`;
   }
 
   drawFacts() {
@@ -139,7 +139,7 @@ export class MessagesView {
     const { log } = this;
     const kinds = [];
     if (log.directions[place] === DIRECTION.sent) kinds.push('sent');
-    if (log.breaches.has(place)) kinds.push('broken');
+    if (log.isBroken(place)) kinds.push('broken');
     else if (log.isFaulty[place]) kinds.push('faulty');
     else if (hasBit(log, place, STATUS_BITS.lost)) kinds.push('marked');
     return kinds;

@@ -10,6 +10,8 @@ const QUOTED = /(\b(?:b|rb|br|u8))?(["'])((?:[^"'\\]|\\.|(?!\2)["'])*)\2/g;
 const LISTED = /\{([^{}]*)\}|\[([^[\]]*)\]|\(([^()]*)\)/g;
 const COMMENT = /\/\*.*?\*\/|\/\/.*$/g;
 const ESCAPE = /\\(?:x([0-9a-fA-F]{1,2})|([0-7]{1,3})|([^]))/g;
+// Python writes two digits behind each \x.
+const HALF_ESCAPE = /(?:^|[^\\])(?:\\\\)*\\x(?![0-9a-fA-F]{2})/;
 const ESCAPED = { n: '\n', r: '\r', t: '\t', a: '\x07', b: '\b', f: '\f', v: '\v', e: '\x1b' };
 const NUMBERS = /^(?:\(\w+\)\s*)?(?:0x[0-9a-f]{1,2}u?|\d{1,3})(?:[\s,;]+(?:\(\w+\)\s*)?(?:0x[0-9a-f]{1,2}u?|\d{1,3}))*$/i;
 
@@ -118,7 +120,7 @@ export function delimited(patterns, text) {
   const add = (start, octets) => octets && octets.length > 0 && found.push({ start, octets });
   for (const { index, 1: prefix, 3: quoted } of firstMatches(text, QUOTED)) {
     if (!prefix && patterns.wholeList.test(quoted.trim()) && !quoted.includes('\\')) add(index, fromDigits(quoted));
-    add(index, fromLiteral(quoted));
+    if (!prefix || !HALF_ESCAPE.test(quoted)) add(index, fromLiteral(quoted));
   }
   for (const { index, 1: braces, 2: brackets, 3: rounds } of firstMatches(text, LISTED)) {
     // Brackets behind a name have the length of an array.

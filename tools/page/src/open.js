@@ -24,7 +24,7 @@ export class OpenView {
 
   dropZone() {
     const file = element('input', { type: 'file', id: 'file', class: 'unseen', tabindex: '-1', 'aria-label': 'A log as a file',
-      onchange: () => this.read(file.files[0]) });
+      onchange: () => this.chosen(file) });
     const ends = select('Where the log was taken',
       [[ENDS.cpu, 'at the CPU'], [ENDS.module, 'at the module'], [ENDS.none, 'elsewhere on the bus']], (end) => { this.end = end; });
     ends.id = 'end';
@@ -62,6 +62,13 @@ export class OpenView {
     event.preventDefault();
     this.zone.classList.remove('over');
     this.read(event.dataTransfer.files[0]);
+  }
+
+  // The control forgets the file, so that it can be chosen again once it has grown.
+  chosen(control) {
+    const [file] = control.files;
+    control.value = '';
+    return this.read(file);
   }
 
   async read(file) {

@@ -31,7 +31,7 @@ export class PlanView {
     element('div', { class: 'scrolled' },
       element('table', { class: 'answers' }, element('thead', {}, headRow(HEADS)), element('tbody', {}, this.row))),
     element('p', { class: 'soft' }, 'A scan comes once a millisecond. A clean round is a poll that reaches the module and its answer '
-      + 'that reaches the CPU before the CPU polls again, with nothing but scans between. The numbers hold from a time on at which '
+      + 'that reaches the CPU before the CPU polls again. The numbers hold from a time on at which '
       + 'the CPU has taken every block and nothing waits, until the next configuration, load of the counter or restart. '
       + 'The clauses are proved; these formulas restate docs/PLANNING.md.'));
     this.draw();

@@ -28,7 +28,7 @@ export function planOf({ inputs, filter, pace, lost, waiting, outage }) {
     isInTime: apart <= longest,
     startEvery: down(longest, lost + 1),
     waits: mostWait(inputs, filter, apart, rounds),
-    late: lost > 0 ? rounds + filter - 2 : latest(inputs, filter, apart, rounds),
+    late: latest(inputs, filter, apart, rounds),
     longestOutage: filter * down(waiting, inputs),
     hasRoom: inputs * (filter + longest - 1) <= waiting * filter,
     after,
@@ -42,7 +42,7 @@ export function rowOf(inputs, filter) {
   const pace = longestPace(inputs, filter);
   const with1024 = planOf({ inputs, filter, pace, lost: 0, waiting: 1024, outage: 0 });
   const with8192 = planOf({ inputs, filter, pace, lost: 0, waiting: 8192, outage: 0 });
-  const lostAnswers = { waits: mostWait(inputs, filter, pace, 2 * pace), late: 2 * pace + filter - 2 };
+  const lostAnswers = { waits: mostWait(inputs, filter, pace, 2 * pace), late: latest(inputs, filter, pace, 2 * pace) };
   return [inputs, filter, pace, with1024.waits, with1024.late, lostAnswers.waits, lostAnswers.late,
     with1024.longestOutage, with8192.longestOutage];
 }

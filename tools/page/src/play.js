@@ -28,9 +28,9 @@ export class PlayView {
     this.toModule = element('ol', { id: 'to-module', 'aria-label': 'Frames to the module' });
     this.toCpu = element('ol', { id: 'to-cpu', 'aria-label': 'Frames to the CPU' });
     this.ends = element('tbody');
-    this.record = element('pre', { class: 'report', id: 'play-record', tabindex: '0', 'aria-label': 'The record of the CPU' });
+    this.record = element('pre', { class: 'report', id: 'play-record', tabindex: '0', role: 'group', 'aria-label': 'The record of the CPU' });
     this.script = element('textarea', { id: 'script', spellcheck: 'false', 'aria-label': 'The script' });
-    this.report = element('pre', { class: 'report', id: 'report', tabindex: '0', 'aria-label': 'The report' });
+    this.report = element('pre', { class: 'report', id: 'report', tabindex: '0', role: 'group', 'aria-label': 'The report' });
     this.trouble = element('p', { class: 'bad', role: 'alert', id: 'script-trouble' });
     root.append(element('div', { class: 'play' }, this.inputSide(), this.busSide(), this.scriptSide(examples)));
     this.begin(headerOf(FIRST), ['send ' + configuration(library, FILTER), 'to-module 1', 'to-cpu 1']);

@@ -1,6 +1,7 @@
 // Reads a log: each line is a frame in one of the forms of the table, or is passed over. A line is taken as a frame only
 // where the proved library finds a message in it; where several readings have one, the form of most lines decides.
 
+import { Doubts } from './doubts.js';
 import { headingOf, inMarks, inPieces } from './grammar.js';
 import { fromHex } from './hex.js';
 import { arrayAt, dumpAt, wrapAt } from './joins.js';
@@ -34,8 +35,9 @@ export function readLog(text, patterns, judge) {
   if (lines[lines.length - 1] === '') lines.pop();
   const list = new MessageList(lines.length, text.length);
   const own = ownForm(lines);
-  const form = own ? readOwn(lines, own, list) : new Reader(lines, patterns, judge, list).read();
-  return { form, isOwn: own !== null, messages: list };
+  const doubts = new Doubts(judge);
+  const form = own ? readOwn(lines, own, list) : new Reader(lines, patterns, judge, list, doubts).read();
+  return { form, isOwn: own !== null, messages: list, doubts: doubts.words() };
 }
 
 function ownForm(lines) {
@@ -57,8 +59,8 @@ function readOwn(lines, [form, pattern], list) {
 
 // Reads the logs of other tools.
 class Reader {
-  constructor(lines, patterns, judge, list) {
-    Object.assign(this, { lines, patterns, judge, list, shapes: new Map(), heads: new Map(), above: null, passed: 0, table: null,
+  constructor(lines, patterns, judge, list, doubts) {
+    Object.assign(this, { lines, patterns, judge, list, doubts, shapes: new Map(), taken: new Set(), heads: new Map(), above: null, passed: 0, table: null,
       row: null, pauses: new Pauses(), noise: new Set() });
   }
 
@@ -122,7 +124,7 @@ class Reader {
       || readings.map((it) => wrapAt(this.lines, place, it, this.patterns, this.judge)).find((it) => it);
     if (more && this.decide(place, text, [more.reading])) return more.lines;
     const array = readings.length === 0 ? arrayAt(this.lines, place) : null;
-    if (array && this.decide(place, text, inMarks(this.patterns, array.text), true)) return array.lines;
+    if (array && this.decide(place, array.text, inMarks(this.patterns, array.text), true)) return array.lines;
     if (this.decide(place, text, readings) || this.decide(place, text, inMarks(this.patterns, text))) return 1;
     if (readings.length === 0 && this.noise.size < MOST_NOISE) this.noise.add(noise);
     this.pass(place, text, readings);
@@ -138,14 +140,30 @@ class Reader {
     const chosen = messages.size === 1 ? fits : known.filter((fit) => this.shapes.get(fit.reading.shape) === most);
     if (new Set(chosen.map((fit) => String(fit.message))).size !== 1) return false;
     if (known.length === 0 && !isMarked && !chosen.some((fit) => this.isStrong(fit))) return false;
-    this.take(place, text, chosen.reduce((best, fit) => knowledge(fit) > knowledge(best) ? fit : best));
+    const reason = this.doubt(place, text, chosen);
+    if (reason === '') this.take(place, text, chosen.reduce((best, fit) => knowledge(fit) > knowledge(best) ? fit : best));
+    else this.refuse(place, reason);
     return true;
+  }
+
+  // What speaks against a frame that is chosen.
+  doubt(place, text, chosen) {
+    const [{ reading }] = chosen;
+    if (reading.isRow) return this.doubts.inRows(chosen[0].message, reading.direction, reading.isUneven);
+    return this.doubts.reason(place + 1, text, chosen.map((fit) => fit.reading), reading.octets,
+      chosen.some((fit) => this.taken.has(fit.reading.shape)));
+  }
+
+  refuse(place, reason) {
+    this.doubts.refuse(place + 1, reason);
+    this.list.addBad(place + 1);
   }
 
   take(place, text, { reading, message }) {
     const above = this.above || { time: null, direction: '' };
     this.above = null;
     this.know(reading.shape);
+    this.taken.add(reading.shape);
     this.list.begin(place + 1, reading.direction || above.direction, reading.time ?? above.time, withoutDate(reading.clock) || clockOf(reading.time ?? above.time));
     this.list.put(message);
     if (message === reading.octets) this.remember(text, reading);
@@ -173,6 +191,7 @@ class Reader {
       this.list.begin(place + 1, known.direction, found ? secondsOf(found.groups) : null, found ? withoutDate(found[0]) : '');
       this.list.put(octets);
       this.know(known.shape);
+      this.doubts.quick(octets, known);
       return true;
     }
     return false;
@@ -215,8 +234,8 @@ class Reader {
   octet(place, reading) {
     const isPause = this.pauses.isOne(reading.time);
     if (this.row && (isPause || reading.channel !== this.row.channel)) this.endRow();
-    this.row = this.row || { ...reading, place, octets: [], shape: 'an octet a row' };
-    this.row.octets.push(reading.octets[0]);
+    this.row = this.row || { ...reading, place, octets: [], shape: 'an octet a row', isRow: true, isUneven: false };
+    if (this.row.octets.push(reading.octets[0]) > 1) this.row.isUneven = this.row.isUneven || this.pauses.isLong;
   }
 
   endRow() {

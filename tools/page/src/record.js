@@ -1,7 +1,8 @@
 // The record that the CPU of a log has, by the proved poller: transitions in order, and gap marks where the module said
 // that entries are missing. Times go on from one another, where the counter wraps, is loaded or starts anew.
 
-import { BLOCK, HEARD, POLL } from './library.js';
+import { BLOCK, CONTENT_RULES, HEARD, POLL } from './library.js';
+import { itemText } from './script.js';
 
 const WRAP = 2 ** 32;
 
@@ -12,6 +13,8 @@ class Record {
     this.inputs = [];
     this.states = [];
     this.places = [];
+    // The indexes of the transitions that break a rule on content.
+    this.broken = [];
     // Stretches with entries missing, the blocks taken, polls without an answer, and polls that left a block out.
     this.gaps = [];
     this.blocks = [];
@@ -70,7 +73,10 @@ export function recordOf(log) {
     isStarted = true;
     if (code === BLOCK) {
       const heard = poller.hear(log.address(place), log.lengths[place]);
-      if (heard.kind === HEARD.taken) record.add(poller, heard, place, log.stamps[place]);
+      if (heard.kind !== HEARD.taken) continue;
+      const content = log.contents.get(place);
+      if (content) record.broken.push(record.times.length + content.entry);
+      record.add(poller, heard, place, log.stamps[place]);
       continue;
     }
     if (log.isUnanswered(place)) record.lostPolls.push(mark(record, place));
@@ -80,4 +86,29 @@ export function recordOf(log) {
     poller.number = log.blocks[place];
   }
   return record;
+}
+
+// The lines that `fio2070 record` writes of a log: the record, to the first entry that breaks a rule on content, where the
+// log keeps the nine rules, else the line of `check`. Null where the rules are not judged.
+export function recordLines(log) {
+  if (!log.isJudged) return null;
+  if (!log.verdict.startsWith('good ')) return [log.verdict];
+  const { poller } = log, lines = [];
+  const first = log.codes.indexOf(POLL);
+  if (first >= 0) poller.number = log.blocks[first];
+  for (let place = first + 1; first >= 0 && place < log.count; place++) {
+    if (log.codes[place] !== BLOCK) continue;
+    const heard = poller.hear(log.address(place), log.lengths[place]), content = log.contents.get(place);
+    const items = Array.from({ length: heard.items }, (_, index) => itemText(poller.recordItem(index)));
+    // Entries are the last items of a block; a gap mark stands above them.
+    lines.push(...items.slice(0, content ? heard.items - heard.entries + content.entry : heard.items));
+    if (content) return [`record ${lines.length}`, ...lines, contentLine(log, place)];
+  }
+  return [`record ${lines.length}`, ...lines];
+}
+
+// What `fio2070 record` says of an entry that breaks a rule.
+export function contentLine(log, place) {
+  const { rule, input } = log.contents.get(place);
+  return `line ${log.lines[place]} input ${input} breaks ${CONTENT_RULES[rule]}`;
 }

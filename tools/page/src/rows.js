@@ -6,6 +6,8 @@ import { timeIn } from './times.js';
 const DELIMITERS = ['\t', ';', ',', '|'];
 // How much longer than the shortest step between two octets a pause is that ends a frame.
 const PAUSE = 2.5;
+// How much longer a step is in which a row may be missing.
+const LONG = 1.5;
 
 const reading = (shape, octets, time, direction) => ({ prefix: [], notation: 'cell', shape, octets, time, clock: '', direction, offset: null,
   count: null, head: null });
@@ -114,14 +116,18 @@ export function inObject(patterns, text) {
 export class Pauses {
   constructor() {
     this.last = this.shortest = null;
+    // Whether the last step was long, and no pause.
+    this.isLong = false;
   }
 
   // Whether there was a pause before this octet.
   isOne(time) {
     const step = time === null || this.last === null ? 0 : time - this.last;
     this.last = time;
+    this.isLong = false;
     if (step <= 0) return false;
     const isPause = this.shortest !== null && step > PAUSE * this.shortest;
+    this.isLong = this.shortest !== null && !isPause && step > LONG * this.shortest;
     if (!isPause) this.shortest = this.shortest === null ? step : Math.min(this.shortest, step);
     return isPause;
   }

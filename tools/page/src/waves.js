@@ -45,6 +45,7 @@ export class Waves {
   open(record) {
     this.record = record;
     this.lanes = lanesOf(record);
+    this.rows = new Map(this.lanes.map((lane, row) => [lane.input, row]));
     this.first = Math.min(record.times[0] ?? 0, record.blocks.length ? record.blocks[0].time : 0);
     this.last = record.blocks.length ? record.blocks[record.blocks.length - 1].time : 1;
     this.selected = { lane: 0, index: -1 };
@@ -107,7 +108,19 @@ export class Waves {
     this.drawBlocks(head);
     this.drawSigns(head, this.record.lostPolls, 'warn', '×');
     this.drawSigns(head, this.record.skips, 'bad', '↷');
+    this.drawBroken(paint);
     this.drawSelected(paint);
+  }
+
+  // A sign at each transition that breaks a rule on content.
+  drawBroken(paint) {
+    paint.fillStyle = this.colour('bad');
+    paint.textAlign = 'center';
+    for (const index of this.record.broken) {
+      const x = this.xOf(this.record.times[index]);
+      if (x < LEFT || x > this.width) continue;
+      paint.fillText('◆', x, this.rows.get(this.record.inputs[index]) * LANE + LOW - 1);
+    }
   }
 
   // A canvas of as many pixels as the screen has there, empty.

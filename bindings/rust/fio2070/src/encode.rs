@@ -35,6 +35,31 @@ pub fn configure_inputs<'a>(items: &[ConfigurationItem], out: &'a mut [u8]) -> O
     })
 }
 
+fn length(count: usize) -> Option<usize> {
+    (count != 0).then_some(count)
+}
+
+/// How many octets 51 has with these items; `None` where there is no such message.
+pub fn configure_inputs_length(items: &[ConfigurationItem]) -> Option<usize> {
+    length(unsafe { raw::fio2070_encode_configure_inputs_length(items.as_ptr(), items.len()) })
+}
+
+/// How many octets 56, 57 or 59 has with so many after its type; `None` where there is no such message.
+pub fn other_command_length(code: u8, body: usize) -> Option<usize> {
+    length(unsafe { raw::fio2070_encode_other_command_length(code, body) })
+}
+
+/// How many octets 182 has with these entries; `None` where there is no such message.
+pub fn block_answer_length(entries: &[Entry]) -> Option<usize> {
+    length(unsafe { raw::fio2070_encode_block_answer_length(entries.as_ptr(), entries.len()) })
+}
+
+/// How many octets 183, 184, 185, 187 or 188 has with so many after its type; `None` where there is no such
+/// message.
+pub fn other_answer_length(code: u8, body: usize) -> Option<usize> {
+    length(unsafe { raw::fio2070_encode_other_answer_length(code, body) })
+}
+
 /// 52.
 pub fn raw_inputs(out: &mut [u8]) -> Option<&[u8]> {
     front(out, |out, room| unsafe {

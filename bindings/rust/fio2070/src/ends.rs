@@ -1,8 +1,8 @@
 //! Both ends of the link, and the filters.
 
 use crate::raw::{
-    self, Breach, ConfigurationItem, Fault, Outputs, RawChecker, RawCounter, RawFilters, RawModule,
-    RawPoller, RecordItem,
+    self, Breach, ConfigurationItem, ContentBreach, ErrorCounts, Fault, Outputs, RawChecker,
+    RawContentChecker, RawCounter, RawFilters, RawModule, RawPoller, RecordItem,
 };
 use crate::LONGEST_FRAME;
 
@@ -102,6 +102,36 @@ impl Checker {
         let mut breach = Breach::default();
         let rule = unsafe {
             raw::fio2070_checker_heard(&mut self.0, octets.as_ptr(), octets.len(), &mut breach)
+        };
+        (rule != 0).then_some(breach)
+    }
+}
+
+/// A checker of the rules on content, which judges the entries of each block that a poller takes whose
+/// first number is that of the first poll sent.
+#[derive(Clone)]
+pub struct ContentChecker(RawContentChecker);
+
+impl Default for ContentChecker {
+    fn default() -> ContentChecker {
+        let mut content = RawContentChecker([0; 146]);
+        unsafe { raw::fio2070_content_start(&mut content) };
+        ContentChecker(content)
+    }
+}
+
+impl ContentChecker {
+    /// Takes a frame that the CPU sent.
+    pub fn sent(&mut self, octets: &[u8]) {
+        unsafe { raw::fio2070_content_sent(&mut self.0, octets.as_ptr(), octets.len()) }
+    }
+
+    /// The first entry of a block that breaks a rule, in a frame that the CPU heard. All its entries are
+    /// taken.
+    pub fn heard(&mut self, octets: &[u8]) -> Option<ContentBreach> {
+        let mut breach = ContentBreach::default();
+        let rule = unsafe {
+            raw::fio2070_content_heard(&mut self.0, octets.as_ptr(), octets.len(), &mut breach)
         };
         (rule != 0).then_some(breach)
     }
@@ -221,6 +251,11 @@ impl Module {
         unsafe { raw::fio2070_module_raise(&mut self.0, mask) }
     }
 
+    /// Sets the error counts that the answer 177 has from now on.
+    pub fn set_errors(&mut self, receive: u8, transmit: u8) {
+        unsafe { raw::fio2070_module_set_errors(&mut self.0, receive, transmit) }
+    }
+
     /// The answer to a frame, written to the front of `out`; `None` where there is none.
     pub fn receive<'a>(
         &mut self,
@@ -256,6 +291,21 @@ impl Module {
     /// The filtered states, also of ignored inputs.
     pub fn filtered(&self) -> u64 {
         unsafe { raw::fio2070_module_filtered(&self.0) }
+    }
+
+    /// The levels of the last scan, all 1 before any.
+    pub fn raw(&self) -> u64 {
+        unsafe { raw::fio2070_module_raw(&self.0) }
+    }
+
+    /// The flags that are up.
+    pub fn flags(&self) -> u8 {
+        unsafe { raw::fio2070_module_flags(&self.0) }
+    }
+
+    /// The error counts that the answer 177 has.
+    pub fn errors(&self) -> ErrorCounts {
+        unsafe { raw::fio2070_module_errors(&self.0) }
     }
 
     /// How many entries wait for a poll.

@@ -24,13 +24,17 @@ mod ends;
 mod raw;
 
 pub use encode::{
-    block_answer, configure_inputs, configure_inputs_answer, filtered_inputs,
-    filtered_inputs_answer, identify, load_counter, load_counter_answer, other_answer,
-    other_command, poll, raw_inputs, raw_inputs_answer, set_outputs, status, status_answer,
-    watchdog, watchdog_answer,
+    block_answer, block_answer_length, configure_inputs, configure_inputs_answer,
+    configure_inputs_length, filtered_inputs, filtered_inputs_answer, identify, load_counter,
+    load_counter_answer, other_answer, other_answer_length, other_command, other_command_length,
+    poll, raw_inputs, raw_inputs_answer, set_outputs, status, status_answer, watchdog,
+    watchdog_answer,
 };
-pub use ends::{Checker, Counter, Filters, Heard, Module, Poller};
-pub use raw::{Answer, Breach, Command, ConfigurationItem, Entry, Fault, Outputs, RecordItem};
+pub use ends::{Checker, ContentChecker, Counter, Filters, Heard, Module, Poller};
+pub use raw::{
+    Answer, Breach, Command, ConfigurationItem, ContentBreach, Entry, ErrorCounts, Fault, Outputs,
+    RecordItem,
+};
 
 use core::fmt;
 
@@ -71,7 +75,7 @@ pub fn decode_answer(octets: &[u8]) -> Result<Answer, Fault> {
     read(fault, answer)
 }
 
-/// Copies the entries of a block answer where there is room for all, and returns how many it has.
+/// Copies the entries of a block answer, and returns how many they are: 0 where there is no room for all.
 pub fn block_entries(octets: &[u8], entries: &mut [Entry]) -> usize {
     // SAFETY: both slices are initialised memory of their lengths and do not overlap.
     unsafe {
@@ -84,7 +88,7 @@ pub fn block_entries(octets: &[u8], entries: &mut [Entry]) -> usize {
     }
 }
 
-/// Copies the items of a configuration where there is room for all, and returns how many it has.
+/// Copies the items of a configuration, and returns how many they are: 0 where there is no room for all.
 pub fn command_items(octets: &[u8], items: &mut [ConfigurationItem]) -> usize {
     // SAFETY: both slices are initialised memory of their lengths and do not overlap.
     unsafe {
@@ -97,10 +101,16 @@ pub fn command_items(octets: &[u8], items: &mut [ConfigurationItem]) -> usize {
     }
 }
 
-/// Writes what `fio2070 show` writes of a frame where there is room for all of it, and returns how many octets it has.
+/// Writes what `fio2070 show` writes of a frame, and returns how many octets it has: 0 where there is no room for all.
 pub fn show(octets: &[u8], text: &mut [u8]) -> usize {
     // SAFETY: both slices are initialised memory of their lengths and do not overlap.
     unsafe { raw::fio2070_show(octets.as_ptr(), octets.len(), text.as_mut_ptr(), text.len()) }
+}
+
+/// How many octets `show` writes of a frame.
+pub fn show_length(octets: &[u8]) -> usize {
+    // SAFETY: as in `decode_command`.
+    unsafe { raw::fio2070_show_length(octets.as_ptr(), octets.len()) }
 }
 
 /// The time in milliseconds, modulo 2^32, of an entry with this stamp in an answer with that one.

@@ -107,6 +107,14 @@ pub struct Outputs {
     pub controls: [u8; 8],
 }
 
+/// How many errors the firmware counted.
+#[derive(Clone, Copy, Debug, Default, PartialEq, Eq)]
+#[repr(C)]
+pub struct ErrorCounts {
+    pub receive: u8,
+    pub transmit: u8,
+}
+
 #[derive(Clone)]
 #[repr(C)]
 pub(crate) struct RawCounter {
@@ -129,6 +137,20 @@ pub struct Breach {
 #[derive(Clone)]
 #[repr(C)]
 pub(crate) struct RawChecker(pub [u8; 9]);
+
+/// The first entry of a block that breaks a rule on content: the rule, from 1, the index of the entry in its block, and its
+/// input.
+#[derive(Clone, Copy, Debug, Default, PartialEq, Eq)]
+#[repr(C)]
+pub struct ContentBreach {
+    pub rule: u8,
+    pub entry: u8,
+    pub input: u8,
+}
+
+#[derive(Clone)]
+#[repr(C)]
+pub(crate) struct RawContentChecker(pub [u64; 146]);
 
 #[derive(Clone)]
 #[repr(C)]
@@ -157,6 +179,7 @@ extern "C" {
         text: *mut u8,
         room: usize,
     ) -> usize;
+    pub(crate) fn fio2070_show_length(octets: *const u8, length: usize) -> usize;
     pub(crate) fn fio2070_decode_answer(
         octets: *const u8,
         length: usize,
@@ -177,6 +200,13 @@ extern "C" {
         out: *mut u8,
         room: usize,
     ) -> usize;
+    pub(crate) fn fio2070_encode_configure_inputs_length(
+        items: *const ConfigurationItem,
+        count: usize,
+    ) -> usize;
+    pub(crate) fn fio2070_encode_other_command_length(code: u8, length: usize) -> usize;
+    pub(crate) fn fio2070_encode_other_answer_length(code: u8, length: usize) -> usize;
+    pub(crate) fn fio2070_encode_block_answer_length(entries: *const Entry, count: usize) -> usize;
     pub(crate) fn fio2070_encode_raw_inputs(out: *mut u8, room: usize) -> usize;
     pub(crate) fn fio2070_encode_filtered_inputs(out: *mut u8, room: usize) -> usize;
     pub(crate) fn fio2070_encode_poll(block: u8, out: *mut u8, room: usize) -> usize;
@@ -262,6 +292,18 @@ extern "C" {
         length: usize,
         breach: &mut Breach,
     ) -> u8;
+    pub(crate) fn fio2070_content_start(content: &mut RawContentChecker);
+    pub(crate) fn fio2070_content_sent(
+        content: &mut RawContentChecker,
+        octets: *const u8,
+        length: usize,
+    );
+    pub(crate) fn fio2070_content_heard(
+        content: &mut RawContentChecker,
+        octets: *const u8,
+        length: usize,
+        breach: &mut ContentBreach,
+    ) -> u8;
     pub(crate) fn fio2070_counter_start(counter: &mut RawCounter);
     pub(crate) fn fio2070_counter_tick(counter: &mut RawCounter);
     pub(crate) fn fio2070_counter_ask_load(counter: &mut RawCounter, number: u32);
@@ -287,6 +329,10 @@ extern "C" {
         length: usize,
         out: &mut [u8; 773],
     ) -> usize;
+    pub(crate) fn fio2070_module_set_errors(module: &mut RawModule, receive: u8, transmit: u8);
+    pub(crate) fn fio2070_module_raw(module: &RawModule) -> u64;
+    pub(crate) fn fio2070_module_flags(module: &RawModule) -> u8;
+    pub(crate) fn fio2070_module_errors(module: &RawModule) -> ErrorCounts;
     pub(crate) fn fio2070_module_outputs(module: &RawModule) -> Outputs;
     pub(crate) fn fio2070_module_watchdog_ms(module: &RawModule) -> u8;
     pub(crate) fn fio2070_module_counter(module: &RawModule) -> u32;

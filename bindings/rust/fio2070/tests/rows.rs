@@ -35,11 +35,23 @@ fn commands_are_written_and_read() {
     ];
     let octets = [0x33, 2, 12, 5, 3, 0x83, 0, 0];
     assert_eq!(configure_inputs(&items, &mut out), Some(&octets[..]));
+    assert_eq!(configure_inputs(&items, &mut out[..7]), None);
+    assert_eq!(configure_inputs_length(&items), Some(8));
+    assert_eq!(
+        (other_command_length(56, 0), other_command_length(54, 0)),
+        (Some(1), None)
+    );
+    assert_eq!(
+        (other_answer_length(183, 772), other_answer_length(183, 773)),
+        (Some(773), None)
+    );
+    assert_eq!(block_answer_length(&[Entry::default()]), Some(11));
     let mut read = [ConfigurationItem::default(); MOST_ENTRIES];
     assert_eq!(command_items(&octets, &mut read), 2);
     assert_eq!(read[..2], items);
     let mut text = [b'?'; 16];
-    assert_eq!(show(&[0x36, 5], &mut text[..12]), 13);
+    assert_eq!(show_length(&[0x36, 5]), 13);
+    assert_eq!(show(&[0x36, 5], &mut text[..12]), 0);
     assert_eq!(text[0], b'?');
     assert_eq!(show(&[0x36, 5], &mut text), 13);
     assert_eq!(&text, b"poll block 5\n???");
@@ -124,8 +136,35 @@ fn faults_are_errors() {
         reads(&[0x33]).unwrap_err().to_string(),
         "wrong length needed 2 got 1"
     );
-    assert_eq!(reads(&[0x36, 5]).unwrap().code, constants::POLL);
-    assert_eq!(decode_command(&[]).unwrap_err().kind, constants::EMPTY);
+    assert_eq!(reads(&[0x36, 5]).unwrap().code, constants::TYPE_POLL);
+    assert_eq!(
+        decode_command(&[]).unwrap_err().kind,
+        constants::FAULT_EMPTY
+    );
+}
+
+/// The constants that a text declares: their names, each with its number or with the name that it stands for.
+fn declared(text: &str, before: &str) -> std::collections::BTreeMap<String, String> {
+    text.split(before)
+        .skip(1)
+        .filter_map(|rest| rest.split_once(" = "))
+        .map(|(name, rest)| {
+            let value = rest.split([',', ';', ' ', '\n']).next().unwrap_or("");
+            let name = name.split(':').next().unwrap_or("");
+            (name.to_string(), value.replace('_', ""))
+        })
+        .filter(|(name, _)| !name.contains(|one: char| one != '_' && !one.is_ascii_uppercase()))
+        .collect()
+}
+
+#[test]
+fn constants_are_those_of_the_header() {
+    let header = include_str!("../../../../include/fio2070.h")
+        .replace("= FIO2070_", "= ")
+        .replace("#define FIO2070_VERSION ", "FIO2070_VERSION = ");
+    let ours = declared(include_str!("../src/constants.rs"), "pub const ");
+    assert_eq!(ours, declared(&header, "FIO2070_"));
+    assert!(ours.len() > 80);
 }
 
 #[test]
@@ -194,6 +233,14 @@ fn a_poller_polls_a_module() {
     ));
     module.receive(&[58, 200], &mut out);
     module.raise(1);
+    module.set_errors(3, 4);
+    let errors = ErrorCounts {
+        receive: 3,
+        transmit: 4,
+    };
+    assert_eq!((module.errors(), module.flags()), (errors, 0x81));
+    assert_eq!(module.receive(&[49, 0], &mut out).unwrap()[2..4], [3, 4]);
+    assert_eq!(module.raw(), !(1 << 12));
     assert_eq!(
         (module.watchdog_ms(), module.filtered()),
         (Some(100), !(1 << 12))
@@ -247,4 +294,18 @@ fn a_checker_says_what_was_due_and_goes_on() {
     assert_eq!(checker.sent(&[54, 6]), None);
     let breach = checker.heard(&BLOCK).unwrap();
     assert_eq!((breach.rule, breach.due, breach.got), (3, 6, 5));
+}
+
+#[test]
+fn an_entry_that_comes_twice_breaks_a_rule_on_content() {
+    let mut content = ContentChecker::default();
+    content.sent(&[54, 0]);
+    assert_eq!(content.heard(&[182, 0, 0, 0, 0, 0, 0, 0]), None);
+    content.sent(&[54, 1]);
+    assert_eq!(content.heard(&[182, 1, 1, 12, 0, 10, 0, 0, 0, 0, 11]), None);
+    content.sent(&[54, 2]);
+    let second = [182, 2, 2, 13, 0, 11, 12, 0, 12, 0, 0, 0, 0, 21];
+    let breach = content.heard(&second).unwrap();
+    assert_eq!((breach.rule, breach.entry, breach.input), (2, 1, 12));
+    assert_eq!(content.heard(&second), None);
 }

@@ -1,9 +1,14 @@
 //! The commands that a module carries out, and its answers.
-ghost use Rattle.std.specs.Prelude.{ℕ, List, Some};
+ghost use Rattle.std.specs.Prelude.{ℕ, List, ◌∷◌, Some};
 ghost use Rattle.circular_buffer.specs.Buffer.{Buffer};
 ghost use Rattle.fio_message.specs.Views.{command_of, items_of};
 ghost use Rattle.fio_message.specs.declared.commands.Command.TheVariants as commands;
-ghost use Rattle.fio_module.specs.State.{Obeys, frame_if};
+ghost use Rattle.fio_message.specs.Answers.{SpellsAnswer};
+ghost use Rattle.fio_message.specs.declared.answers.Answer.TheVariants as answers;
+ghost use Rattle.fio_module.specs.Flags.{flags_of};
+ghost use Rattle.fio_module.specs.Life.{Commanded, Life, counter_of};
+ghost use Rattle.fio_module.specs.Settings.{Settings};
+ghost use Rattle.fio_module.specs.State.{IsAfter, Obeys, frame_if};
 
 use super::ModuleState;
 use crate::limits::{LEAST_TIMEOUT, MOST_TIMEOUT};
@@ -29,7 +34,7 @@ impl ModuleState {
             (command_of command.entry) (frame_if result frame.new) }
     {
         match command {
-            CommandView::Status { clear } => self.clear_flags(clear, frame),
+            CommandView::Status { clear } => self.tell_status(clear, 0, 0, frame),
             CommandView::LoadCounter { load } => self.load_counter(load, frame),
             CommandView::ConfigureInputs { items } => self.configure(items, frame),
             CommandView::RawInputs => self.raw_inputs(frame),
@@ -48,18 +53,29 @@ impl ModuleState {
         true
     }
 
+    /// Carries out command 49 as `obey` does, but that the answer has these error counts (TEES 2009,
+    /// answer 177): clears the flags whose bits are one, and writes those that are left.
     // Not inlined: see `obey`.
     #[inline(never)]
-    fn clear_flags(&mut self, clear: u8, frame: &mut Frame)
-        ensures { (ring : Buffer (List ℕ))
-            → Obeys self.old ring self.new ring (commands.Status clear) (Some frame.new) }
+    pub fn tell_status(
+        &mut self,
+        clear: u8,
+        receive_errors: u8,
+        transmit_errors: u8,
+        frame: &mut Frame,
+    )
+        ensures { (settings : Settings) (ring : Buffer (List ℕ)) (life : Life)
+            → IsAfter settings self.old ring life
+            → IsAfter settings self.new ring (Commanded (commands.Status clear) ∷ life)
+            × SpellsAnswer (answers.Status (flags_of (Commanded (commands.Status clear) ∷ life))
+            receive_errors transmit_errors (counter_of life)) frame.new.items }
     {
         self.flags &= !clear;
         write_answer(
             &Answer::Status {
                 flags: self.flags,
-                receive_errors: 0,
-                transmit_errors: 0,
+                receive_errors,
+                transmit_errors,
                 stamp: self.counter.now(),
             },
             frame,
@@ -87,8 +103,7 @@ impl ModuleState {
         ensures { (ring : Buffer (List ℕ)) → Obeys self.old ring self.new ring
             (commands.ConfigureInputs (record { items = items_of items.entry })) (Some frame.new) }
     {
-        let items = items.to_array();
-        let status = error_status(self.filters.configure(items.as_slice()).is_err());
+        let status = error_status(self.filters.configure_from(&items).is_err());
         write_answer(&Answer::ConfigureInputs { status }, frame);
     }
 

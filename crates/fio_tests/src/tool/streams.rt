@@ -1,7 +1,7 @@
-//! The four tools over readers and writers that fail at a call, and over ones that give or take an octet
-//! a call.
-use super::ends::{Endless, Feed, Sink};
-use fio_tool::{Ending, Tool, ToolFault, check, record, show, simulate};
+//! The four tools, and the program that chooses one, over readers and writers that fail at a call.
+use super::ends::{Feed, Sink};
+use crate::rows::expect_word;
+use fio_tool::{Ending, Tool, ToolFault, check, record, run_program, show, simulate};
 use std::alloc::Global;
 use std::io::{Read, Write};
 use std::process::Abort;
@@ -52,11 +52,21 @@ fn run<R: Read, W: Write>(
     }
 }
 
+/// A reader that fails at this call, and at none for 0.
+fn feed(octets: &[u8], failing: usize) -> Feed<'_> {
+    Feed {
+        octets,
+        is_endless: false,
+        calls: 0,
+        failing,
+    }
+}
+
 /// Reads and writes an octet a call: whether the tool ends as expected with the whole text, having asked for
 /// each octet and for the end once.
 fn passes_octets(alloc: Global, (tool, input, text, expected): Row) -> bool {
-    let mut feed = Feed::new(input, 1);
-    let mut sink = Sink::new(alloc, 1);
+    let mut feed = feed(input, 0);
+    let mut sink = Sink::new(alloc);
     run(alloc, tool, &mut feed, &mut sink) == Ok(expected)
         && feed.calls == input.len().saturating_add(1)
         && sink.calls == text.len()
@@ -82,9 +92,8 @@ fn an_octet_a_call(rt: HostRuntime) {
 
 /// Whether the tool ends at this read, which fails, and writes nothing.
 fn ends_at_read(alloc: Global, tool: Tool, input: &[u8], failing: usize) -> bool {
-    let mut feed = Feed::new(input, 1);
-    feed.failing = failing;
-    let mut sink = Sink::new(alloc, 1);
+    let mut feed = feed(input, failing);
+    let mut sink = Sink::new(alloc);
     run(alloc, tool, &mut feed, &mut sink) == Err(ToolFault::Read)
         && feed.calls == failing
         && sink.calls == 0
@@ -112,10 +121,10 @@ fn ends_at_write(
     failing: usize,
     takes_none: bool,
 ) -> bool {
-    let mut sink = Sink::new(alloc, 1);
+    let mut sink = Sink::new(alloc);
     sink.failing = failing;
     sink.takes_none = takes_none;
-    run(alloc, tool, &mut Feed::new(input, 100), &mut sink) == Err(ToolFault::Write)
+    run(alloc, tool, &mut feed(input, 0), &mut sink) == Err(ToolFault::Write)
         && sink.calls == failing
         && text.get(..failing.saturating_sub(1)) == Some(sink.octets.as_slice())
 }
@@ -139,9 +148,9 @@ fn each_write_may_fail(rt: HostRuntime) {
 
 /// Whether the tool ends at the flush, which fails, with the whole text written.
 fn ends_at_flush(alloc: Global, (tool, input, text, _): Row) -> bool {
-    let mut sink = Sink::new(alloc, 100);
+    let mut sink = Sink::new(alloc);
     sink.is_flush_failing = true;
-    run(alloc, tool, &mut Feed::new(input, 100), &mut sink) == Err(ToolFault::Write)
+    run(alloc, tool, &mut feed(input, 0), &mut sink) == Err(ToolFault::Write)
         && has_whole(&sink, text)
 }
 
@@ -154,8 +163,9 @@ fn the_flush_may_fail(rt: HostRuntime) {
 
 /// Whether the tool reads one octet more than an input may have, and then reports that it is too long.
 fn ends_at_limit(alloc: Global, tool: Tool) -> bool {
-    let mut feed = Endless { calls: 0 };
-    let mut sink = Sink::new(alloc, 100);
+    let mut feed = feed(b"\n", 0);
+    feed.is_endless = true;
+    let mut sink = Sink::new(alloc);
     run(alloc, tool, &mut feed, &mut sink) == Ok(Ending::Bad)
         && sink.octets.as_slice() == b"input too long\n".as_slice()
         && feed.calls == 1_048_577
@@ -163,18 +173,29 @@ fn ends_at_limit(alloc: Global, tool: Tool) -> bool {
 
 #[test]
 fn endless_inputs_end_at_the_limit(rt: HostRuntime) {
-    expect_tool(&rt, Tool::Show, 0, ends_at_limit(rt.alloc(), Tool::Show));
-    expect_tool(
-        &rt,
-        Tool::Simulate,
-        0,
-        ends_at_limit(rt.alloc(), Tool::Simulate),
-    );
-    expect_tool(&rt, Tool::Check, 0, ends_at_limit(rt.alloc(), Tool::Check));
-    expect_tool(
-        &rt,
-        Tool::Record,
-        0,
-        ends_at_limit(rt.alloc(), Tool::Record),
-    );
+    for row in &ROWS {
+        expect_tool(&rt, row.0, 0, ends_at_limit(rt.alloc(), row.0));
+    }
+}
+
+/// Whether the program, given the word of a tool, reports this fault where its first read or its first write fails.
+fn reports(alloc: Global, word: &str, read: usize, write: usize, fault: &[u8]) -> bool {
+    let mut sink = Sink::new(alloc);
+    sink.failing = write;
+    run_program(
+        alloc,
+        &["fio2070", word],
+        &mut feed(b"3605", read),
+        &mut sink,
+    ) == 3
+        && sink.octets.as_slice() == fault
+}
+
+#[test]
+fn faults_are_reported(rt: HostRuntime) {
+    for word in ["show", "simulate", "check", "record"] {
+        let read = reports(rt.alloc(), word, 1, 0, b"fio2070: read fault\n");
+        let write = reports(rt.alloc(), word, 0, 1, b"fio2070: write fault\n");
+        expect_word(&rt, word, read && write);
+    }
 }

@@ -1,11 +1,15 @@
-//! The text with the record of a transcript's CPU.
-ghost use Rattle.std.specs.Prelude.{◌≡◌, ◌++◌, List, IfOk, OnOk, Ok};
+//! The text with the record of a transcript's CPU, judged by the rules on content.
+ghost use Rattle.std.specs.Prelude.{◌≡◌, ◌++◌, List, IfOk, OnOk, Ok, Some, is_some, not, take};
+ghost use Rattle.fio_check.specs.ContentRules.{broken_entry_in};
 ghost use Rattle.fio_check.specs.Lines.{TranscriptLine};
-ghost use Rattle.fio_tool.specs.Record.{is_record_good, record_lines, record_of, record_text};
+ghost use Rattle.fio_cpu.specs.declared.record.Item.{Item as ItemOf};
+ghost use Rattle.fio_tool.specs.Record.{broken_entry_line, is_record_good, items_of_cpu, judged_record, record_lines, record_of, record_text};
+ghost use Rattle.fio_tool.specs.Recordings.{broken_entry_of, entry_of_item};
 ghost use Rattle.fio_tool.specs.Transcript.{transcript_in};
 
 use super::check::check_text;
-use crate::transcript::cpu_of;
+use crate::transcript::{BrokenItem, Recording, recording_of};
+use fio_check::ContentRule;
 use fio_cpu::Item;
 use fio_message::Memory;
 use fio_world::{Report, push_items, push_line};
@@ -13,8 +17,11 @@ use std::alloc::{AllocError, Global};
 
 /// The text with the record that the CPU of the transcript in the input has: `record N`, and then a
 /// line for each of its N items, `gap` or `input I state L stamp S wide W`. That CPU starts at the first
-/// poll with the number of that poll, and hears each frame below. Where the report of `check_text` is
-/// not good, it is that report, and there is no record.
+/// poll with the number of that poll, and hears each frame below.
+///
+/// Where an entry of the record breaks a rule on content, the text has only the items above the first one that does, and
+/// then the line `line L input I breaks RULE` with the number of the entry's line; the report is not good. Where
+/// the report of `check_text` is not good, it is that report, and there is no record.
 ///
 /// # Errors
 /// `Memory` where an allocation failed, for the record or its text.
@@ -26,23 +33,73 @@ pub fn record_text(alloc: Global, input: &[u8]) -> Result<Report, Memory>
     if !checked.good {
         return Ok(checked);
     }
+    report_of_record(alloc, input)
+}
+
+/// The report of the record of the transcript that a text is.
+fn report_of_record(alloc: Global, text: &[u8]) -> Result<Report, Memory>
+    ensures text { (lines : List TranscriptLine) → transcript_in text.now ≡ Ok lines
+        → IfOk result (λ report.
+        report.text.items ≡ judged_record (broken_entry_in lines) (record_of lines)) }
+    ensures good { (lines : List TranscriptLine) → transcript_in text.now ≡ Ok lines
+        → IfOk result (λ report. report.good ≡ not (is_some (broken_entry_in lines))) }
+{
+    let recording = recording_of(alloc, text)?;
+    let mut written = Vec::new(alloc);
+    push_recording(&mut written, &recording)?;
     Ok(Report {
-        text: text_of_record(alloc, input)?,
-        good: true,
+        text: written,
+        good: recording.broken.is_none(),
     })
 }
 
-/// The lines for the record of the transcript that a text is.
-fn text_of_record(alloc: Global, text: &[u8]) -> Result<Vec<u8>, Memory>
-    ensures { (lines : List TranscriptLine) → transcript_in text.now ≡ Ok lines
-        → IfOk result (λ written. written.items ≡ record_lines (record_of lines)) }
+/// Appends the lines for what a pass over a transcript keeps.
+fn push_recording(text: &mut Vec<u8>, recording: &Recording) -> Result<(), AllocError>
+    ensures { OnOk result (text.new.items ≡ text.old.items
+        ++ judged_record (broken_entry_of recording.now) (items_of_cpu recording.now.cpu)) }
 {
-    let mut written = Vec::new(alloc);
-    match cpu_of(alloc, text)? {
-        Some(cpu) => push_record(&mut written, cpu.items())?,
-        None => push_record(&mut written, &[])?,
+    let items = recording.items();
+    match recording.broken {
+        None => push_record(text, items),
+        Some(broken) => push_broken(text, items, broken),
     }
-    Ok(written)
+}
+
+/// Appends the lines for the items above an entry that breaks a rule, and the line for the entry.
+fn push_broken(text: &mut Vec<u8>, items: &[Item], broken: BrokenItem) -> Result<(), AllocError>
+    ensures { OnOk result (text.new.items ≡ text.old.items
+        ++ judged_record (Some (entry_of_item items.now broken)) items.now) }
+{
+    push_record(text, first_items(items, broken.above))?;
+    push_broken_line(text, broken)
+}
+
+/// So many items, the first, or all where there are fewer.
+#[tactic(auto, using(std::proofs::lemmas::List::take_min))]
+fn first_items(items: &[Item], count: usize) -> &[Item]
+    ensures { result.now ≡ take count items.now }
+{
+    &items[..count.min(items.len())]
+}
+
+/// Appends the line for an entry that breaks a rule.
+fn push_broken_line(text: &mut Vec<u8>, broken: BrokenItem) -> Result<(), AllocError>
+    ensures { (items : List ItemOf) → OnOk result (text.new.items
+        ≡ text.old.items ++ broken_entry_line (entry_of_item items broken)) }
+{
+    let line = broken.line as u64;
+    let input = broken.input;
+    match broken.rule {
+        ContentRule::Order => {
+            push_line!(text; b"line " {line} b" input " {input} b" breaks order\n")
+        }
+        ContentRule::Alternate => {
+            push_line!(text; b"line " {line} b" input " {input} b" breaks alternate\n")
+        }
+        ContentRule::Apart => {
+            push_line!(text; b"line " {line} b" input " {input} b" breaks apart\n")
+        }
+    }
 }
 
 /// Appends the lines for a record.

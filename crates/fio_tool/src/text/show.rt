@@ -12,7 +12,7 @@ ghost use Rattle.fio_show.specs.Shown.{rest_text};
 
 use super::{is_too_long, report_too_long};
 use fio_message::{BodyView, DecodeError, EntriesView, FRAME_OCTETS, ItemsView, Memory};
-use fio_show::{EntryLines, Rest, entry_line, put_frame, put_item};
+use fio_show::{EntryLines, LINE_OCTETS, Rest, entry_line, put_frame, put_item};
 use fio_world::text::{append_line, append_part, numbered_lines, push_hexadecimal, read_octets_to};
 use fio_world::{Report, push_line};
 use std::alloc::{AllocError, Global};
@@ -78,7 +78,7 @@ fn push_frame(text: &mut Vec<u8>, number: usize, octets: &[u8]) -> Result<bool, 
         ≡ text.old.items ++ text_at number (shown_frame octets.now)) }
     ensures good { IfOk result (λ good. good ≡ is_ok (shown_frame octets.now)) }
 {
-    let mut line = [0; 128];
+    let mut line = [0; LINE_OCTETS];
     match put_frame(&mut line, octets) {
         Ok((start, rest)) => {
             append_line(text, &line, start)?;
@@ -92,7 +92,11 @@ fn push_frame(text: &mut Vec<u8>, number: usize, octets: &[u8]) -> Result<bool, 
 /// Appends what follows the first line of a message, its lines put together in this room.
 // Inlined, as most messages have one line.
 #[inline(always)]
-fn push_rest(text: &mut Vec<u8>, line: &mut [u8; 128], rest: Rest<'_>) -> Result<(), AllocError>
+fn push_rest(
+    text: &mut Vec<u8>,
+    line: &mut [u8; LINE_OCTETS],
+    rest: Rest<'_>,
+) -> Result<(), AllocError>
     ensures { OnOk result (text.new.items ≡ text.old.items ++ rest_text rest.entry) }
 {
     match rest {
@@ -106,7 +110,7 @@ fn push_rest(text: &mut Vec<u8>, line: &mut [u8; 128], rest: Rest<'_>) -> Result
 /// Appends the lines of the items of a configuration.
 fn push_items(
     text: &mut Vec<u8>,
-    line: &mut [u8; 128],
+    line: &mut [u8; LINE_OCTETS],
     items: ItemsView<'_>,
 ) -> Result<(), AllocError>
     ensures { OnOk result (text.new.items

@@ -1,5 +1,6 @@
 //! A script's further lines: one event each.
-ghost use Rattle.std.specs.Prelude.{◌≡◌, ◌≢◌, Ok, IfOk, IfErr, IfSome, option_map};
+ghost use Rattle.std.specs.Prelude.{◌≡◌, ◌≢◌, None, Ok, IfOk, IfErr, IfSome};
+ghost use Rattle.std.specs.Option.{option_and_then};
 ghost use Rattle.std.specs.Str.{bytes_eq};
 ghost use Rattle.fio_world.specs.EventLines.{delivery_in, event_at, event_with_value, frame_at, plain_event, IsReadAs};
 ghost use Rattle.fio_world.specs.Hexadecimal.{octets_in};
@@ -112,7 +113,8 @@ fn read_sending<'a>(number: usize, word: &'a [u8]) -> Result<Step<'a>, ScriptErr
 
 /// The event of a line that sends no command.
 fn read_plain<'a>(line: &'a [u8], restarts: bool) -> Option<Form<'a>>
-    ensures { option_map event_of result ≡ plain_event restarts line.now }
+    ensures is { option_and_then event_of result ≡ plain_event restarts line.now }
+    ensures event { IfSome result (λ form. event_of form ≢ None) }
 {
     if line == b"sync".as_slice() {
         return Some(Form::LineSync);
@@ -130,7 +132,8 @@ fn read_plain<'a>(line: &'a [u8], restarts: bool) -> Option<Form<'a>>
 // Inlined, as it is called for each line that is not the same as the line above.
 #[inline(always)]
 fn read_with_value<'a>(line: &'a [u8]) -> Option<Form<'a>>
-    ensures { option_map event_of result ≡ event_with_value line.now }
+    ensures is { option_and_then event_of result ≡ event_with_value line.now }
+    ensures event { IfSome result (λ form. event_of form ≢ None) }
 {
     if let Some(word) = after_prefix(line, b"scan ") {
         return Some(Form::Scan(read_inputs(word)?));
@@ -145,7 +148,8 @@ fn read_with_value<'a>(line: &'a [u8]) -> Option<Form<'a>>
 // Inlined, as it is called for each line that is not the same as the line above.
 #[inline(always)]
 fn read_delivery<'a>(line: &'a [u8]) -> Option<Form<'a>>
-    ensures { option_map event_of result ≡ delivery_in line.now }
+    ensures is { option_and_then event_of result ≡ delivery_in line.now }
+    ensures event { IfSome result (λ form. event_of form ≢ None) }
 {
     if let Some(word) = after_prefix(line, b"to-module ") {
         return Some(Form::ToModule(read_number(word)?));

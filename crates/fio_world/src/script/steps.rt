@@ -1,5 +1,5 @@
 //! An event as a line of a script writes it, in 24 octets.
-ghost use Rattle.std.specs.Prelude.{◌≡◌};
+ghost use Rattle.std.specs.Prelude.{◌≡◌, ◌≢◌, None};
 ghost use Rattle.fio_world.specs.Steps.{command_named, event_of};
 
 use crate::event::Event;
@@ -7,7 +7,7 @@ use crate::text::read_octets_to;
 use fio_message::{Command, FRAME_OCTETS, decode_command};
 use std::marker::Model;
 
-/// An event of a script. The command of a `send` stays a word of the text.
+/// The form of a line that gives an event. The command of a `send` stays a word of the text.
 #[derive(Clone, Copy)]
 pub(crate) enum Form<'a> {
     /// As `Event::Scan`.
@@ -28,20 +28,21 @@ pub(crate) enum Form<'a> {
     Restart,
 }
 
-/// An event that is kept in this form.
+/// An event that is kept in this form: the word of a `send` spells a command.
 #[derive(Drop)]
 pub(crate) struct Step<'a> {
     /// What the event is.
     pub form: Form<'a>,
+    ghost is_event: { event_of form ≢ None },
 }
 
 impl<'a> Model for Step<'a> {
-    ghost use Rattle.fio_world.specs.Steps.{event_of};
+    ghost use Rattle.fio_world.specs.Steps.{event_found, event_of};
     ghost use Rattle.fio_world.specs.declared.event.Event.{Event as Happening};
 
     ghost Value = { Happening };
 
-    ghost view = { λ s. event_of s.form };
+    ghost view = { λ s. event_found (event_of s.form) s.is_event };
 }
 
 impl Step<'_> {
@@ -54,7 +55,7 @@ impl Step<'_> {
             Form::LineSync => Event::LineSync,
             Form::Raise(mask) => Event::Raise(mask),
             Form::Poll => Event::Poll,
-            Form::Send(word) => Event::Send(command_named(word)),
+            Form::Send(word) => Event::Send(command_named(word).unwrap()),
             Form::ToModule(index) => Event::ToModule(index),
             Form::ToCpu(index) => Event::ToCpu(index),
             Form::Restart => Event::Restart,
@@ -62,20 +63,15 @@ impl Step<'_> {
     }
 }
 
-/// The command that a word's octets spell. A word that spells none gives a poll, which a world refuses.
+/// The command that a word's octets spell; `None` exactly where they spell none.
 #[tactic(auto, using(crate::proofs::FrameWords::decodes_none))]
-pub(crate) fn command_named(word: &[u8]) -> Command
+pub(crate) fn command_named(word: &[u8]) -> Option<Command>
     ensures { result ≡ command_named word.now }
 {
     let mut room = [0; FRAME_OCTETS];
-    let Some(count) = read_octets_to(word, &mut room) else {
-        return Command::Poll { block: 0 };
-    };
+    let count = read_octets_to(word, &mut room)?;
     if count > room.len() {
-        return Command::Poll { block: 0 };
+        return None;
     }
-    match decode_command(&room[..count]) {
-        Ok(command) => command,
-        Err(_) => Command::Poll { block: 0 },
-    }
+    decode_command(&room[..count]).ok()
 }

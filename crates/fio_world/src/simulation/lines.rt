@@ -7,6 +7,7 @@ ghost use Rattle.fio_world.specs.ReportLines.{ending_lines, ending_text, heard_l
 ghost use Rattle.fio_world.specs.Worlds.{Shows};
 ghost use Rattle.fio_world.specs.declared.outcome.Outcome.TheVariants as outcomes;
 ghost use Rattle.fio_cpu.specs.declared.poller.Heard.TheVariants as heards;
+ghost use Rattle.fio_show.specs.declared.pieces.TheConstants.{NAME_OCTETS};
 
 use crate::outcome::WorldError;
 use crate::push_line;
@@ -55,7 +56,7 @@ pub(crate) fn push_heard(text: &mut Vec<u8>, number: usize, heard: Heard) -> Res
     }
 }
 
-/// The CPU received a frame that it does not take: why, in words of at most 40 octets, and the octet
+/// The CPU received a frame that it does not take: why, in words of at most `NAME_OCTETS`, and the octet
 /// that says so.
 fn push_untaken<const N: usize>(
     text: &mut Vec<u8>,
@@ -63,7 +64,7 @@ fn push_untaken<const N: usize>(
     words: &[u8; N],
     octet: u8,
 ) -> Result<(), AllocError>
-    requires { N ≤ 40 }
+    requires { N ≤ NAME_OCTETS }
     ensures { OnOk result (text.new.items ≡ text.old.items
         ++ (decimal number ++ (words.now ++ (decimal octet ++ codes "\n")))) }
 {

@@ -1,15 +1,17 @@
 //! Lines, put together in room on the stack and appended to a text at once.
 ghost use Rattle.std.specs.Prelude.{◌≡◌, ◌≤◌, ◌++◌, length, take, drop, OnOk};
 ghost use Rattle.fio_show.specs.Digits.{digits_of};
+ghost use Rattle.fio_show.specs.declared.pieces.TheConstants.{LINE_OCTETS};
 
+use fio_show::LINE_OCTETS;
 use std::alloc::AllocError;
 
-/// Appends a line of at most 128 octets to a text, made of pieces as `fio_show::put_pieces!` takes
+/// Appends a line of at most `fio_show::LINE_OCTETS` to a text, made of pieces as `fio_show::put_pieces!` takes
 /// them. It is an `AllocError` where the text cannot grow.
 #[macro_export]
 macro_rules! push_line {
     ($text:expr; $($pieces:tt)*) => {{
-        let mut line = [0; 128];
+        let mut line = [0; fio_show::LINE_OCTETS];
         let end = fio_show::line_end(&line);
         let start = fio_show::put_pieces!(line, end; $($pieces)*);
         $crate::text::append_line($text, &line, start)
@@ -19,16 +21,20 @@ macro_rules! push_line {
 /// Appends a line that starts at this place of its room.
 // Inlined, so that the places and lengths of the pieces of a line are known when it is compiled.
 #[inline(always)]
-pub fn append_line(text: &mut Vec<u8>, line: &[u8; 128], start: usize) -> Result<(), AllocError>
-    requires { start ≤ 128 }
+pub fn append_line(
+    text: &mut Vec<u8>,
+    line: &[u8; LINE_OCTETS],
+    start: usize,
+) -> Result<(), AllocError>
+    requires { start ≤ LINE_OCTETS }
     ensures { OnOk result (text.new.items ≡ text.old.items ++ drop start line.now) }
 {
     text.extend_from_slice(&line[start..])
 }
 
-/// Appends so many of 64 octets, the first.
+/// Appends so many of these octets, the first.
 // Inlined, so that the places and lengths of the pieces of a line are known when it is compiled. All
-// 64 are copied, since a known number is copied without a call, and those behind are cut off again.
+// are copied, since a known number is copied without a call, and those behind are cut off again.
 #[inline(always)]
 pub fn append_part(text: &mut Vec<u8>, octets: &[u8], count: usize) -> Result<(), AllocError>
     requires { count ≤ length octets.now }

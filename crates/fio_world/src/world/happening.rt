@@ -1,5 +1,5 @@
 //! One event on a world.
-ghost use Rattle.std.specs.Prelude.{◌≡◌, ◌≢◌, ◌+◌, ◌≤◌, ◌∷◌, ◌++◌, [], ℕ, Some, IfOk, IfErr, OnOk, OnErr, length};
+ghost use Rattle.std.specs.Prelude.{◌≡◌, ◌≢◌, ◌+◌, ◌≤◌, ◌∷◌, ◌++◌, [], ℕ, None, Some, IfSome, IfOk, IfErr, OnOk, OnErr, length};
 ghost use Rattle.fio_message.specs.declared.limits.TheConstants.{FRAME_OCTETS};
 ghost use Rattle.fio_module.specs.Settings.{Settings};
 ghost use Rattle.fio_world.specs.declared.event.Event.{Event as Happening};
@@ -61,10 +61,11 @@ impl World {
     // Inlined, so that an event of a known form goes straight to what it does.
     #[inline(always)]
     fn take(&mut self, form: &Form<'_>) -> Result<Done, WorldError>
+        requires { event_of form.now ≢ None }
         ensures row { (settings : Settings) (first : ℕ) (machine : Machine)
             → Shows settings first machine self.old
-            → Steps settings first machine (event_of form.now) (result_in self.new result)
-            self.new }
+            → IfSome (event_of form.now) (λ event.
+            Steps settings first machine event (result_in self.new result) self.new) }
         ensures err { OnErr result (self.new ≡ self.old) }
     {
         match form {
@@ -108,13 +109,14 @@ impl World {
     // Not inlined: its frame or command would be cleared for each event.
     #[inline(never)]
     fn send_word(&mut self, word: &[u8]) -> Result<Done, WorldError>
+        requires { command_named word.now ≢ None }
         ensures row { (settings : Settings) (first : ℕ) (machine : Machine)
             → Shows settings first machine self.old
-            → Steps settings first machine (events.Send (command_named word.now))
-            (result_in self.new result) self.new }
+            → IfSome (command_named word.now) (λ command.
+            Steps settings first machine (events.Send command) (result_in self.new result) self.new) }
         ensures err { OnErr result (self.new ≡ self.old) }
     {
-        self.send_command(&command_named(word))
+        self.send_command(&command_named(word).unwrap())
     }
 
     /// The CPU sends a command, unless it is a poll.

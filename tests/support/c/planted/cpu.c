@@ -13,7 +13,7 @@ static struct {
     int has_taken, has_polled, has_gap, was_gap;
     uint32_t last_stamp;
     unsigned long tries, polls, blocks, items;
-    uint8_t levels[128];
+    uint8_t levels[128], was_number[256];
 } cpu;
 
 /* A block answer. */
@@ -198,6 +198,9 @@ static size_t hear(void *context, const uint8_t *octets, size_t length,
     if (reads_block(frame, length, &block)) {
         if (block.number != cpu.number) return hear_stale(&block, items);
         if ((block.status & Q(REFUSED_BITS)) || (block.count == 0 && !Q(EMPTY_TAKEN))) return 0;
+        if (Q(LEFT_BLOCK) && cpu.blocks + 1 == (unsigned long)Q(LEFT_BLOCK)) return 0;
+        if (Q(NUMBERS_REMEMBERED) && cpu.was_number[block.number]) return 0;
+        cpu.was_number[block.number] = 1;
         return take(&block, items);
     }
     if (is_other(frame, length)) {

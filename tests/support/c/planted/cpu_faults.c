@@ -23,7 +23,7 @@ const struct fault CPU_FAULTS[] = {
     FAULT("0 comes after 254", NUMBER_MODULO, 255),
     FAULT("0 comes after 127", NUMBER_MODULO, 128),
     FAULT("0 comes after 99", NUMBER_MODULO, 100),
-    FAULT("1 comes after 255", NUMBER_AFTER_LAST, 1),
+    FAULT("the CPU goes on from 255 to 1", NUMBER_AFTER_LAST, 1),
     FAULT("255 stays", NUMBER_AFTER_LAST, 255),
     FAULT("128 comes after 255", NUMBER_AFTER_LAST, 128),
     FAULT("a block without entries leaves the number", EMPTY_RAISES, 0),
@@ -35,6 +35,8 @@ const struct fault CPU_FAULTS[] = {
     FAULT("the number stands after 100 blocks", TAKEN_AFTER, 100),
     FAULT("the number stands after 257 blocks", TAKEN_AFTER, 257),
     FAULT("the number stands at the first block", TAKEN_AFTER, 1),
+    FAULT("the 130th block is not taken", LEFT_BLOCK, 130),
+    FAULT("a block whose number came round is not taken", NUMBERS_REMEMBERED, 1),
     FAULT("the number that it says is the next one", REPORTED_NUMBER_PLUS, 1),
     /* Blocks that are refused */
     FAULT("blocks with E are refused", REFUSED_BITS, 2),

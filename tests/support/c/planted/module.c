@@ -23,7 +23,8 @@ static struct {
     struct entry waiting[ROOM];
     size_t count;
     int is_lost, was_lost, has_polled, is_repeated, was_before;
-    uint8_t number, flags, errors, timeout, outputs[16];
+    uint8_t number, flags, errors, timeout, outputs[16], was_number[256];
+    int has_outputs;
     struct entry block[FIO2070_MOST_ENTRIES];
     size_t in_block;
     uint8_t kept[FIO2070_LONGEST_FRAME];
@@ -76,6 +77,8 @@ static void reset(void *context) {
     module.was_lost = 0;
     module.before = module.raw;
     module.scans = module.polls = module.blocks = module.entries = 0;
+    module.has_outputs = 0;
+    memset(module.was_number, 0, sizeof module.was_number);
 }
 
 /* ---- Scans ---- */
@@ -105,6 +108,7 @@ static void add_entry(unsigned input, unsigned state) {
 static unsigned samples_of(unsigned filter, int plus) {
     if (filter == 0) return (unsigned)Q(ZERO_ACTS_AS);
     if (filter >= (unsigned)Q(FILTER_NEVER)) return 100000;
+    if (filter >= (unsigned)Q(FILTER_AT_ONCE)) return 1;
     if (filter > (unsigned)Q(MOST_FILTER)) filter = (unsigned)Q(MOST_FILTER);
     filter = low_bits(filter, Q(FILTER_BITS));
     return filter + (unsigned)plus > 0 ? filter + (unsigned)plus : 1;
@@ -152,7 +156,7 @@ static void step(void *context, uint64_t inputs) {
     if (!Q(STEPS_AFTER_SAMPLING)) count_up();
     module.before = module.raw;
     module.raw = inputs;
-    scan_inputs(inputs);
+    if (module.scans == 0 || module.scans != (unsigned long)Q(SCAN_WITHOUT_SAMPLES)) scan_inputs(inputs);
     if (Q(STEPS_AFTER_SAMPLING)) count_up();
 }
 
@@ -265,6 +269,8 @@ static uint8_t status_of(uint8_t number, size_t waited) {
     if (!module.has_polled) status |= (uint8_t)Q(FIRST_STATUS);
     if (Q(MADE_AFTER) && module.blocks >= (unsigned long)Q(MADE_AFTER)) status |= 1;
     if (Q(POLLED_AFTER) && module.polls >= (unsigned long)Q(POLLED_AFTER)) status |= 2;
+    if (Q(NUMBERS_REMEMBERED) && module.was_number[number]) status |= 2;
+    module.was_number[number] = 1;
     module.was_lost = module.is_lost;
     if (!Q(LOST_STAYS)) module.is_lost = 0;
     return status;
@@ -276,7 +282,7 @@ static size_t write_block(uint8_t number, uint8_t status, uint8_t *out) {
     if (Q(BLOCK_STAMP_OF_ENTRY) && module.in_block > 0) {
         stamp = (stamp & 0xffff0000) | module.block[module.in_block - 1].stamp;
     }
-    out[0] = (uint8_t)(FIO2070_POLL + Q(TYPE_PLUS));
+    out[0] = (uint8_t)(FIO2070_TYPE_POLL + Q(TYPE_PLUS));
     out[1] = (uint8_t)(number + Q(NUMBER_PLUS));
     out[2] = (uint8_t)module.in_block;
     for (place = 0; place < module.in_block; place++) {
@@ -340,15 +346,16 @@ static size_t answer_poll(uint8_t number, uint8_t *out) {
     length = is_again ? repeat_block(out) : new_block(number, out);
     if (!is_stray || Q(STRAY_IS_CURRENT)) module.number = number;
     module.has_polled = 1;
-    module.polls++;
     if (Q(POLL_CLEARS_FLAGS)) module.flags = 0;
+    if (++module.polls == (unsigned long)Q(POLL_UNANSWERED)) return 0;
     return out[2] == 0 && !Q(EMPTY_ANSWERED) ? 0 : length;
 }
 
 /* ---- Other commands ---- */
 
 static size_t answer_outputs(const uint8_t *octets, uint8_t *out) {
-    memcpy(module.outputs, octets + 1, (size_t)Q(OUTPUTS_KEPT));
+    if (!Q(OUTPUTS_SET_ONCE) || !module.has_outputs) memcpy(module.outputs, octets + 1, (size_t)Q(OUTPUTS_KEPT));
+    module.has_outputs = 1;
     out[1] = (uint8_t)Q(OUTPUTS_FIRST);
     put_stamp(out + 2, Q(OUTPUTS_STAMPED) ? module.counter : 0);
     return 1 + (size_t)Q(OUTPUTS_LENGTH);
@@ -357,7 +364,7 @@ static size_t answer_outputs(const uint8_t *octets, uint8_t *out) {
 static size_t answer_watchdog(uint8_t timeout, uint8_t *out) {
     out[1] = (uint8_t)module.was_before;
     module.was_before = Q(BEFORE_SET);
-    if (timeout < Q(TIMEOUT_LEAST)) timeout = (uint8_t)Q(TIMEOUT_LEAST);
+    if (timeout < Q(TIMEOUT_LEAST) || timeout >= Q(TIMEOUT_NEGATIVE)) timeout = (uint8_t)Q(TIMEOUT_LEAST);
     module.timeout = timeout > Q(TIMEOUT_MOST) ? (uint8_t)Q(TIMEOUT_MOST) : timeout;
     return 2;
 }
@@ -372,15 +379,15 @@ static size_t answer_body(uint8_t code, uint8_t *out) {
 static size_t answer_command(const uint8_t *octets, uint8_t *out) {
     out[0] = (uint8_t)(octets[0] + Q(TYPE_PLUS));
     switch (octets[0]) {
-    case FIO2070_STATUS: return answer_status(octets, out);
-    case FIO2070_LOAD_COUNTER: return answer_load(octets, out);
-    case FIO2070_CONFIGURE_INPUTS: return answer_configuration(octets, out);
-    case FIO2070_RAW_INPUTS: return answer_inputs(Q(RAW_IS_FILTERED) ? module.filtered : module.raw, out);
-    case FIO2070_FILTERED_INPUTS: return answer_inputs(Q(FILTERED_IS_RAW) ? module.raw : module.filtered, out);
-    case FIO2070_POLL: return answer_poll(octets[1], out);
-    case FIO2070_SET_OUTPUTS: return answer_outputs(octets, out);
-    case FIO2070_WATCHDOG: return answer_watchdog(octets[1], out);
-    case FIO2070_IDENTIFY: out[1] = out[2] = (uint8_t)Q(IDENTIFICATION); return 1 + (size_t)Q(IDENTIFICATION_LENGTH);
+    case FIO2070_TYPE_STATUS: return answer_status(octets, out);
+    case FIO2070_TYPE_LOAD_COUNTER: return answer_load(octets, out);
+    case FIO2070_TYPE_CONFIGURE_INPUTS: return answer_configuration(octets, out);
+    case FIO2070_TYPE_RAW_INPUTS: return answer_inputs(Q(RAW_IS_FILTERED) ? module.filtered : module.raw, out);
+    case FIO2070_TYPE_FILTERED_INPUTS: return answer_inputs(Q(FILTERED_IS_RAW) ? module.raw : module.filtered, out);
+    case FIO2070_TYPE_POLL: return answer_poll(octets[1], out);
+    case FIO2070_TYPE_SET_OUTPUTS: return answer_outputs(octets, out);
+    case FIO2070_TYPE_WATCHDOG: return answer_watchdog(octets[1], out);
+    case FIO2070_TYPE_IDENTIFY: out[1] = out[2] = (uint8_t)Q(IDENTIFICATION); return 1 + (size_t)Q(IDENTIFICATION_LENGTH);
     default: return answer_body(octets[0], out);
     }
 }
@@ -391,7 +398,7 @@ static size_t answer_command(const uint8_t *octets, uint8_t *out) {
 static int length_of(const uint8_t *octets, size_t length) {
     static const int lengths[] = {2, 5, 2, 1, 1, 2, 17, 0, 0, 2, 0, 1};
     if (octets[0] < 49 || octets[0] > 60) return -1;
-    if (octets[0] == FIO2070_CONFIGURE_INPUTS && length > 1) return 2 + 3 * octets[1];
+    if (octets[0] == FIO2070_TYPE_CONFIGURE_INPUTS && length > 1) return 2 + 3 * octets[1];
     return lengths[octets[0] - 49];
 }
 

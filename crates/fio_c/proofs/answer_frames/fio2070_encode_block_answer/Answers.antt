@@ -32,9 +32,9 @@ returns-clause-written c are =
     let count = long entries in
     let all = length-append body tail in
     let with_body : c.write_entries.new.out ≡ overwritten 0 (head ++ body) before =
-    overwritten-more 0 3 head body before c.write_at.new.out c.write_entries.new.out refl (omega arith) c.write_at.ensures c.write_entries.ensures in
+    overwritten-more 0 3 head body before c.write_at.new.out c.write_entries.new.out refl (omega arith) (rw c.before_entries.ensures at c.write_at.ensures) c.write_entries.ensures in
     let ending : c.write_at-2.new.out ≡ overwritten (8 + 3 * length entries - 5) tail c.write_entries.new.out =
-    rw c.to_be_bytes.ensures at c.write_at-2.ensures in
+    rw c.status_and_stamp.ensures at c.write_at-2.ensures in
     let after : c.write_at-2.new.out ≡ overwritten 0 ((head ++ body) ++ tail) before =
     overwritten-more 0 (8 + 3 * length entries - 5) (head ++ body) tail before c.write_entries.new.out c.write_at-2.new.out (omega arith) (omega arith) with_body ending in
     writes-whole (182 ∷ c.args.block ∷ length (read_entries entries) ∷ (body ++ tail)) before c.write_at-2.new.out (8 + 3 * length entries) (omega arith) (omega arith)

@@ -25,6 +25,6 @@ returns-clause-written c are =
     let count = long items in
     let after : c.write_items.new.out ≡ overwritten 0 (51 ∷ length items ∷ body) c.args.out.now =
     overwritten-more 0 2 (51 ∷ length items ∷ []) body c.args.out.now c.write_at.new.out c.write_items.new.out
-    refl (omega arith) c.write_at.ensures c.write_items.ensures in
+    refl (omega arith) (rw c.before_items.ensures at c.write_at.ensures) c.write_items.ensures in
     writes-whole (51 ∷ length (read_items items) ∷ body) c.args.out.now c.write_items.new.out (2 + 3 * length items) (omega arith) (omega arith)
     (after ∙ ap (λ n. overwritten 0 (51 ∷ n ∷ body) c.args.out.now) (sym (length-map items read_item)))

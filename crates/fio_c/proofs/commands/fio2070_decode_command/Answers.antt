@@ -6,4 +6,4 @@ use Rattle.fio_c.proofs.commands.fio2070_decode_command.Goals as goal
 pub fault_from-requires : goal.fault_from-requires
 fault_from-requires c =
     let octets = octets_from_each c.args.octets.now (λ i. omega (arith, c.type_inv.octets i)) in
-    command-need_fits c.args.octets.now octets c.in-Err.error ((c.decode_command.ensures.refused c.in-Err.error).0 c.in-Err.is)
+    command-need_fits c.args.octets.now octets c.in-Err.error ((c.read_command.ensures.refused c.in-Err.error).0 c.in-Err.is)

@@ -1,5 +1,4 @@
 use Rattle.std.proofs.Common.{◌≡◌, ℕ, true, false, leb, ltb, rules, arith}
-use Rattle.std.specs.List.{list_all}
 use Rattle.std.proofs.lemmas.Bool.Decides.{nat_tests}
 use Rattle.fio_c.specs.Flat.{can_be_named}
 use Rattle.fio_c.proofs.Found.{all_pass-none}
@@ -9,8 +8,8 @@ use Rattle.fio_c.proofs.filters.fio2070_filters_configure.Goals as goal
 below : (input : ℕ) → leb 64 input ≡ false → ltb input 128 ≡ true
 below input h = grind (arith, nat_tests)
 
-pub unreachable-requires : goal.unreachable-requires
-unreachable-requires c =
-    let all : list_all (λ item. can_be_named item.input) c.args.items.now ≡ true =
-    all_pass-none (λ item. leb 64 item.input) (λ item. can_be_named item.input) (λ item. below item.input) c.args.items.now (search rules) in
-    search (rules, all)
+pub invariant_of-configure_from : goal.invariant_of-configure_from
+invariant_of-configure_from c =
+    record {
+      named = all_pass-none (λ item. leb 64 item.input) (λ item. can_be_named item.input) (λ item. below item.input) c.args.items.now (search rules);
+    }

@@ -1,21 +1,12 @@
-use Rattle.std.proofs.Common.{arith, rules}
+use Rattle.std.proofs.Common.{sym, ◌∙◌, arith}
+use Rattle.fio_message.specs.Decoding.{decoded_answer}
 use Rattle.fio_message.proofs.Numbers.{octets_from_each}
-use Rattle.fio_cpu.proofs.HearingLaws.{block_in-accepted, block_in-refused, heard_as-accepted}
+use Rattle.fio_cpu.proofs.HearingLaws.{unreadable-refused}
+use Rattle.fio_c.proofs.Needs.{decoded-need_fits}
 use Rattle.fio_c.proofs.poller.fio2070_poller_hear.Goals as goal
 
-pub hear_other-requires : goal.hear_other-requires
-hear_other-requires c =
+pub flat_heard-requires-clause-need : goal.flat_heard-requires-clause-need
+flat_heard-requires-clause-need c error is =
     let octets = octets_from_each c.args.octets.now (λ i. omega (arith, c.type_inv.octets i)) in
-    block_in-refused c.read_block.ensures.accepted octets c.in-Err.is
-
-pub returns-in-Ok : goal.returns-in-Ok
-returns-in-Ok c =
-    let octets = octets_from_each c.args.octets.now (λ i. omega (arith, c.type_inv.octets i)) in
-    rw (block_in-accepted c.read_block.ensures.accepted c.in-Ok.is)
-    (rw (heard_as-accepted c.read_block.ensures.accepted octets c.in-Ok.is c.args.poller.now.number)
-    c.hear_block.ensures)
-
-pub returns-in-Err : goal.returns-in-Err
-returns-in-Err c =
-    let octets = octets_from_each c.args.octets.now (λ i. omega (arith, c.type_inv.octets i)) in
-    rw (block_in-refused c.read_block.ensures.accepted octets c.in-Err.is) (search rules)
+    decoded-need_fits c.args.octets.now octets error
+    (unreadable-refused (decoded_answer c.args.octets.now) c.args.poller.now.number error (sym is ∙ c.in-Ok.ensures.heard))

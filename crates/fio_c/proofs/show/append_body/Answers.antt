@@ -1,4 +1,4 @@
-use Rattle.std.proofs.Common.{◌≡◌, ◌*◌, ◌<◌, ◌≤◌, ◌++◌, ◌∷◌, [], length, subst, ap, sym, ◌∙◌, arith, rules}
+use Rattle.std.proofs.Common.{◌<◌, ◌++◌, ◌∷◌, [], length, subst, ap, ◌∙◌, arith, rules}
 use Rattle.fio_show.specs.CommandLines.{body_text}
 use Rattle.fio_c.specs.Written.{Appends}
 use Rattle.fio_c.proofs.Appending.{both, length-digits, body-digits}

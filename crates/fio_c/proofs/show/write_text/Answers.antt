@@ -1,6 +1,5 @@
-use Rattle.std.proofs.Common.{◌≡◌, ◌++◌, ◌∷◌, [], drop, subst, ap, sym, ◌∙◌, Ok, Err, ◌-◌, arith, length-drop}
+use Rattle.std.proofs.Common.{◌++◌, ◌∷◌, [], drop, subst, ap, sym, ◌∙◌, ◌-◌, arith, length-drop}
 use Rattle.std.proofs.lemmas.List.{take_all}
-use Rattle.fio_message.specs.Texts.{fault_text}
 use Rattle.fio_show.specs.FrameLines.{lines_or_fault}
 use Rattle.fio_c.specs.Written.{Appends}
 use Rattle.fio_c.proofs.Appending.{both}

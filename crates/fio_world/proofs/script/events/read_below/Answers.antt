@@ -6,4 +6,4 @@ use Rattle.fio_world.proofs.script.events.read_below.Goals as goal
 pub returns-in-Some : goal.returns-in-Some
 returns-in-Some c =
     let same = (bytes_eq-Decides c.args.above.now c.args.line.now).0 (sym c.are_same.ensures ∙ c.if-are_same.true) in
-    same_line c.args.restarts c.args.number c.args.above.now c.args.line.now c.args.form c.in-Some.form c.requires c.in-Some.is same
+    same_line c.args.restarts c.args.number c.args.above.now c.args.line.now c.args.form c.in-Some.form c.requires c.in-Some.is same _

@@ -1,9 +1,9 @@
-use Rattle.std.proofs.Common.{◌≡◌, ◌<◌, sym, subst, ◌∙◌, vec_len, rules, arith}
+use Rattle.std.proofs.Common.{◌≡◌, ◌<◌, Ok, ap, sym, ◌∙◌, vec_len, rules, arith}
 use Rattle.std.proofs.lemmas.List.{length_push}
 use Rattle.std.proofs.lemmas.Result.{err_from_is_err_and}
 use Rattle.fio_world.proofs.ReadingLemmas.{read_on-start, read_on-end, read_on-event, read_on-fault, read_on-full, HaveRead-start, HaveRead-event, good_front, no_memory, more_than_none, is_read_as}
-use Rattle.fio_world.specs.EventLines.{IsReadAs}
 use Rattle.fio_world.specs.Lines.{lines_of}
+use Rattle.fio_world.specs.Steps.{event_of}
 use Rattle.fio_world.specs.declared.script.events.TheConstants.{MAX_EVENTS}
 use Rattle.fio_world.proofs.script.events.read_steps.Goals as goal
 
@@ -28,8 +28,8 @@ lines-preserved c =
           (HaveRead-event _ _ _ _ _ _ _ c.lines.invariant.front c.in-Some.ensures.steps gives);
       few = omega (arith, few, c.in_ok-push.ensures.len);
       above =
-          subst (IsReadAs c.args.restarts c.in-Some.line.now) (sym c.step.view_is)
-          (is_read_as c.args.restarts c.in-Some.number c.in-Some.line.now c.in_ok-step.step gives);
+          is_read_as c.args.restarts c.in-Some.number c.in-Some.line.now
+          (event_of c.step.inside.form) c.step.inside.is_event (gives ∙ ap Ok (sym c.step.view_is));
     }
 
 pub returns-then-len-eq-MAX_EVENTS-clause-err : goal.returns-then-len-eq-MAX_EVENTS-clause-err

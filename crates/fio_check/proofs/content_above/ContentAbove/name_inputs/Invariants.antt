@@ -1,0 +1,7 @@
+use Rattle.std.proofs.Common.{◌≡◌}
+use Rattle.fio_message.specs.Views.{items_of}
+use Rattle.fio_check.specs.ContentKept.{facts_kept, filters_added}
+use Rattle.fio_check.proofs.content_above.ContentAbove.name_inputs.Given as goal
+
+abbrev pub invariant-items : goal.invariant-items
+invariant-items l = filters_added (facts_kept l.self) l.item-iterator ≡ filters_added (facts_kept l.fn.self) (items_of l.fn.items)

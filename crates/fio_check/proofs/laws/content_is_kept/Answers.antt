@@ -1,0 +1,5 @@
+use Rattle.fio_check.proofs.ContentPlaces.{content_is_kept}
+use Rattle.fio_check.proofs.laws.content_is_kept.Goals as goal
+
+pub returns : goal.returns
+returns c = content_is_kept

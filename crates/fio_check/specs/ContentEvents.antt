@@ -1,0 +1,126 @@
+-- What the rules on content read of a transcript: its events, in order. They are those of a CPU's end that starts at the
+-- first poll with the number of that poll, takes each block answer with its number, and then goes on to the next
+-- number.
+use Rattle.std.specs.Prelude.{ℕ, ◌+◌, ◌%◌, ◌==◌, Bool, not, List, [], ◌∷◌, ◌++◌, map, Option, Some, None, option_map, slice_get, if◌then◌else◌}
+use Rattle.std.specs.List.{flat_map}
+use Rattle.fio_message.specs.Blocks.{Block}
+use Rattle.fio_message.specs.Status.{says_error, says_more}
+use Rattle.fio_message.specs.declared.answers.Answer.{Answer}
+use Rattle.fio_message.specs.declared.answers.Answer.TheVariants as answers
+use Rattle.fio_message.specs.declared.commands.Command.{Command}
+use Rattle.fio_message.specs.declared.commands.Command.TheVariants as commands
+use Rattle.fio_message.specs.declared.fields.InputItem.{InputItem}
+use Rattle.fio_cpu.specs.Record.{recorded}
+use Rattle.fio_cpu.specs.declared.record.Item.{Item}
+use Rattle.fio_check.specs.Lines.{TranscriptLine, command_from, answer_from}
+use Rattle.fio_check.specs.Places.{is_some_and}
+
+-- what the CPU's end does: it sends a poll with its number, a load of the counter, or a configuration with these items; it
+-- hears that a configuration was taken; it records an item of a block; or it has recorded all of a block, with C or
+-- without
+pub data ContentEvent : Type 0 where
+  Polled : ContentEvent
+  Loaded : ContentEvent
+  Configured : (items : List InputItem) → ContentEvent
+  Accepted : ContentEvent
+  Recorded : (item : Item) → ContentEvent
+  Ended : (more : Bool) → ContentEvent
+
+-- ---- one frame, by the CPU's number above it, if there is a poll above
+
+-- a block answer with the CPU's number is taken
+abbrev pub is_taken : Option ℕ → ℕ → Bool
+is_taken number block = is_some_and number (λ due. block == due)
+
+-- a poll with another number than the CPU's
+abbrev pub is_other_poll : Option ℕ → ℕ → Bool
+is_other_poll number polled = is_some_and number (λ due. not (polled == due))
+
+-- the number below a command: that of the first poll
+abbrev pub number_with_command : Option ℕ → Command → Option ℕ
+number_with_command None (commands.Poll polled) = Some polled
+number_with_command number command = number
+
+-- the number below an answer: the next one below a block that is taken
+abbrev pub number_with_answer : Option ℕ → Answer → Option ℕ
+number_with_answer number (answers.Block block entries status stamp) =
+    if is_taken number block then Some ((block + 1) % 256) else number
+number_with_answer number answer = number
+
+-- the events of a command
+abbrev pub events_of_command : Option ℕ → Command → List ContentEvent
+events_of_command number (commands.Poll polled) =
+    if is_other_poll number polled then [] else Polled ∷ []
+events_of_command number (commands.LoadCounter load) = Loaded ∷ []
+events_of_command number (commands.ConfigureInputs items) = Configured items.items ∷ []
+events_of_command number command = []
+
+-- the events of a block that is taken: its items are recorded, and then it has ended
+abbrev pub events_of_block : Block → List ContentEvent
+events_of_block block = map Recorded (recorded block) ++ (Ended (says_more block.status) ∷ [])
+
+-- the events of an answer
+abbrev pub events_of_answer : Option ℕ → Answer → List ContentEvent
+events_of_answer number (answers.ConfigureInputs status) =
+    if says_error status then [] else Accepted ∷ []
+events_of_answer number (answers.Block block entries status stamp) = if is_taken number block
+    then events_of_block (record { number = block; entries = entries.items; status = status; stamp = stamp })
+    else []
+events_of_answer number answer = []
+
+-- by the command that a frame sends, or the answer that it has
+abbrev pub number_with : Option ℕ → Option Command → Option Answer → Option ℕ
+number_with number (Some command) heard = number_with_command number command
+number_with number None (Some answer) = number_with_answer number answer
+number_with number None None = number
+
+-- the same of the events
+abbrev pub events_of : Option ℕ → Option Command → Option Answer → List ContentEvent
+events_of number (Some command) heard = events_of_command number command
+events_of number None (Some answer) = events_of_answer number answer
+events_of number None None = []
+
+-- the number below a frame, by whether the CPU sent it
+abbrev pub number_below : Option ℕ → Bool → List ℕ → Option ℕ
+number_below number from_cpu octets =
+    number_with number (command_from from_cpu octets) (answer_from from_cpu octets)
+
+-- the events of the frame
+abbrev pub events_in : Option ℕ → Bool → List ℕ → List ContentEvent
+events_in number from_cpu octets =
+    events_of number (command_from from_cpu octets) (answer_from from_cpu octets)
+
+-- ---- all lines
+
+-- an event, and the number of its line
+pub record LineEvent : Type 0 where
+  pub line : ℕ
+  pub event : ContentEvent
+
+-- the events of a line
+abbrev pub events_on : Option ℕ → TranscriptLine → List LineEvent
+events_on number line = map (λ event. record { line = line.number; event = event })
+    (events_in number line.from_cpu line.octets)
+
+-- the events of lines, by the CPU's number above them
+abbrev pub events_below : Option ℕ → List TranscriptLine → List LineEvent
+events_below number [] = []
+events_below number (line ∷ lines) =
+    events_on number line ++ events_below (number_below number line.from_cpu line.octets) lines
+
+-- the events of a transcript
+abbrev pub events_of_lines : List TranscriptLine → List LineEvent
+events_of_lines lines = events_below None lines
+
+-- the event at a place, where there is one; the first has place 0
+abbrev pub event_at : List LineEvent → ℕ → Option ContentEvent
+event_at events place = option_map (λ found. found.event) (slice_get events place)
+
+-- an event's item, if it records one
+abbrev pub item_of_event : ContentEvent → List Item
+item_of_event (Recorded item) = item ∷ []
+item_of_event event = []
+
+-- the items that events record, in order
+abbrev pub items_in : List LineEvent → List Item
+items_in events = flat_map (λ found. item_of_event found.event) events

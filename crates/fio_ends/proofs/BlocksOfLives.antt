@@ -1,0 +1,169 @@
+-- What the rules ask of blocks: how many entries each has, and that the one after a block with C has some.
+use Rattle.std.proofs.Common.{◌≡◌, ◌∙◌, ◌+◌, ◌-◌, ◌<◌, ◌≤◌, inl, inr, min, ℕ, zero, suc, Bool, true, false, List, [], ◌∷◌, ◌++◌, length, drop, Option, Some, None, ap, sym, subst, arith, length-take, length-drop, length-append, if◌then◌else◌}
+use Rattle.std.specs.Prelude.{nat_lt, slice_get}
+use Rattle.std.specs.List.{AllByRecursion}
+use Rattle.std.proofs.lemmas.Bool.Decides.{nat_tests}
+use Rattle.std.proofs.lemmas.Option.{slice_get_within}
+use Rattle.fio_message.specs.declared.commands.Command.{Command}
+use Rattle.fio_message.specs.declared.commands.Command.TheVariants.{Poll}
+use Rattle.fio_input.specs.FilterHistory.{is_reported}
+use Rattle.fio_module.specs.Settings.{Settings}
+use Rattle.fio_module.specs.Life.{Life, Scanned, Commanded, life_after_command, filter_events}
+use Rattle.fio_module.specs.Log.{Transition, log_of, transition_at, transitions_below}
+use Rattle.fio_module.specs.Blocks.{MadeBlock, latest_poll, is_new, blocks_of, end_of_blocks, newest_end, next_block, start_after, count_from}
+use Rattle.fio_module.proofs.BlockLaws.{losses_leave_more}
+use Rattle.fio_module.proofs.Ends.{last_end-append}
+use Rattle.fio_world.proofs.Places.{get_after_push, get_before_push}
+use Rattle.fio_world.proofs.MadeBlocks.{each-append, each-take, each-drop, each_block}
+
+-- a transition of an input that a module has
+abbrev pub HasInput : Transition → Type 0
+HasInput transition = transition.input < 64
+
+-- a block that keeps the limits: F implies C, C implies that it is full, and all its inputs are there
+pub record KeepsLimits (per_block : ℕ) (block : MadeBlock) : Type 0 where
+  pub lost : block.lost ≡ true → block.more ≡ true
+  pub more : block.more ≡ true → length block.transitions ≡ per_block
+  pub inputs : AllByRecursion HasInput block.transitions
+
+one_input : (reported : Bool) (life : Life) (input : ℕ) → input < 64
+    → AllByRecursion HasInput (if reported then transition_at life input ∷ [] else [])
+one_input true life input low = (low, tt)
+one_input false life input low = tt
+
+below_inputs : (count raw : ℕ) (life : Life) → count ≤ 64
+    → AllByRecursion HasInput (transitions_below count raw life)
+unfolding transitions_below
+below_inputs zero raw life low = tt
+below_inputs (suc input) raw life low =
+    each-append HasInput (transitions_below input raw life) _ (below_inputs input raw life (omega arith))
+    (one_input (is_reported input raw (filter_events life)) (Scanned raw ∷ life) input (omega arith))
+
+-- the log has transitions of such inputs alone
+log_inputs : (life : Life) → AllByRecursion HasInput (log_of life)
+log_inputs [] = tt
+log_inputs (Scanned raw ∷ life) =
+    each-append HasInput (log_of life) _ (log_inputs life) (below_inputs 64 raw life (omega arith))
+log_inputs (other ∷ life) = log_inputs life
+
+full_if : (per_block left : ℕ) → nat_lt per_block left ≡ true → min per_block left ≡ per_block
+full_if per_block left more = grind (arith, nat_tests)
+
+-- the block that a new poll makes next keeps them
+next_keeps : (settings : Settings) → settings.per_block < settings.waiting → (life : Life)
+    → KeepsLimits settings.per_block (next_block settings life)
+next_keeps settings fewer life =
+    let log = log_of life in
+    let start = start_after settings log (newest_end settings life) in
+    let count = count_from settings log start in
+    record {
+      lost = losses_leave_more settings life fewer;
+      more = λ more.
+          (let full : count ≡ settings.per_block = full_if settings.per_block (length log - start) more in
+          let over : settings.per_block < length log - start = grind (arith, nat_tests) in
+          omega (arith, length-take count (drop start log), length-drop start log));
+      inputs = each-take HasInput count (drop start log) (each-drop HasInput start log (log_inputs life));
+    }
+
+-- and so does each block of a life
+pub blocks_keep : (settings : Settings) → settings.per_block < settings.waiting → (life : Life)
+    → AllByRecursion (KeepsLimits settings.per_block) (blocks_of settings life)
+blocks_keep settings fewer life =
+    each_block (KeepsLimits settings.per_block) settings (next_keeps settings fewer) life
+
+-- ---- after a block with C
+
+-- the block after one with C has entries, and where the newest block has C the log goes on behind it
+pub record LeavesSome (blocks : List MadeBlock) (logged : ℕ) : Type 0 where
+  pub next : (k : ℕ) (block later : MadeBlock) → slice_get blocks k ≡ Some block
+      → slice_get blocks (k + 1) ≡ Some later → block.more ≡ true → 1 ≤ length later.transitions
+  pub newest : (k : ℕ) (block : MadeBlock) → slice_get blocks k ≡ Some block → length blocks ≡ k + 1
+      → block.more ≡ true → end_of_blocks blocks < logged
+
+leaves_longer : (blocks : List MadeBlock) (logged longer : ℕ) → logged ≤ longer → LeavesSome blocks logged
+    → LeavesSome blocks longer
+leaves_longer blocks logged longer le leaves =
+    record { next = leaves.next; newest = λ k block at last more. omega (arith, leaves.newest k block at last more) }
+
+module _ (settings : Settings) (some : 1 ≤ settings.per_block) (room : 1 ≤ settings.waiting) (life : Life)
+    (leaves : LeavesSome (blocks_of settings life) (length (log_of life))) where
+  abbrev made : MadeBlock
+  made = next_block settings life
+
+  abbrev start : ℕ
+  start = start_after settings (log_of life) (newest_end settings life)
+
+  -- the next block takes some where the log goes on behind the newest
+  takes_some : newest_end settings life < length (log_of life) → 1 ≤ length made.transitions
+  takes_some less =
+      let log = log_of life in
+      let count = count_from settings log start in
+      omega (arith, length-take count (drop start log), length-drop start log)
+
+  -- and where it has C the log goes on behind it
+  goes_on : made.more ≡ true → made.end < length (log_of life)
+  goes_on more =
+      let over : settings.per_block < length (log_of life) - start = grind (arith, nat_tests) in
+      omega arith
+
+  leaves_new : LeavesSome (blocks_of settings life ++ made ∷ []) (length (log_of life))
+  leaves_new =
+      let blocks = blocks_of settings life in
+      let count : length (blocks ++ made ∷ []) ≡ length blocks + 1 = length-append blocks (made ∷ []) in
+      record {
+        next = λ k block later at after more.
+            elim (get_after_push blocks made (k + 1) later after) as (λ _. 1 ≤ length later.transitions) [
+              | inl old ↦ elim (get_after_push blocks made k block at) as (λ _. 1 ≤ length later.transitions) [
+                | inl older ↦ leaves.next k block later older old more
+                | inr new ↦ absurd (omega (arith, new.0, slice_get_within blocks (k + 1) later old))
+              ]
+              | inr new ↦ elim (get_after_push blocks made k block at) as (λ _. 1 ≤ length later.transitions) [
+                | inl older ↦
+                    subst (λ (m : MadeBlock). 1 ≤ length m.transitions) (sym new.1)
+                    (takes_some (leaves.newest k block older (sym new.0) more))
+                | inr newer ↦ absurd (omega (arith, new.0, newer.0))
+              ]
+            ];
+        newest = λ k block at last more.
+            elim (get_after_push blocks made k block at) as (λ _. end_of_blocks (blocks ++ made ∷ []) < length (log_of life)) [
+              | inl older ↦ absurd (omega (arith, slice_get_within blocks k block older))
+              | inr new ↦
+                  rw (last_end-append 0 blocks made)
+                  (goes_on (ap (λ (m : MadeBlock). m.more) (sym new.1) ∙ more))
+            ];
+      }
+
+  leaves_if : (new : Bool)
+      → LeavesSome (if new then blocks_of settings life ++ made ∷ [] else blocks_of settings life) (length (log_of life))
+  leaves_if true = leaves_new
+  leaves_if false = leaves
+
+-- so it is in each life
+pub blocks_leave : (settings : Settings) → 1 ≤ settings.per_block → 1 ≤ settings.waiting → (life : Life)
+    → LeavesSome (blocks_of settings life) (length (log_of life))
+blocks_leave settings some room [] =
+    record { next = λ k block later at after more. absurd (cc at); newest = λ k block at last more. absurd (cc at) }
+blocks_leave settings some room (Commanded (Poll number) ∷ life) =
+    leaves_if settings some room life (blocks_leave settings some room life) (is_new (latest_poll life) number)
+blocks_leave settings some room (Scanned raw ∷ life) =
+    let longer : length (log_of life) ≤ length (log_of life ++ transitions_below 64 raw life) =
+    omega (arith, length-append (log_of life) (transitions_below 64 raw life)) in
+    leaves_longer (blocks_of settings life) (length (log_of life)) (length (log_of life ++ transitions_below 64 raw life)) longer
+    (blocks_leave settings some room life)
+blocks_leave settings some room (other ∷ life) = blocks_leave settings some room life
+
+-- ---- what stands stays
+
+-- a block that was made stays where it is
+made_stays : (new : Bool) (blocks : List MadeBlock) (added block : MadeBlock) (k : ℕ) → slice_get blocks k ≡ Some block
+    → slice_get (if new then blocks ++ added ∷ [] else blocks) k ≡ Some block
+made_stays true blocks added block k at = get_before_push blocks (added ∷ []) k block at
+made_stays false blocks added block k at = at
+
+pub blocks_stay : (settings : Settings) (life : Life) (command : Option Command) (k : ℕ) (block : MadeBlock)
+    → slice_get (blocks_of settings life) k ≡ Some block
+    → slice_get (blocks_of settings (life_after_command command life)) k ≡ Some block
+blocks_stay settings life None k block at = at
+blocks_stay settings life (Some (Poll number)) k block at =
+    made_stays (is_new (latest_poll life) number) (blocks_of settings life) (next_block settings life) block k at
+blocks_stay settings life (Some other) k block at = at

@@ -1,0 +1,83 @@
+-- What is to be shown of an invariant, event by event, so that a rule on content never accuses.
+use Rattle.std.proofs.Common.{◌≡◌, ◌+◌, ◌<◌, ℕ, true, List, ◌++◌, length, Some, None}
+use Rattle.std.specs.Prelude.{fold, slice_get}
+use Rattle.arrayvec.specs.ArrayVec.{ArrayVec}
+use Rattle.fio_message.specs.declared.commands.Command.{Command}
+use Rattle.fio_message.specs.declared.commands.Command.TheVariants as commands
+use Rattle.fio_message.specs.declared.fields.InputItem.{InputItem}
+use Rattle.fio_message.specs.Blocks.{Block}
+use Rattle.fio_message.specs.Commands.{IsCommand}
+use Rattle.fio_message.specs.Decoding.{command_in}
+use Rattle.fio_input.specs.FilterHistory.{all_present}
+use Rattle.fio_module.specs.Settings.{Settings}
+use Rattle.fio_module.specs.Blocks.{MadeBlock}
+use Rattle.fio_module.specs.Life as module_events
+use Rattle.fio_check.specs.ContentAbove.{ContentFacts, content_with, no_content}
+use Rattle.fio_check.specs.ContentEvents.{Accepted, Polled, events_of_block, events_of_command}
+use Rattle.fio_check.specs.declared.content_rules.ContentRule.{ContentRule}
+use Rattle.fio_world.specs.Link.{Sent, Machine, start, number_of, happened, sending_refusal, sent, received}
+use Rattle.fio_world.specs.Frames.{HasBlock}
+use Rattle.fio_world.specs.Claims.{blocks_in, sources_of}
+use Rattle.fio_world.specs.Rounds.{CarriesBlock}
+use Rattle.fio_world.proofs.HeardRows.{after_taken}
+use Rattle.fio_world.proofs.OneLifeRows.{IsKept}
+use Rattle.fio_ends.specs.ContentRuns.{HaveTimesFor, sources_taken}
+use Rattle.fio_ends.proofs.ContentLines.{EntriesKeep}
+
+-- an event that reaches the module past the bus, and is no restart
+abbrev pub IsPastBus : module_events.Event → Type 0
+IsPastBus (module_events.Scan raw) = Unit {0}
+IsPastBus module_events.LineSync = Unit {0}
+IsPastBus (module_events.Raise mask) = Unit {0}
+IsPastBus other = ⊥
+
+-- the frame sent last spells this command
+pub record IsSentLast (frames : List Sent) (command : Command) : Type 0 where
+  pub place : ℕ
+  pub frame : Sent
+  pub last : length frames ≡ place + 1
+  pub at_place : slice_get frames place ≡ Some frame
+  pub spells : command_in frame.octets ≡ Some command
+
+-- the frame sent last is a configuration with these items; the module has received it, and has taken it
+pub record HasTaken (machine : Machine) (items : ArrayVec InputItem) : Type 0 where
+  pub sent_last : IsSentLast machine.to_module (commands.ConfigureInputs items)
+  pub received : machine.last_to_module ≡ length machine.to_module
+  pub present : all_present items.items ≡ true
+
+-- the CPU takes a block of the module: this answer carries it
+pub record Takes (settings : Settings) (machine : Machine) (place : ℕ) (answer : Block) (block : MadeBlock) : Type 0 where
+  pub heard : HasBlock machine.to_cpu place answer machine.round
+  pub made : slice_get (blocks_in settings machine) machine.round ≡ Some block
+  pub carried : CarriesBlock answer block
+
+-- an invariant of machines and what is known of content above, which holds along each prompt run, and by which
+-- each entry keeps the rule
+pub record IsInvariant (settings : Settings) (first : ℕ) (rule : ContentRule) (P : Machine → ContentFacts → Type 0) : Type 0 where
+  pub starts : P start no_content
+  -- a scan, a line sync or raised flags
+  pub happens : (machine : Machine) (facts : ContentFacts) (event : module_events.Event) → IsKept settings first machine
+      → IsPastBus event → P machine facts → P (happened machine event) facts
+  -- a poll is sent
+  pub polls : (machine : Machine) (facts : ContentFacts) → IsKept settings first machine → P machine facts
+      → P (sent machine (commands.Poll (number_of first machine.round))) (content_with facts Polled)
+  -- another command is sent
+  pub sends : (machine : Machine) (facts : ContentFacts) (command : Command) → IsKept settings first machine
+      → sending_refusal command ≡ None → IsCommand command → P machine facts
+      → P (sent machine command) (fold content_with facts (events_of_command None command))
+  -- the module receives a frame
+  pub receives : (machine : Machine) (facts : ContentFacts) (place : ℕ) (frame : Sent) → IsKept settings first machine
+      → machine.last_to_module < place + 1 → slice_get machine.to_module place ≡ Some frame → P machine facts
+      → P (received settings machine (place + 1) (Some frame)) facts
+  -- the CPU hears an answer that is no event of content
+  pub passes : (machine : Machine) (facts : ContentFacts) (index : ℕ) → IsKept settings first machine
+      → P machine facts → P (record machine { last_to_cpu = index }) facts
+  -- the CPU hears that a configuration was taken
+  pub accepts : (machine : Machine) (facts : ContentFacts) (index : ℕ) (items : ArrayVec InputItem) → IsKept settings first machine
+      → HasTaken machine items → P machine facts → P (record machine { last_to_cpu = index }) (content_with facts Accepted)
+  -- the CPU takes a block
+  pub takes : (machine : Machine) (facts : ContentFacts) (place : ℕ) (answer : Block) (block : MadeBlock) → IsKept settings first machine
+      → Takes settings machine place answer block → facts.asking ≡ true
+      → HaveTimesFor rule (sources_taken settings machine ++ sources_of block) → P machine facts
+      → EntriesKeep rule facts (events_of_block answer)
+      × P (after_taken machine place answer) (fold content_with facts (events_of_block answer))

@@ -1,0 +1,89 @@
+-- What the CPU hears of the answer to a command that is no poll.
+use Rattle.std.proofs.Common.{◌≡◌, ◌∙◌, ◌&&◌, ◌||◌, ℕ, Bool, true, false, List, [], ◌∷◌, Some, None, refl, ap, subst, arith}
+use Rattle.std.specs.Prelude.{not, nat_le, nat_lt}
+use Rattle.std.specs.List.{list_all, list_any}
+use Rattle.std.proofs.lemmas.Option.{same_Some}
+use Rattle.std.proofs.lemmas.Bool.Decides.{nat_tests}
+use Rattle.fio_message.specs.declared.answers.Answer.{Answer}
+use Rattle.fio_message.specs.declared.commands.Command.{Command}
+use Rattle.fio_message.specs.declared.commands.Command.TheVariants as commands
+use Rattle.fio_message.specs.declared.fields.InputItem.{InputItem}
+use Rattle.fio_message.specs.Answers.{answer_octets}
+use Rattle.fio_message.specs.Decoding.{message_in, polled_number}
+use Rattle.fio_message.specs.Status.{says_error, error_status}
+use Rattle.fio_message.proofs.StatusBits.{error_back}
+use Rattle.fio_input.specs.FilterHistory.{all_present}
+use Rattle.fio_module.specs.Settings.{Settings}
+use Rattle.fio_module.specs.Life.{Life}
+use Rattle.fio_module.specs.Replies.{answer_to}
+use Rattle.fio_check.specs.Observations.{answer_type_to, is_absent, names_absent, observation_in}
+use Rattle.fio_check.specs.declared.observation.Observation.TheVariants as seen
+
+-- the octets are heard as an answer of the command's type, which does not say that a configuration was
+-- taken that names an absent input
+pub record IsHeardAs (command : Command) (octets : List ℕ) : Type 0 where
+  pub accepted : Bool
+  pub heard : observation_in false octets ≡ seen.Answer (answer_type_to command) accepted
+  pub fair : (accepted && names_absent command) ≡ false
+
+-- of an input that is there, or not
+pub present-if : (there : Bool) (input : ℕ) → nat_lt input 64 ≡ there → nat_le 64 input ≡ not there
+present-if true input is = grind (arith, nat_tests)
+present-if false input is = grind (arith, nat_tests)
+
+absent-if : (there all any : Bool) → (all && any) ≡ false → ((there && all) && (not there || any)) ≡ false
+absent-if true all any apart = apart
+absent-if false all any apart = refl
+
+-- a configuration that is applied names no absent input
+present_or_absent : (items : List InputItem)
+    → (list_all (λ item. nat_lt item.input 64) items && list_any (λ item. is_absent item.input) items) ≡ false
+present_or_absent [] = refl
+present_or_absent (item ∷ items) =
+    let there = nat_lt item.input 64 in
+    let all = list_all (λ item. nat_lt item.input 64) items in
+    let any = list_any (λ item. is_absent item.input) items in
+    ap (λ absent. (there && all) && (absent || any)) (present-if there item.input refl)
+    ∙ absent-if there all any (present_or_absent items)
+
+-- it is said to be taken where it is applied
+accepted_is : (applied : Bool) → not (says_error (error_status (not applied))) ≡ applied
+accepted_is true = ap not (error_back false)
+accepted_is false = ap not (error_back true)
+
+-- octets are heard so where they spell such an answer
+pub heard_as : (settings : Settings) (life : Life) (command : Command) (answer : Answer) → polled_number (Some command) ≡ None
+    → answer_to settings life command ≡ Some answer → IsHeardAs command (answer_octets answer)
+unfolding message_in
+heard_as settings life (commands.Poll number) answer none is = absurd (cc none)
+heard_as settings life (commands.Other kind body) answer none is = absurd (cc is)
+heard_as settings life (commands.ConfigureInputs items) answer none is =
+    let applied = all_present items.items in
+    subst (λ a. IsHeardAs (commands.ConfigureInputs items) (answer_octets a)) (same_Some _ _ is)
+    (record {
+      accepted = not (says_error (error_status (not applied)));
+      heard = refl;
+      fair = ap (λ accepted. accepted && names_absent (commands.ConfigureInputs items)) (accepted_is applied)
+          ∙ present_or_absent items.items;
+    })
+heard_as settings life (commands.Status clear) answer none is =
+    subst (λ a. IsHeardAs (commands.Status clear) (answer_octets a)) (same_Some _ _ is)
+    (record { accepted = false; heard = refl; fair = refl })
+heard_as settings life (commands.LoadCounter load) answer none is =
+    subst (λ a. IsHeardAs (commands.LoadCounter load) (answer_octets a)) (same_Some _ _ is)
+    (record { accepted = false; heard = refl; fair = refl })
+heard_as settings life commands.RawInputs answer none is =
+    subst (λ a. IsHeardAs commands.RawInputs (answer_octets a)) (same_Some _ _ is)
+    (record { accepted = false; heard = refl; fair = refl })
+heard_as settings life commands.FilteredInputs answer none is =
+    subst (λ a. IsHeardAs commands.FilteredInputs (answer_octets a)) (same_Some _ _ is)
+    (record { accepted = false; heard = refl; fair = refl })
+heard_as settings life (commands.SetOutputs levels controls) answer none is =
+    subst (λ a. IsHeardAs (commands.SetOutputs levels controls) (answer_octets a)) (same_Some _ _ is)
+    (record { accepted = false; heard = refl; fair = refl })
+heard_as settings life (commands.Watchdog timeout) answer none is =
+    subst (λ a. IsHeardAs (commands.Watchdog timeout) (answer_octets a)) (same_Some _ _ is)
+    (record { accepted = false; heard = refl; fair = refl })
+heard_as settings life commands.Identify answer none is =
+    subst (λ a. IsHeardAs commands.Identify (answer_octets a)) (same_Some _ _ is)
+    (record { accepted = false; heard = refl; fair = refl })

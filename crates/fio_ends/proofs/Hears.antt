@@ -1,0 +1,278 @@
+-- The CPU hears the answer that is due: its line breaks no rule.
+use Rattle.std.proofs.Common.{◌≡◌, ◌∙◌, ◌+◌, ◌%◌, ◌<◌, ◌≤◌, ◌&&◌, ◌||◌, inl, inr, ℕ, Bool, true, false, List, [], ◌∷◌, length, map, Option, Some, None, refl, ap, sym, subst, arith, if◌then◌else◌}
+use Rattle.std.specs.Prelude.{◌==◌, is_some, not, nat_le, option_map, slice_get}
+use Rattle.std.specs.List.{AllByRecursion, list_any}
+use Rattle.std.specs.Option.{option_map_or}
+use Rattle.std.proofs.lemmas.Bool.Decides.{nat_tests}
+use Rattle.std.proofs.lemmas.List.{length-map}
+use Rattle.std.proofs.lemmas.Option.{same_Some}
+use Rattle.fio_message.specs.declared.answers.Answer.{Answer}
+use Rattle.fio_message.specs.declared.answers.Answer.TheVariants as answers
+use Rattle.fio_message.specs.declared.commands.Command.{Command}
+use Rattle.fio_message.specs.declared.commands.Command.TheVariants as commands
+use Rattle.fio_message.specs.Blocks.{Block as BlockOf}
+use Rattle.fio_message.specs.Decoding.{answer_in, answered_block, block_in}
+use Rattle.fio_message.specs.Status.{says_again, says_lost, says_more}
+use Rattle.fio_module.specs.Settings.{Settings, AreInRange}
+use Rattle.fio_module.specs.Life.{Life, life_of}
+use Rattle.fio_module.specs.Log.{Transition, entry_of}
+use Rattle.fio_module.specs.Blocks.{MadeBlock, blocks_of}
+use Rattle.fio_check.specs.Facts.{facts_with}
+use Rattle.fio_check.specs.Observations.{answer_type_to, is_absent, observation_in, observation_of}
+use Rattle.fio_check.specs.Rules.{first_broken, is_overfull}
+use Rattle.fio_check.specs.declared.facts.Facts.{Facts}
+use Rattle.fio_check.specs.declared.observation.Observation.TheVariants as seen
+use Rattle.fio_world.specs.declared.event.Event.TheVariants.{ToCpu}
+use Rattle.fio_world.specs.Link.{Sent, Machine, number_of, heard_block, heard, refusal, after, item_numbered}
+use Rattle.fio_world.specs.Frames.{HasBlock}
+use Rattle.fio_world.specs.Rounds.{next_round, CarriesBlockOf}
+use Rattle.fio_world.proofs.RoundNumbers.{number_of-next}
+use Rattle.fio_world.proofs.MadeBlocks.{each-at}
+use Rattle.fio_world.proofs.HeardRows.{after_taken, same_round}
+use Rattle.fio_world.proofs.Rows.{after_delivery}
+use Rattle.fio_world.proofs.OneLifeRows.{IsKept, carries_own}
+use Rattle.fio_ends.specs.Transcripts.{frame_heard}
+use Rattle.fio_ends.proofs.Rules.{KeepsRules, no_rule_broken}
+use Rattle.fio_ends.proofs.BlocksOfLives.{HasInput, KeepsLimits, blocks_keep, blocks_leave}
+use Rattle.fio_ends.proofs.Heard.{IsHeardAs}
+use Rattle.fio_ends.proofs.Following.{IsAsked, IsReceived, IsBlockFor, Answers, Stage, Follows, Keeps}
+
+-- ---- tests
+
+-- directly above is the command that an answer of this type answers
+is_asked : (awaited : Option ℕ) (code : ℕ) → awaited ≡ Some code
+    → not (option_map_or (λ a. a == code) awaited false) ≡ false
+is_asked awaited code is =
+    let same : (code == code) ≡ true = grind (arith, nat_tests) in
+    ap (λ a. not (option_map_or (λ b. b == code) a false)) is ∙ ap not same
+
+has_number : (polled : Option ℕ) (number n : ℕ) → polled ≡ Some number → n ≡ number
+    → option_map_or (λ p. not (n == p)) polled false ≡ false
+has_number polled number n is same =
+    let met : (n == number) ≡ true = grind (arith, nat_tests) in
+    ap (λ p. option_map_or (λ q. not (n == q)) p false) is ∙ ap not met
+
+not_both : (advanced again : Bool) → (advanced ≡ true → again ≡ false) → (again && advanced) ≡ false
+not_both true again apart = ap (λ b. b && true) (apart refl)
+not_both false true apart = refl
+not_both false false apart = refl
+
+within_limits : (lost more : Bool) (entries : ℕ) → (lost ≡ true → more ≡ true) → (more ≡ true → entries ≡ 255)
+    → ((lost && not more) || (more && not (entries == 255))) ≡ false
+within_limits true true entries implied full = let e : entries ≡ 255 = full refl in grind (arith, nat_tests)
+within_limits true false entries implied full = absurd (cc (implied refl))
+within_limits false true entries implied full = let e : entries ≡ 255 = full refl in grind (arith, nat_tests)
+within_limits false false entries implied full = refl
+
+never : (b : Bool) → (b && false) ≡ false
+never true = refl
+never false = refl
+
+has_rest : (more : Option Bool) (entries : ℕ) → (more ≡ Some true → 1 ≤ entries)
+    → ((entries == 0) && option_map_or (λ m. m) more false) ≡ false
+has_rest None entries rest = never (entries == 0)
+has_rest (Some false) entries rest = never (entries == 0)
+has_rest (Some true) entries rest =
+    let some : 1 ≤ entries = rest refl in
+    let met : (entries == 0) ≡ false = grind (arith, nat_tests) in
+    ap (λ b. b && true) met
+
+-- a module's entries name no absent input
+none_absent : (transitions : List Transition) → AllByRecursion HasInput transitions
+    → list_any (λ entry. is_absent entry.input) (map entry_of transitions) ≡ false
+none_absent [] there = refl
+none_absent (transition ∷ transitions) there =
+    let low : transition.input < 64 = there.0 in
+    let here : nat_le 64 transition.input ≡ false = grind (arith, nat_tests) in
+    ap (λ b. b || list_any (λ entry. is_absent entry.input) (map entry_of transitions)) here
+    ∙ none_absent transitions there.1
+
+-- ---- what is heard
+
+-- a block answer
+pub block_said : (answer : Option Answer) (block : BlockOf) → answered_block answer ≡ Some block
+    → observation_of None answer
+    ≡ seen.Block block.number block.status (length block.entries) (list_any (λ entry. is_absent entry.input) block.entries)
+block_said None block is = absurd (cc is)
+block_said (Some (answers.Block number entries status stamp)) block is =
+    ap (λ (b : BlockOf). seen.Block b.number b.status (length b.entries) (list_any (λ entry. is_absent entry.input) b.entries)) (same_Some _ _ is)
+block_said (Some other) block is = absurd (cc is)
+
+-- another answer
+pub no_block_said : (answer : Option Answer) (code : ℕ) (accepted : Bool) → observation_of None answer ≡ seen.Answer code accepted
+    → answered_block answer ≡ None
+no_block_said None code accepted is = refl
+no_block_said (Some (answers.Block number entries status stamp)) code accepted is = absurd (cc is)
+no_block_said (Some other) code accepted is = refl
+
+module _ (settings : Settings) (range : AreInRange settings) (first : ℕ) (machine : Machine)
+    (k : IsKept settings first machine) (due : ℕ) (facts : Facts) (f : Follows settings first machine due facts) where
+  abbrev life : Life
+  life = life_of machine.history
+
+  abbrev blocks : List MadeBlock
+  blocks = blocks_of settings life
+
+  -- ---- an answer that is no block answer
+
+  keeps_answer : (command : Command) (place : ℕ) (octets : List ℕ) → IsReceived first facts machine.to_module machine.to_cpu machine.last_to_module machine.round due command
+      → due ≤ place + 1
+      → IsHeardAs command octets
+      → Keeps settings first facts (record { from_cpu = false; octets = octets } ∷ [])
+      (heard_block first (record machine { last_to_cpu = place + 1 }) (block_in octets)) due
+  keeps_answer command place octets r past h =
+      let code = answer_type_to command in
+      let none : block_in octets ≡ None = no_block_said (answer_in octets) code h.accepted h.heard in
+      let kept : first_broken facts (seen.Answer code h.accepted) ≡ None =
+      no_rule_broken facts (seen.Answer code h.accepted) (record {
+        readable = refl;
+        pair = is_asked facts.awaited code r.asked.awaited;
+        number = refl;
+        advance = refl;
+        same = refl;
+        sequence = refl;
+        limits = refl;
+        rest = refl;
+        refusal = ap (λ named. h.accepted && named) r.asked.named ∙ h.fair;
+      }) in
+      let follows : Follows settings first (record machine { last_to_cpu = place + 1 }) due (facts_with facts (seen.Answer code h.accepted)) =
+      record {
+        number = f.number;
+        answered = f.answered;
+        more = f.more;
+        stage = inl (record { all = r.all; past = past });
+      } in
+      record {
+        rules = λ full. (ap (first_broken facts) h.heard ∙ kept, tt);
+        follows = subst (λ found. Follows settings first (heard_block first (record machine { last_to_cpu = place + 1 }) found) due (facts_with facts (observation_in false octets))) (sym none)
+            (subst (λ o. Follows settings first (record machine { last_to_cpu = place + 1 }) due (facts_with facts o)) (sym h.heard) follows);
+      }
+
+  -- ---- a block answer
+
+  -- what the rules ask of a block answer that carries the block of the CPU's round
+  block_keeps : settings.per_block ≡ 255 → (number : ℕ) (b : BlockOf) → IsAsked first facts machine.round (commands.Poll number)
+      → b.number ≡ number → (facts.advanced ≡ true → says_again b.status ≡ false)
+      → CarriesBlockOf first blocks b machine.round
+      → KeepsRules facts (seen.Block b.number b.status (length b.entries) (list_any (λ entry. is_absent entry.input) b.entries))
+  block_keeps full number b asked numbered again c =
+      let m = c.block in
+      let limits = each-at (KeepsLimits settings.per_block) blocks machine.round m
+      (blocks_keep settings (omega (arith, range.many_waiting)) life) c.is_made in
+      let leaves = blocks_leave settings range.some_per_block (omega (arith, range.many_waiting)) life in
+      let count : length b.entries ≡ length m.transitions =
+      ap length c.carried.entries ∙ length-map m.transitions entry_of in
+      let polled = asked.polled number refl in
+      record {
+        readable = refl;
+        pair = is_asked facts.awaited 182 asked.awaited;
+        number = has_number facts.polled number b.number polled.0 numbered;
+        advance = refl;
+        same = not_both facts.advanced (says_again b.status) again;
+        sequence = ap (λ out. out && (says_again b.status || is_some facts.more)) c.in_sequence;
+        limits =
+            (let over : is_overfull b.status (length b.entries) ≡ false =
+            within_limits (says_lost b.status) (says_more b.status) (length b.entries)
+            (λ lost. c.carried.more ∙ limits.lost (sym c.carried.lost ∙ lost))
+            (λ more. count ∙ limits.more (sym c.carried.more ∙ more) ∙ full) in
+            let absent : list_any (λ entry. is_absent entry.input) b.entries ≡ false =
+            ap (list_any (λ entry. is_absent entry.input)) c.carried.entries ∙ none_absent m.transitions limits.inputs in
+            ap (λ o. o || list_any (λ entry. is_absent entry.input) b.entries) over ∙ absent);
+        rest = has_rest facts.more (length b.entries) (λ is.
+            (let t = f.more true is in
+            let some = leaves.next t.earlier t.block m t.at_place (ap (slice_get blocks) (sym t.next) ∙ c.is_made) t.same in
+            omega (arith, count, some)));
+        refusal = refl;
+      }
+
+  follows-block : (number : ℕ) (place : ℕ) (b : BlockOf) (entries : ℕ) (absent : Bool) → IsReceived first facts machine.to_module machine.to_cpu machine.last_to_module machine.round due (commands.Poll number)
+      → due ≤ place + 1
+      → b.number ≡ number → CarriesBlockOf first blocks b machine.round
+      → Follows settings first (after_taken machine place b) due (facts_with facts (seen.Block b.number b.status entries absent))
+  follows-block number place b entries absent r past numbered c =
+      let polled = r.asked.polled number refl in
+      let high : next_round machine.polls ≤ machine.round + 1 = k.always.at_most in
+      record {
+        number = λ n is.
+            (let due_is : Some ((number + 1) % 256) ≡ Some n =
+            ap (option_map (λ p. (p + 1) % 256)) (sym polled.0) ∙ is in
+            sym (same_Some _ _ due_is) ∙ ap (λ p. (p + 1) % 256) polled.1 ∙ sym (number_of-next first machine.round));
+        answered = λ is.
+            record { sent = λ p n s low h. omega (arith, k.always.polls.sent p n s h); received = high };
+        more = λ m is. record {
+          earlier = machine.round;
+          block = c.block;
+          next = refl;
+          at_place = c.is_made;
+          same = sym c.carried.more ∙ same_Some _ _ is;
+        };
+        stage = inl (record { all = r.all; past = past });
+      }
+
+  keeps_block : (number : ℕ) (place : ℕ) (frame : Sent) → slice_get machine.to_cpu place ≡ Some frame
+      → machine.last_to_cpu ≤ place + 1
+      → IsReceived first facts machine.to_module machine.to_cpu machine.last_to_module machine.round due (commands.Poll number)
+      → due ≤ place + 1
+      → IsBlockFor facts number frame.octets
+      → Keeps settings first facts (record { from_cpu = false; octets = frame.octets } ∷ [])
+      (heard_block first (record machine { last_to_cpu = place + 1 }) (block_in frame.octets)) due
+  keeps_block number place frame at le r past h =
+      let b = h.block in
+      let has : HasBlock machine.to_cpu place b frame.round =
+      record { frame = frame; at_place = at; spells = h.spells; of_round = refl } in
+      let alike : b.number ≡ number_of first machine.round = h.numbered ∙ (r.asked.polled number refl).1 in
+      let same = same_round settings range first machine k.always place b frame.round le has alike in
+      let c : CarriesBlockOf first blocks b machine.round =
+      subst (CarriesBlockOf first blocks b) same (carries_own settings range first machine k.always k.one_life place b frame.round has) in
+      let entries = length b.entries in
+      let absent = list_any (λ entry. is_absent entry.input) b.entries in
+      let said : observation_in false frame.octets ≡ seen.Block b.number b.status entries absent =
+      block_said (answer_in frame.octets) b h.spells in
+      let met : (b.number == number_of first machine.round) ≡ true = grind (arith, nat_tests) in
+      let taken : heard_block first (record machine { last_to_cpu = place + 1 }) (block_in frame.octets) ≡ after_taken machine place b =
+      ap (heard_block first (record machine { last_to_cpu = place + 1 })) h.spells
+      ∙ ap (λ is. if is then after_taken machine place b else record machine { last_to_cpu = place + 1 }) met in
+      record {
+        rules = λ full. (
+          ap (first_broken facts) said
+              ∙ no_rule_broken facts (seen.Block b.number b.status entries absent)
+              (block_keeps full number b r.asked h.numbered h.again c),
+          tt,
+        );
+        follows = subst (λ m. Follows settings first m due (facts_with facts (observation_in false frame.octets))) (sym taken)
+            (subst (λ o. Follows settings first (after_taken machine place b) due (facts_with facts o)) (sym said)
+            (follows-block number place b entries absent r past h.numbered c));
+      }
+
+  -- ---- any answer
+
+  keeps_received : (command : Command) (place : ℕ) (frame : Sent) → slice_get machine.to_cpu place ≡ Some frame
+      → machine.last_to_cpu ≤ place + 1
+      → IsReceived first facts machine.to_module machine.to_cpu machine.last_to_module machine.round due command
+      → due ≤ place + 1
+      → Answers facts command frame.octets
+      → Keeps settings first facts (record { from_cpu = false; octets = frame.octets } ∷ [])
+      (heard first machine (place + 1) (Some frame)) due
+  keeps_received (commands.Poll number) place frame at le r past h = keeps_block number place frame at le r past h
+  keeps_received other place frame at le r past h = keeps_answer other place frame.octets r past h
+
+  keeps_stage : (place : ℕ) (frame : Sent) → slice_get machine.to_cpu place ≡ Some frame
+      → machine.last_to_cpu < place + 1 → place + 1 ≡ due → Stage first facts machine due
+      → Keeps settings first facts (record { from_cpu = false; octets = frame.octets } ∷ [])
+      (heard first machine (place + 1) (Some frame)) due
+  keeps_stage place frame at new is (inl quiet) = absurd (omega (arith, quiet.past))
+  keeps_stage place frame at new is (inr (inl u)) = absurd (omega (arith, u.1.none_due))
+  keeps_stage place frame at new is (inr (inr (command, r))) =
+      let here : place ≡ r.place = (let e : due ≡ r.place + 1 = r.due_is in omega arith) in
+      keeps_received command place frame at (omega arith) r (omega arith)
+      (r.answer frame (ap (slice_get machine.to_cpu) (sym here) ∙ at))
+
+  -- the frame that is due is delivered to the CPU
+  pub keeps-to_cpu : (index : ℕ) → refusal machine (ToCpu index) ≡ None → machine.last_to_cpu < index → index ≡ due
+      → Keeps settings first facts (frame_heard (item_numbered machine.to_cpu index))
+      (after settings first machine (ToCpu index)) due
+  keeps-to_cpu index fine new is =
+      after_delivery (λ n found. machine.last_to_cpu < n → n ≡ due
+      → Keeps settings first facts (frame_heard found) (heard first machine n found) due)
+      machine.to_cpu machine.last_to_cpu index fine
+      (λ place frame le at new is. keeps_stage place frame at new is f.stage) new is

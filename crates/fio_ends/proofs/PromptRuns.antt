@@ -1,0 +1,76 @@
+-- The transcript of a prompt run is good.
+use Rattle.std.proofs.Common.{◌≡◌, arith, ℕ, List, [], ◌∷◌, ◌++◌, None, refl, sym, subst}
+use Rattle.std.specs.List.{AllByRecursion}
+use Rattle.fio_module.specs.Settings.{Settings, AreInRange}
+use Rattle.fio_module.specs.Life as module_events
+use Rattle.fio_check.specs.Facts.{facts_with, no_facts}
+use Rattle.fio_check.specs.declared.facts.Facts.{Facts}
+use Rattle.fio_world.specs.declared.event.Event.{Event}
+use Rattle.fio_world.specs.declared.event.Event.TheVariants as events
+use Rattle.fio_world.specs.Link.{Machine, start, refusal, after, Leads}
+use Rattle.fio_world.specs.Headline.{IsNotRestart, HaveNoRestart}
+use Rattle.fio_world.proofs.OneLifeRows.{IsKept, kept_all, kept}
+use Rattle.fio_ends.specs.Transcripts.{CpuFrame, frames_at, frames_from}
+use Rattle.fio_ends.specs.PromptRuns.{due_after, IsPrompt, ArePrompt, IsWithinRanges, NeverAccuses}
+use Rattle.fio_ends.proofs.GoodLines.{KeepRules, lines_are_good, said_by}
+use Rattle.fio_ends.proofs.Following.{Follows, Keeps, facts_below, follows-history, follows-start}
+use Rattle.fio_ends.proofs.Sends.{sends-poll, sends-other}
+use Rattle.fio_ends.proofs.Receives.{follows-to_module}
+use Rattle.fio_ends.proofs.Hears.{keeps-to_cpu}
+
+module _ (settings : Settings) (range : AreInRange settings) (first : ℕ) where
+  -- an event that adds no line
+  no_line : (facts : Facts) (machine : Machine) (due : ℕ) → Follows settings first machine due facts
+      → Keeps settings first facts [] machine due
+  no_line facts machine due f = record { rules = λ full. tt; follows = f }
+
+  -- each event keeps it
+  pub keeps-event : (machine : Machine) (due : ℕ) (facts : Facts) → IsKept settings first machine
+      → Follows settings first machine due facts
+      → (event : Event) → refusal machine event ≡ None → IsNotRestart event → IsWithinRanges event → IsPrompt machine due event
+      → Keeps settings first facts (frames_at first machine event)
+      (after settings first machine event) (due_after machine due event)
+  keeps-event machine due facts k f (events.Scan raw) fine none within prompt =
+      no_line facts _ due (follows-history settings first machine due facts (module_events.Scan raw ∷ machine.history) refl f)
+  keeps-event machine due facts k f events.LineSync fine none within prompt =
+      no_line facts _ due (follows-history settings first machine due facts (module_events.LineSync ∷ machine.history) refl f)
+  keeps-event machine due facts k f (events.Raise mask) fine none within prompt =
+      no_line facts _ due (follows-history settings first machine due facts (module_events.Raise mask ∷ machine.history) refl f)
+  keeps-event machine due facts k f events.Restart fine none within prompt = absurd none
+  keeps-event machine due facts k f events.Poll fine none within prompt =
+      sends-poll settings first machine due facts f
+  keeps-event machine due facts k f (events.Send command) fine none within prompt =
+      sends-other settings first machine due facts f command fine within
+  keeps-event machine due facts k f (events.ToModule index) fine none within prompt =
+      no_line facts _ _ (follows-to_module settings range first machine k facts due f index fine (omega arith))
+  keeps-event machine due facts k f (events.ToCpu index) fine none within prompt =
+      keeps-to_cpu settings range first machine k due facts f index fine (omega arith) (omega arith)
+
+  -- frames that keep the rules, one part after another
+  both_keep : (facts : Facts) (frames more : List CpuFrame) → KeepRules facts frames
+      → KeepRules (facts_below facts frames) more → KeepRules facts (frames ++ more)
+  both_keep facts [] more above rest = rest
+  both_keep facts (frame ∷ frames) more above rest =
+      (above.0, both_keep (facts_with facts (said_by frame)) frames more above.1 rest)
+
+  -- so all events do
+  all_keep : settings.per_block ≡ 255 → (events : List Event) (machine last : Machine) (due : ℕ) (facts : Facts) → IsKept settings first machine
+      → Follows settings first machine due facts
+      → Leads settings first machine events last → HaveNoRestart events → AllByRecursion IsWithinRanges events
+      → ArePrompt settings first machine due events
+      → KeepRules facts (frames_from settings first machine events)
+  all_keep full [] machine last due facts k f leads none within prompt = tt
+  all_keep full (event ∷ events) machine last due facts k f leads none within prompt =
+      let here = keeps-event machine due facts k f event leads.0 none.0 within.0 prompt.0 in
+      let now : IsKept settings first (after settings first machine event) =
+      kept_all settings range first (event ∷ []) machine (after settings first machine event) (none.0, tt) (leads.0, refl) k in
+      both_keep facts (frames_at first machine event) (frames_from settings first (after settings first machine event) events) (here.rules full)
+      (all_keep full events (after settings first machine event) last (due_after machine due event)
+      (facts_below facts (frames_at first machine event)) now here.follows leads.1 none.1 within.1 prompt.1)
+
+-- no false accusation
+pub never_accuses : NeverAccuses 255
+never_accuses settings first events machine range full run lines has =
+    lines_are_good lines (subst (KeepRules no_facts) (sym has)
+    (all_keep settings range first full events start machine 0 no_facts
+    (kept settings range first [] start refl tt) (follows-start settings first) run.is_run run.no_restart run.within run.prompt))

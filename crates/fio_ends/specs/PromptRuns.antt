@@ -1,0 +1,59 @@
+-- Prompt runs: no frame is delivered twice, and an answer reaches the CPU directly after its command or never.
+use Rattle.std.specs.Prelude.{◌≡◌, ℕ, ◌+◌, ◌<◌, ◌==◌, List, [], ◌∷◌, length, if◌then◌else◌}
+use Rattle.std.specs.List.{AllByRecursion}
+use Rattle.fio_message.specs.Commands.{IsCommand}
+use Rattle.fio_module.specs.Settings.{Settings, AreInRange}
+use Rattle.fio_check.specs.Lines.{TranscriptLine}
+use Rattle.fio_check.specs.Verdicts.{verdict_on}
+use Rattle.fio_check.specs.declared.verdict.Verdict.TheVariants.{Good}
+use Rattle.fio_world.specs.declared.event.Event.{Event}
+use Rattle.fio_world.specs.declared.event.Event.TheVariants.{Poll, Send, ToModule, ToCpu}
+use Rattle.fio_world.specs.Link.{Machine, start, after, IsRun}
+use Rattle.fio_world.specs.Headline.{HaveNoRestart}
+use Rattle.fio_ends.specs.Transcripts.{HaveFrames, transcript_of}
+
+-- After an event, the number that the answer to the command sent last has among the frames to the CPU, if
+-- it is answered; 0 until the module receives that command.
+abbrev pub due_after : Machine → ℕ → Event → ℕ
+due_after machine due Poll = 0
+due_after machine due (Send command) = 0
+due_after machine due (ToModule index) =
+    if index == length machine.to_module then length machine.to_cpu + 1 else due
+due_after machine due other = due
+
+-- a frame is delivered that was not delivered before, and to the CPU only the one that is due
+abbrev pub IsPrompt : Machine → ℕ → Event → Type 0
+IsPrompt machine due (ToModule index) = machine.last_to_module < index
+IsPrompt machine due (ToCpu index) = (machine.last_to_cpu < index) × (index ≡ due)
+IsPrompt machine due other = Unit {0}
+
+-- and so is each of these events
+abbrev pub ArePrompt : Settings → ℕ → Machine → ℕ → List Event → Type 0
+ArePrompt settings first machine due [] = Unit {0}
+ArePrompt settings first machine due (event ∷ events) =
+    IsPrompt machine due event
+    × ArePrompt settings first (after settings first machine event) (due_after machine due event) events
+
+-- a command that is sent is within its ranges, as each value of its type is
+abbrev pub IsWithinRanges : Event → Type 0
+IsWithinRanges (Send command) = IsCommand command
+IsWithinRanges other = Unit {0}
+
+-- A run without restarts in which no frame is delivered twice, and an answer reaches the CPU directly after
+-- the command that it answers, or never. A command may reach the module late; its answer then never
+-- reaches the CPU.
+pub record IsPromptRun (settings : Settings) (first : ℕ) (events : List Event) (machine : Machine)
+    : Type 0 where
+  pub is_run : IsRun settings first events machine
+  pub no_restart : HaveNoRestart events
+  pub within : AllByRecursion IsWithinRanges events
+  pub prompt : ArePrompt settings first start 0 events
+
+-- No false accusation: the transcript of a prompt run is good, where a block takes so many entries.
+abbrev pub NeverAccuses : ℕ → Type 0
+NeverAccuses per_block =
+    (settings : Settings) (first : ℕ) (events : List Event) (machine : Machine) →
+    AreInRange settings → settings.per_block ≡ per_block →
+    IsPromptRun settings first events machine →
+    (lines : List TranscriptLine) → HaveFrames lines (transcript_of settings first events) →
+    verdict_on lines ≡ Good (length lines)

@@ -1,0 +1,47 @@
+//! Laws of the definitions: each function states one in its contract, and does nothing.
+ghost use Rattle.fio_check.specs.declared.content_rules.ContentRule.TheVariants.{Alternate, Apart, Order};
+ghost use Rattle.fio_ends.specs.ContentRuns.{ContentNeverAccuses, NoEntryIsBroken};
+ghost use Rattle.fio_ends.specs.Pollers.{GoodIsOfPoller};
+ghost use Rattle.fio_ends.specs.PromptRuns.{NeverAccuses};
+ghost use Rattle.fio_ends.specs.RunRecords.{KeepsRecord};
+
+/// A good transcript is that of a right CPU's end: a poller that starts with the first poll's number has
+/// at each poll that poll's number, and takes each block answer heard, so that none is stale.
+pub fn good_transcripts_are_of_pollers()
+    ensures { GoodIsOfPoller }
+{}
+
+/// No false accusation: the transcript of a prompt run, of a module with 255 entries in a block, is good.
+pub fn prompt_runs_are_good()
+    ensures { NeverAccuses 255 }
+{}
+
+/// The record of a prompt run's transcript is that of the run's CPU, item by item: a poller that starts with
+/// the first poll's number, and hears what the transcript has, ends as the run's own.
+pub fn prompt_runs_are_recorded()
+    ensures { KeepsRecord }
+{}
+
+/// The rule `order` never accuses: in the transcript of a prompt run it is kept by each entry, where an
+/// entry waits for fewer than 65,536 scans and comes fewer than 2^31 scans after the one before it.
+pub fn order_never_accuses()
+    ensures { ContentNeverAccuses Order }
+{}
+
+/// The rule `alternate` never accuses: in the transcript of a prompt run it is kept by each entry, whatever
+/// its time.
+pub fn alternate_never_accuses()
+    ensures { ContentNeverAccuses Alternate }
+{}
+
+/// The rule `apart` never accuses: in the transcript of a prompt run it is kept by each entry, where an
+/// entry waits for fewer than 65,536 scans and comes fewer than 2^32 scans after the one before it of its
+/// input.
+pub fn apart_never_accuses()
+    ensures { ContentNeverAccuses Apart }
+{}
+
+/// So no entry of the record in such a transcript breaks a rule on content.
+pub fn no_entry_is_broken()
+    ensures { NoEntryIsBroken }
+{}

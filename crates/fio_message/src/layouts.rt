@@ -1,0 +1,34 @@
+//! The octets round the lists of messages, each written here alone: whatever gives the list, a writer puts
+//! these before it and behind it.
+ghost use Rattle.std.specs.Prelude.{◌≡◌, [], ◌∷◌};
+ghost use Rattle.std.specs.Int.{w32, to_be_bytes};
+ghost use Rattle.fio_message.specs.declared.types.TheConstants.{BLOCK_ANSWER, CONFIGURE_INPUTS};
+
+use crate::types::{BLOCK_ANSWER, CONFIGURE_INPUTS};
+use byteorder::{BigEndian, ByteOrder};
+
+/// What stands before the items of a configuration: its type, and how many items follow.
+#[inline]
+pub fn before_items(count: u8) -> [u8; 2]
+    ensures { result ≡ CONFIGURE_INPUTS ∷ count ∷ [] }
+{
+    [CONFIGURE_INPUTS, count]
+}
+
+/// What stands before the entries of a block answer: its type, its number, and how many entries follow.
+#[inline]
+pub fn before_entries(number: u8, count: u8) -> [u8; 3]
+    ensures { result ≡ BLOCK_ANSWER ∷ number ∷ count ∷ [] }
+{
+    [BLOCK_ANSWER, number, count]
+}
+
+/// A status and a stamp, most significant octet first: what stands behind the entries of a block answer.
+#[inline]
+pub fn status_and_stamp(status: u8, stamp: u32) -> [u8; 5]
+    ensures { result ≡ status ∷ to_be_bytes w32 stamp }
+{
+    let mut octets = [status; 5];
+    BigEndian::write_u32(&mut octets[1..], stamp);
+    octets
+}

@@ -1,0 +1,88 @@
+-- After restarts: delivery starts anew with a clean round in the module's present life.
+use Rattle.std.specs.Prelude.{◌≡◌, ℕ, ◌+◌, ◌*◌, ◌≤◌, true, List, [], ◌++◌, map, length, take, drop}
+use Rattle.std.specs.List.{AllByRecursion}
+use Rattle.fio_input.specs.Delivery.{open_inputs, OpenHaveFiltersOf, NoneIsApplied}
+use Rattle.fio_module.specs.Settings.{Settings, standard_settings}
+use Rattle.fio_module.specs.Life.{Life, life_of, scans_of, loads_of, filter_events}
+use Rattle.fio_module.specs.Log.{Transition, entry_of, log_of}
+use Rattle.fio_module.specs.Blocks.{newest_end, waiting_of}
+use Rattle.fio_module.specs.KeepingUp.{IsYoung}
+use Rattle.fio_world.specs.declared.event.Event.{Event}
+use Rattle.fio_world.specs.Link.{Machine, IsRun}
+use Rattle.fio_world.specs.Pieces.{Got, piece_of}
+use Rattle.fio_world.specs.Delivery.{IsCleanRound}
+use Rattle.fio_world.specs.InTime.{LeadsInTime, newest_of, RoundsInTime, timed_item}
+
+-- Polled in time since a clean round, whatever came before it, restarts included: the round has just ended,
+-- and nothing waits. Since then nothing was restarted; the module has received the poll of
+-- a clean round at least once in so many scans, in which the open inputs change no more often than a block takes,
+-- and has applied no configuration.
+pub record IsPolledSinceRound (settings : Settings) (first filter scans : ℕ) (begin receipt machine : Machine)
+    (receipts : List Machine) (last : Machine) (later : Life) : Type 0 where
+  pub ended : IsCleanRound settings first begin receipt machine
+  pub nothing_waits : waiting_of settings (life_of machine.history) ≡ []
+  -- the filters of the open inputs are at least this
+  pub some : 1 ≤ filter
+  pub filters : OpenHaveFiltersOf (filter_events (life_of machine.history)) filter
+  pub enough :
+      open_inputs (filter_events (life_of machine.history)) * scans
+      ≤ settings.per_block * filter
+  pub rounds : RoundsInTime settings first true scans machine receipts last
+  -- what has happened to the module since then
+  pub since : life_of last.history ≡ later ++ life_of machine.history
+  pub not_applied : NoneIsApplied (filter_events later)
+
+-- the transitions logged since a machine, through the end of the newest block
+abbrev pub in_blocks_since : Settings → Machine → Machine → List Transition
+in_blocks_since settings machine last =
+    drop (length (log_of (life_of machine.history)))
+    (take (newest_end settings (life_of last.history)) (log_of (life_of last.history)))
+
+-- What has arrived then at the end of a clean round, and is left at any time until the next one has ended.
+pub record HasArrivedSince (settings : Settings) (first filter scans : ℕ) (machine : Machine)
+    (receipts : List Machine) (last : Machine) : Type 0 where
+  -- the record has gained the transitions logged since, each once and in order, and no gap mark
+  pub whole :
+      map piece_of last.items
+      ≡ map piece_of machine.items
+      ++ map (λ transition. Got (entry_of transition)) (in_blocks_since settings machine last)
+  -- each with its time, where no load of the counter took effect and none can be 65,536 scans late
+  pub times :
+      loads_of (life_of last.history) ≡ loads_of (life_of machine.history)
+      → scans + scans + filter ≤ 65537
+      → last.items ≡ machine.items ++ map timed_item (in_blocks_since settings machine last)
+  -- all others are at most 2 n + f - 2 scans old
+  pub young :
+      (now : Machine) → LeadsInTime settings first scans (newest_of machine receipts) last now
+      → AllByRecursion (IsYoung (scans + scans) filter (life_of now.history))
+      (drop (newest_end settings (life_of last.history)) (log_of (life_of now.history)))
+
+-- So delivery starts anew: where a clean round has ended, nothing waits, and the link is polled in time since
+-- then, all arrives in time.
+abbrev pub DeliveryStartsAnew : Settings → ℕ → Machine → Type 0
+DeliveryStartsAnew settings first begin =
+    (filter scans : ℕ) (receipt machine : Machine) (receipts : List Machine) (last : Machine) (later : Life) →
+    IsPolledSinceRound settings first filter scans begin receipt machine receipts last later →
+    HasArrivedSince settings first filter scans machine receipts last
+
+-- The standard link after restarts, polled at least every so many scans since a clean round that left nothing
+-- waiting: it loses nothing, and is never later than so many scans.
+abbrev pub StandardLinkStartsAnew : ℕ → ℕ → Type 0
+StandardLinkStartsAnew scans late =
+    (id first : ℕ) (events : List Event) (begin receipt machine : Machine)
+    (receipts : List Machine) (last now : Machine) (later : Life) → id ≤ 255 →
+    let settings = standard_settings id in
+    IsRun settings first events begin →
+    IsCleanRound settings first begin receipt machine →
+    waiting_of settings (life_of machine.history) ≡ [] →
+    OpenHaveFiltersOf (filter_events (life_of machine.history)) 5 →
+    RoundsInTime settings first true scans machine receipts last →
+    life_of last.history ≡ later ++ life_of machine.history →
+    NoneIsApplied (filter_events later) →
+    LeadsInTime settings first scans (newest_of machine receipts) last now →
+    (map piece_of last.items
+    ≡ map piece_of machine.items
+    ++ map (λ transition. Got (entry_of transition)) (in_blocks_since settings machine last))
+    × AllByRecursion
+    (λ transition. scans_of (life_of now.history) ≤ transition.scans + late)
+    (drop (newest_end settings (life_of last.history)) (log_of (life_of now.history)))

@@ -1,0 +1,185 @@
+#!/usr/bin/env python3
+"""`fiolog record` with the rules on content: as text letter for letter what `fio2070 record` writes of the examples and of
+lossy runs with an entry dropped, doubled, turned or swapped; each breach in the table, as JSON, VCD and picture; and what
+goes on below a breach, in the middle of traffic, and in logs of the bus and of the module. Last line: `N passed, M failed`."""
+
+import glob
+import json
+import os
+import random
+import re
+import subprocess
+import sys
+import tempfile
+
+sys.dont_write_bytecode = True
+
+from support.check import Check
+from support.fiolog import ENVIRONMENT, fiolog, has_library
+from support.tables import TOP, output_of
+
+EXAMPLES = os.path.join(TOP, 'examples')
+# The entries that each broken example accuses: line, input, rule and index in the block.
+BROKEN = {'doubled-entry': (10, 12, 'alternate', 0), 'lost-entry': (11, 12, 'alternate', 0), 'near-entries': (7, 12, 'apart', 1),
+          'swapped-entries': (7, 12, 'order', 1), 'turned-entry': (9, 12, 'alternate', 0)}
+SEEDS = 9
+
+
+def transcript(name):
+    with open(os.path.join(EXAMPLES, name + '.transcript'), encoding='ascii') as file:
+        return file.read()
+
+
+def same_text(check, name, text):
+    """A row: as text and in its status it is what the program writes. The status."""
+    expected, status = output_of('record', text)[:2]
+    done = fiolog('record', '-q', '--text', '--format', 'transcript', text=text)
+    check.equal('the text of %s' % name, (expected, status), (done.out, done.status))
+    return status
+
+
+def check_examples(check):
+    """Each example as text, and what is broken in each form."""
+    for path in sorted(glob.glob(os.path.join(EXAMPLES, '*.transcript'))):
+        name = os.path.splitext(os.path.basename(path))[0]
+        same_text(check, name, transcript(name))
+    for name, (line, number, rule, entry) in BROKEN.items():
+        path, words = os.path.join(EXAMPLES, name + '.transcript'), 'line %d input %d breaks %s' % (line, number, rule)
+        done = fiolog('record', '-q', path)
+        check.equal('the table of %s' % name, (1, [words]), (done.status, [one for one in done.out.splitlines() if 'breaks' in one]))
+        entries = sum(octets[2] for octets in blocks_of(transcript(name)))
+        check.equal('all items of %s' % name, entries, len(re.findall(r'^\d+: +input', done.out, re.M)))
+        rows = [json.loads(one) for one in fiolog('record', '-q', '--json', path).out.splitlines()]
+        check.equal('the object of %s' % name, [{'line': line, 'time': None, 'input': number, 'entry': entry, 'breaks': rule}],
+                    [one for one in rows if 'breaks' in one])
+        done = fiolog('record', '-q', '--vcd', path)
+        check.equal('the VCD of %s' % name, (1, 1, 'fiolog: %s\n' % words),
+                    (done.status, done.out.count('\n1b\n'), done.err))
+    check.equal('a record without a breach', (0, False),
+                (fiolog('record', '-q', os.path.join(EXAMPLES, 'good.transcript')).status,
+                 'breach' in fiolog('record', '-q', '--vcd', os.path.join(EXAMPLES, 'good.transcript')).out))
+
+
+def blocks_of(text):
+    """The octets of the block answers of a transcript."""
+    return [bytes.fromhex(digits) for digits in re.findall(r'^< (b6\w+)$', text, re.M)]
+
+
+# What may happen to an entry.
+CHANGES = {
+    'dropped': lambda entries, at: entries[:at] + entries[at + 1:],
+    'doubled': lambda entries, at: entries[:at + 1] + entries[at:],
+    'turned': lambda entries, at: entries[:at] + [bytes([entries[at][0] ^ 128]) + entries[at][1:]] + entries[at + 1:],
+    'swapped': lambda entries, at: entries[:at] + entries[at:at + 2][::-1] + entries[at + 2:]}
+
+
+def changed(text, change, draw):
+    """A transcript in which this happened to an entry of a block."""
+    lines = text.split('\n')
+    places = [place for place, line in enumerate(lines) if line.startswith('< b6') and int(line[6:8], 16) > 1]
+    place = draw.choice(places)
+    octets = bytes.fromhex(lines[place][2:])
+    entries = [octets[at:at + 3] for at in range(3, len(octets) - 5, 3)]
+    entries = CHANGES[change](entries, draw.randrange(len(entries) - 1))
+    lines[place] = '< ' + (octets[:2] + bytes([len(entries)]) + b''.join(entries) + octets[-5:]).hex()
+    return '\n'.join(lines)
+
+
+def written_by(name, *words, text=''):
+    """What a tool writes for an input."""
+    return subprocess.run([os.path.join(TOP, 'tools', name), *words], input=text, stdout=subprocess.PIPE, check=True,
+                          universal_newlines=True).stdout
+
+
+def transcript_of_run(folder, seed):
+    """The transcript of a run whose bus loses frames."""
+    script, path = written_by('lossy-script', '--rounds', '120', '--repeat', '0', '--loss', str((0, 0.1, 0.3)[seed % 3]), '--seed',
+                              str(seed), '--inputs', str((2, 4, 16)[seed // 3 % 3])), os.path.join(folder, 'script')
+    with open(path, 'w', encoding='ascii') as file:
+        file.write(script)
+    return written_by('transcript', path, text=output_of('simulate', script)[0])
+
+
+def check_runs(check, folder):
+    """Runs of the link are not accused; of those in which something happened to an entry most are."""
+    draw, found = random.Random(32), dict.fromkeys(CHANGES, 0)
+    for seed in range(SEEDS):
+        text = transcript_of_run(folder, seed)
+        check.equal('run %d is not accused' % seed, 0, same_text(check, 'run %d' % seed, text))
+        for change in CHANGES:
+            found[change] += same_text(check, 'run %d with an entry %s' % (seed, change), changed(text, change, draw))
+    for change, count in found.items():
+        check.holds('of %d runs with an entry %s most are accused' % (SEEDS, change), 2 * count > SEEDS, count)
+
+
+# An entry of input 12 twice, below whatever stands above.
+START, FIRST = '> 33020c05030d0503\n< b300\n', '> 3600\n< b600000000000000\n> 3601\n< b601010c000a000000000b\n'
+AGAIN = '> 3602\n< b602010c00140000000015\n'
+EARLIER = '> 3602\n< b602010d0009000000000c\n'
+# The CPU asks for 9 where 3 is due; from the next poll on the link goes on.
+SKIP = '> 3609\n< b60900000000001f\n> 360a\n< b60a000000000020\n'
+
+
+def breaches(*words, text):
+    """What is broken, by line, and the status."""
+    done = fiolog('record', '-q', *words, text=text)
+    return re.findall(r'^line \d+ .*$', done.out, re.M), done.status
+
+
+def check_course(check):
+    """What goes on, and what is not judged."""
+    check.equal('one more breach in each block', (['line 8 input 12 breaks alternate', 'line 10 input 12 breaks alternate'], 1),
+                breaches(text=START + FIRST + AGAIN + AGAIN.replace('3602', '3603').replace('b602', 'b603')))
+    later = SKIP + '> 360b\n< b60b010c00280000000029\n> 360c\n< b60c010c003c000000003d\n'
+    check.equal('below a breach of the nine rules from the next poll on',
+                (['line 7 breaks advance', 'line 14 input 12 breaks alternate'], 1), breaches(text=START + FIRST + later))
+    load = '> 3200000000\n< b200\n'
+    back = '> 360b\n< b60b010c00280000000029\n> 360c\n< b60c018c00010000000002\n'
+    check.equal('a time that goes back', ['line 7 breaks advance', 'line 14 input 12 breaks order'], breaches(text=START + FIRST + SKIP + back)[0])
+    check.equal('a load above the breach lifts it', ['line 9 breaks advance'], breaches(text=START + FIRST + load + SKIP + back)[0])
+    check.equal('order', (['line 8 input 13 breaks order'], 1), breaches(text=START + FIRST + EARLIER))
+    middle = '< b6050000000003e8\n' + FIRST
+    check.equal('in the middle of traffic', (['line 1 breaks pair'], 1), breaches(text=middle))
+    check.equal('--start-at-poll', ([], 0), breaches('--start-at-poll', text=middle))
+    check.equal('noise in between', (['line 9 input 12 breaks alternate'], 1), breaches(text=START + FIRST + '# restarted\n' + AGAIN))
+    turned = (START + FIRST + AGAIN).translate(str.maketrans('<>', '><'))
+    check.equal('the log of the module', (['line 8 input 12 breaks alternate'], 1), breaches('--at', 'module', text=turned))
+    with open(os.path.join(EXAMPLES, 'lost-answer.frames'), encoding='ascii') as file:
+        done = fiolog('record', '-q', text=file.read())
+    check.equal('a log of the bus has each entry once, and accuses nobody', (0, 2, []),
+                (done.status, len(done.out.splitlines()), re.findall('breaks', done.out)))
+
+
+# Python that says where the picture of a log has crosses.
+CROSSES = '''
+import sys
+from types import SimpleNamespace as Names
+from fiolog import log, plot, record
+given = Names(files=['-'], quiet=True, format='auto', pattern=None, sdlc=False, verbose=False, at='auto', start_at_poll=False)
+lanes = plot.Lanes()
+for block in record.Record(log.Log(given), given).blocks():
+    lanes.add(block)
+print(lanes.broken)
+'''
+
+
+def check_picture(check):
+    """The crosses of a picture."""
+    done = subprocess.run([sys.executable, '-c', CROSSES], input=START + FIRST + AGAIN, stdout=subprocess.PIPE, stderr=subprocess.PIPE,
+                          env=ENVIRONMENT, universal_newlines=True)
+    check.equal('the crosses of a picture', ('[(12, 20, 0)]\n', 'fiolog: line 8 input 12 breaks alternate\n'), (done.stdout, done.stderr))
+
+
+def main():
+    check = Check()
+    if not has_library():
+        check.skip('fiolog record', 'no libfio2070.so here (make library)')
+        check.end()
+    for part in (check_examples, check_course, check_picture):
+        part(check)
+    with tempfile.TemporaryDirectory() as folder:
+        check_runs(check, folder)
+    check.end()
+
+
+main()

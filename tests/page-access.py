@@ -1,0 +1,155 @@
+#!/usr/bin/env python3
+"""The page that `make page` writes without a pointer, and in older browsers, in headless Chromium and Firefox: the role and
+the name that each control has in the browser's accessibility tree; that the key Tab reaches each, with a mark around it;
+and what is said where the browser has no memory of 64 bits, or passes no numbers of 64 bits. Last line: `N passed, M failed`."""
+
+import os
+import shutil
+import subprocess
+import sys
+import tempfile
+
+sys.dont_write_bytecode = True
+
+from support.browsers import ELEMENT, Chromium, Firefox, is_here, running
+from support.check import Check
+from support.tables import TOP
+
+PAGE = os.path.join(TOP, 'fio2070.html')
+VIEWS = ('open', 'messages', 'inputs', 'plan', 'play')
+CONTROLS = 'button, input, select, textarea, summary, a[href], [tabindex="0"]'
+# The role of a control, by its element and type, where it has no role of its own. Firefox has no name for that of a summary.
+ROLES = {'button': {'button'}, 'select': {'combobox'}, 'textarea': {'textbox'}, 'input search': {'searchbox'},
+         'input range': {'slider'}, 'input file': {'button'}, 'input number': {'spinbutton'}, 'summary': {'DisclosureTriangle', ''}}
+OWN_ROLES = {'tab': 'tab', 'grid': 'grid', 'application': 'application', 'img': 'image', 'group': 'group'}
+# What a control is, in words; nothing where it is not seen.
+KIND = '''const it = arguments[0]; if (!it.checkVisibility()) return "";
+return (it.getAttribute("role") || it.localName + (it.localName === "input" ? " " + it.type : "")) + "|" + it.outerHTML.slice(0, 100)'''
+# Numbers each control that a key can reach, and says how many they are.
+NUMBER = '''let count = 0; document.querySelectorAll("[data-stop]").forEach((it) => delete it.dataset.stop);
+document.querySelectorAll(arguments[0]).forEach((it) => { if (it.checkVisibility() && !it.disabled && it.tabIndex >= 0) it.dataset.stop = String(count++); });
+document.querySelector("[data-stop]").focus(); return count'''
+# Of the control that has the focus: its number, and whether a mark is around it.
+FOCUS = '''const it = document.activeElement, style = getComputedStyle(it);
+return [it.dataset.stop === undefined ? -1 : Number(it.dataset.stop), style.outlineStyle !== "none" && parseFloat(style.outlineWidth) > 0]'''
+UNNUMBERED = 'return [...document.querySelectorAll("[data-stop]")].filter((it) => !arguments[0].includes(Number(it.dataset.stop))).map((it) => it.outerHTML.slice(0, 100))'
+
+
+def opened(browser, query=''):
+    """The page with an example that breaks a rule, and a message of it that is selected."""
+    browser.open('file://' + PAGE + query)
+    browser.wait('return document.documentElement.dataset.bits')
+    browser.click('[data-example="near-entries.transcript"]')
+    browser.wait('return document.documentElement.dataset.opened')
+    browser.click('#row-5')
+
+
+def fault_of_control(browser, found):
+    """What is wrong with the role or the name of a control; nothing where all is right."""
+    kind, _, text = browser.run(KIND, {ELEMENT: found}).partition('|')
+    if not kind:
+        return None
+    role, name = browser.role(found), browser.label(found)
+    expected = ROLES.get(kind, {OWN_ROLES.get(kind)})
+    return None if role in expected and name.strip() else 'role %r name %r: %s' % (role, name, text)
+
+
+def check_roles(check, browser, kind):
+    """The role and the name of each control."""
+    for view in VIEWS:
+        browser.click('#tab-' + view)
+        faults = [fault_of_control(browser, found) for found in browser.find_all(CONTROLS)]
+        check.holds('the view %s has controls in %s' % (view, kind), len(faults) > 6, len(faults))
+        check.equal('roles and names in the view %s in %s' % (view, kind), [], [fault for fault in faults if fault])
+    browser.click('#tab-messages')
+    octet = browser.find('.detail .grid span:nth-child(4)')
+    check.equal('an octet and what it is in %s' % kind, '0c input 12, state 0', browser.label(octet))
+    row = browser.label(browser.find('#row-5'))
+    check.holds('a row says the rule that it breaks in %s' % kind, 'apart: input 12' in row, row)
+
+
+def check_keys(check, browser, kind):
+    """The key Tab goes to each control of a view, with a mark around it, and goes on."""
+    for view in VIEWS:
+        browser.click('#tab-' + view)
+        count, reached, unmarked = browser.run(NUMBER, CONTROLS), [0], []
+        # No further than the last one: behind it the browser has the focus.
+        while count - 1 not in reached and len(reached) < count + 3:
+            browser.press('tab')
+            number, is_marked = browser.run(FOCUS)
+            reached.append(number)
+            unmarked += [] if is_marked or number < 0 else [number]
+        check.equal('controls that Tab does not reach in the view %s in %s' % (view, kind), [], browser.run(UNNUMBERED, reached))
+        check.equal('controls without a mark in the view %s in %s' % (view, kind), [], unmarked)
+    browser.run('document.querySelector("[data-input=\'5\']").focus()')
+    browser.press('enter')
+    check.equal('a key changes an input in %s' % kind, 'false',
+                browser.run('return document.querySelector("[data-input=\'5\']").getAttribute("aria-pressed")'))
+
+
+# A browser that has no memories of 64 bits: the section of memories, number 5, has their flags.
+NO_MEMORY_64 = '''{ const real = WebAssembly.instantiate;
+const isWide = (octets) => { let at = 8; const number = () => { let value = 0, by = 0, octet; do { octet = octets[at++];
+  value |= (octet & 127) << by; by += 7; } while (octet > 127); return value; };
+  while (at < octets.length) { const kind = octets[at++], size = number(); if (kind === 5) { number(); return (octets[at] & 4) !== 0; } at += size; } return false; };
+WebAssembly.instantiate = (octets, given) => isWide(octets) ? Promise.reject(new WebAssembly.CompileError('no memory of 64 bits'))
+  : real.call(WebAssembly, octets, given); }'''
+# One that passes no numbers of 64 bits to WebAssembly.
+NO_NUMBERS_64 = '''{ const real = WebAssembly.instantiate; WebAssembly.instantiate = async (octets, given) => {
+  const made = await real.call(WebAssembly, octets, given), exports = {};
+  const refuse = (call) => (...words) => { if (words.some((it) => typeof it === 'bigint')) throw new TypeError('cannot pass a BigInt'); return call(...words); };
+  for (const [name, it] of Object.entries(made.instance.exports)) exports[name] = typeof it === 'function' ? refuse(it) : it;
+  return { instance: { exports } }; }; }'''
+SEEN = 'const it = document.getElementById("trouble"); return it.offsetHeight > 0 ? it.textContent.replace(/\\s+/g, " ") : ""'
+VERSIONS = ('too old', 'Chromium', '97', 'Firefox', '102', 'Safari', '16')
+
+
+def older(browser, folder, script, query=''):
+    """The page in a browser that this script makes older: the words of its trouble, once it has tried to start."""
+    with open(PAGE, encoding='utf-8') as file:
+        page = file.read()
+    begin = "<script>\n'use strict';"
+    path = os.path.join(folder, 'older.html')
+    with open(path, 'w', encoding='utf-8') as file:
+        file.write(page.replace(begin, '<script>%s</script>' % script + begin))
+    browser.open('file://' + path + query)
+    browser.wait('return document.documentElement.dataset.bits || document.getElementById("trouble").textContent.includes("(")')
+    return browser.run(SEEN)
+
+
+def check_older(check, browser, kind, folder):
+    """What works, and what is said, in older browsers."""
+    is_lowered = shutil.which('wasm-opt') is not None
+    seen = older(browser, folder, NO_MEMORY_64)
+    if is_lowered:
+        check.equal('without memory of 64 bits the other build runs in %s' % kind, ('32', ''),
+                    (browser.run('return document.documentElement.dataset.bits'), seen))
+        check.holds('and the footer says so in %s' % kind, 'wasm-opt' in browser.run('return document.getElementById("proved").textContent'))
+        browser.click('[data-example="near-entries.transcript"]')
+        browser.wait('return document.documentElement.dataset.opened')
+        check.equal('and judges in %s' % kind, 1, browser.run('return document.querySelectorAll(".line.broken").length'))
+    else:
+        check.skip('the other build in %s' % kind, 'no wasm-opt here (Debian package binaryen)')
+    seen = older(browser, folder, NO_MEMORY_64, '?bits=64')
+    check.holds('where no build runs the page says it in %s' % kind, all(word in seen for word in (*VERSIONS, 'no memory of 64 bits')), seen)
+    seen = older(browser, folder, NO_NUMBERS_64)
+    check.holds('without numbers of 64 bits too in %s' % kind, all(word in seen for word in (*VERSIONS, 'cannot pass a BigInt')), seen)
+
+
+def main():
+    check = Check()
+    made = subprocess.run(['make', '-s', '-C', TOP, 'page'], stdout=subprocess.PIPE, stderr=subprocess.STDOUT)
+    check.equal('make page', 0, made.returncode)
+    for kind in (Chromium, Firefox) if made.returncode == 0 else ():
+        if not is_here(kind):
+            check.skip(kind.name, 'no %s here' % ' or no '.join(kind.programs))
+            continue
+        with tempfile.TemporaryDirectory() as folder, running(kind) as browser:
+            opened(browser)
+            check_roles(check, browser, kind.name)
+            check_keys(check, browser, kind.name)
+            check_older(check, browser, kind.name, folder)
+    check.end()
+
+
+main()

@@ -1,0 +1,121 @@
+#!/usr/bin/env python3
+"""Holds the translator of the portable library (tools/portable) against an interpreter: each instruction that it takes is
+run on numbers at the edges of its range, by `wasm-interp` of the Debian package wabt and as translated C, and each other
+instruction is refused. Translators with a rule that no frame shows to be wrong are found. Last line: `N passed, M failed`."""
+
+import os
+import re
+import shutil
+import subprocess
+import sys
+import tempfile
+
+sys.dont_write_bytecode = True
+
+from support import instructions as cases
+from support.check import Check
+from support.tables import TOP
+from support.translators import UNSEEN, changed
+
+TRANSLATOR = os.path.join(TOP, 'tools', 'portable')
+sys.path.insert(0, TRANSLATOR)
+
+from functions import STEPS
+from instructions import LOADS, STORES
+from instructions import NUMERIC as RULES
+
+C = os.path.join(TOP, 'tests/support/c/instructions.c')
+FLAGS = ['--enable-memory64']
+# Each of these makes the C; the second without the operations that gcc has beyond C99.
+WAYS = [['-O0'], ['-O2', '-DFIO2070_FAST', '-DPLAIN', '-w'],
+        ['-O1', '-fsanitize=address,undefined', '-fno-sanitize-recover=all']]
+
+check = Check()
+room = tempfile.mkdtemp()
+
+
+def run(*words):
+    return subprocess.run(words, capture_output=True, text=True, errors='replace', timeout=120, cwd=room, check=False)
+
+
+def path(name):
+    return os.path.join(room, name)
+
+
+def module_of(functions):
+    """The module of some functions in WebAssembly's text, as octets in a file."""
+    with open(path('module.wat'), 'w', encoding='utf-8') as file:
+        file.write(cases.module_text(functions))
+    done = run('wat2wasm', *FLAGS, 'module.wat', '-o', 'module.wasm')
+    if done.returncode:
+        raise ValueError(done.stderr)
+    return path('module.wasm')
+
+
+def interpreted(functions):
+    """What the interpreter says that each function gives: its number, or `trap`."""
+    said = run('wasm-interp', *FLAGS, module_of(functions), '--run-all-exports').stdout
+    found = dict(re.findall(r'^(\w+)\(\) => (?:i\d+:)?(.*)$', said, re.M))
+    return {name: 'trap' if value.startswith('error') else value for name, value in found.items()}
+
+
+def translated_text(octets, translator=TRANSLATOR):
+    """The C of a module, without the calls of a library; nothing where the translator refuses it."""
+    done = run(sys.executable, '-c', 'import sys; sys.path.insert(0, %r); sys.dont_write_bytecode = True\n'
+               'from importlib.machinery import SourceFileLoader as Loader\n'
+               'translate = Loader("translate", %r).load_module()\n'
+               'try: print(translate.translated(translate.Module(open(%r, "rb").read())))\n'
+               'except translate.Refused as why: sys.exit("translate: %%s" %% why)'
+               % (translator, os.path.join(translator, 'translate'), octets))
+    return done.stdout if not done.returncode else None
+
+
+def translated(functions, options, translator=TRANSLATOR):
+    """What the translated C says that each function gives."""
+    text = translated_text(module_of(functions), translator)
+    if text is None:
+        return {}
+    with open(path('translated.c'), 'w', encoding='utf-8') as file:
+        file.write(text)
+    with open(path('cases.c'), 'w', encoding='utf-8') as file:
+        file.writelines('CASE(%s)\n' % name for name, _ in functions)
+    done = run('gcc', '-std=c99', *options, '-I', room, C, '-o', path('cases'))
+    if done.returncode:
+        return {'compiler': done.stderr[-500:]}
+    return dict(line.split(' ', 1) for line in run(path('cases')).stdout.splitlines())
+
+
+def is_found(wrong):
+    """A wrong translator: the C that it makes gives another number, or has no trap."""
+    shutil.rmtree(path('wrong'), ignore_errors=True)
+    changed(TRANSLATOR, path('wrong'), wrong)
+    functions, due = cases.TAKEN + cases.OUTSIDE, {**wanted, **{name: 'trap' for name, _ in cases.OUTSIDE}}
+    found = translated(functions, ['-O0'], path('wrong'))
+    if sorted(found) != sorted(due):
+        return 'it was not run: %s' % found.get('compiler')
+    return None if found != due else 'all is the same'
+
+
+def is_refused(text):
+    return None if translated_text(module_of([('case', text)])) is None else 'it is translated'
+
+
+if not shutil.which('wasm-interp'):
+    check.skip('instructions', 'no wasm-interp here (Debian package wabt)')
+    check.end()
+wanted = interpreted(cases.TAKEN)
+check.equal('each function is run', sorted(name for name, _ in cases.TAKEN), sorted(wanted))
+for options in WAYS:
+    found = translated(cases.TAKEN, options)
+    for name, _ in cases.TAKEN:
+        check.equal('%s by gcc %s' % (name, options[0]), wanted.get(name), found.get(name, found.get('compiler')))
+for name, outside in translated(cases.OUTSIDE, ['-O0']).items():
+    check.equal('%s is outside' % name, 'trap', outside)
+for name, wrong in UNSEEN:
+    check.fault('wrong: ' + name, is_found, wrong)
+for name, text in cases.REFUSED:
+    check.fault('%s is refused' % name, is_refused, text)
+check.equal('the instructions that the translator takes', sorted(cases.OPCODES.values()),
+            sorted({*RULES, *LOADS, *STORES, *STEPS}))
+shutil.rmtree(room)
+check.end()

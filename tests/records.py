@@ -1,0 +1,310 @@
+#!/usr/bin/env python3
+"""`record` by the rules on content: worked transcripts, each with what docs/FORMATS.md asks for; random transcripts, and
+runs of `simulate`, as they are and with an entry dropped, doubled, turned or moved, against an independent model in
+`support/content.py`. A run that nobody changed breaks no rule. Last line: `N passed, M failed`."""
+
+import os
+import random
+import subprocess
+import sys
+import tempfile
+
+sys.dont_write_bytecode = True
+
+from support.check import Check
+from support.content import Record
+from support.tables import MOST_OCTETS, TOP, in_short, lines_that_fit, output_of, row
+
+SEEDS = 30
+LATE_RUNS = 60
+TRANSCRIPTS = 400
+
+
+def entry(named, state, stamp):
+    """An entry in hexadecimal digits."""
+    return '%02x%04x' % (named | state << 7, stamp % 65_536)
+
+
+def block(number, stamp, *entries, status=0):
+    """A poll and the block answer to it."""
+    return '> 36%02x\n< b6%02x%02x%s%02x%08x\n' % (number, number, len(entries), ''.join(entries), status, stamp)
+
+
+def configuration(*items, status=0):
+    """A configuration of items, and the answer to it."""
+    return '> 33%02x%s\n< b3%02x\n' % (len(items), ''.join('%02x%02x%02x' % item for item in items), status)
+
+
+# Inputs 12 and 13 with filters of 5 and 3 samples, and an empty block; the lines 1 to 4.
+START = configuration((12, 5, 3), (13, 5, 3)) + block(0, 0)
+ONE = 'input 12 state 0 stamp 10 wide 10\n'
+TWO = ONE + 'input 12 state 1 stamp 20 wide 20\n'
+LOAD = '> 3200000000\n< b200\n'
+LOST = START + block(1, 11, entry(12, 0, 10))
+FULL = [entry(0, place % 2, place + 11) for place in range(255)]
+
+WORKED = [
+    # The entry at 20 in the state 1 is sent, doubled, left out, turned.
+    ('two', START + block(1, 11, entry(12, 0, 10)) + block(2, 21, entry(12, 1, 20)), 'record 2\n' + TWO),
+    ('doubled', START + block(1, 11, entry(12, 0, 10), entry(12, 0, 10)),
+     'record 1\n' + ONE + 'line 6 input 12 breaks alternate\n'),
+    ('doubled in the next block', LOST + block(2, 21, entry(12, 0, 10)),
+     'record 1\n' + ONE + 'line 8 input 12 breaks alternate\n'),
+    ('lost', LOST + block(2, 31, entry(12, 0, 30)), 'record 1\n' + ONE + 'line 8 input 12 breaks alternate\n'),
+    ('turned', LOST + block(2, 21, entry(12, 0, 20)) + block(3, 31, entry(12, 0, 30)),
+     'record 1\n' + ONE + 'line 8 input 12 breaks alternate\n'),
+    ('swapped', START + block(1, 21, entry(12, 1, 20), entry(13, 0, 10)),
+     'record 1\ninput 12 state 1 stamp 20 wide 20\nline 6 input 13 breaks order\n'),
+    # A block without entries between changes nothing, nor does a remark.
+    ('below empty blocks', '# run\n' + LOST + block(2, 12) + block(3, 31, entry(12, 0, 30)),
+     'record 1\n' + ONE + 'line 11 input 12 breaks alternate\n'),
+    # Order: times modulo 2^32; equal times keep it; a gap mark and a load lift it.
+    ('equal times', START + block(1, 11, entry(12, 0, 10), entry(13, 0, 10)),
+     'record 2\n' + ONE + 'input 13 state 0 stamp 10 wide 10\n'),
+    ('around 0', START + block(1, 0xffff_fff1, entry(12, 0, 0xfff0)) + block(2, 9, entry(13, 0, 8)),
+     'record 2\ninput 12 state 0 stamp 65520 wide 4294967280\ninput 13 state 0 stamp 8 wide 8\n'),
+    ('half of all times ahead', START + block(1, 11, entry(12, 0, 10)) + block(2, 0x8000_000a, entry(13, 0, 10)),
+     'record 1\n' + ONE + 'line 8 input 13 breaks order\n'),
+    ('one less than half ahead', START + block(1, 11, entry(12, 0, 10)) + block(2, 0x8000_0009, entry(13, 0, 9)),
+     'record 2\n' + ONE + 'input 13 state 0 stamp 9 wide 2147483657\n'),
+    ('a load', START + block(1, 11, entry(12, 0, 10)) + LOAD + block(2, 6, entry(13, 0, 5)),
+     'record 2\n' + ONE + 'input 13 state 0 stamp 5 wide 5\n'),
+    ('order before alternate', START + block(1, 11, entry(12, 0, 10), entry(12, 0, 9)),
+     'record 1\n' + ONE + 'line 6 input 12 breaks order\n'),
+    # Alternate: the first block has no block without C above it.
+    ('no block above', block(0, 11, entry(12, 0, 10), entry(12, 0, 10)),
+     'record 2\n' + ONE + ONE),
+    ('no block without C above', block(0, 300, *FULL, status=8) + block(1, 311, entry(12, 0, 301), entry(12, 0, 301)),
+     'record 257\n' + ''.join('input 0 state %d stamp %d wide %d\n' % (place % 2, place + 11, place + 11)
+                              for place in range(255)) + 'input 12 state 0 stamp 301 wide 301\n' * 2),
+    ('a load does not lift it', LOST + LOAD + block(2, 31, entry(12, 0, 30)),
+     'record 1\n' + ONE + 'line 10 input 12 breaks alternate\n'),
+    # A configuration lifts it that is sent below the first poll for the block without C above the older entry's.
+    ('configured between', LOST + configuration((12, 5, 3)) + block(2, 31, entry(12, 0, 30)),
+     'record 2\n' + ONE + 'input 12 state 0 stamp 30 wide 30\n'),
+    ('configured between, another input', LOST + configuration((13, 5, 3)) + block(2, 31, entry(12, 0, 30)),
+     'record 2\n' + ONE + 'input 12 state 0 stamp 30 wide 30\n'),
+    ('configured between, no answer', LOST + '> 33010c0505\n' + block(2, 31, entry(12, 0, 30)),
+     'record 2\n' + ONE + 'input 12 state 0 stamp 30 wide 30\n'),
+    ('configured between, refused', LOST + configuration((12, 5, 3), status=1) + block(2, 31, entry(12, 0, 30)),
+     'record 2\n' + ONE + 'input 12 state 0 stamp 30 wide 30\n'),
+    ('configured below the first of two polls',
+     START + '> 3601\n' + configuration((12, 1, 1)) + block(1, 1) + block(2, 11, entry(12, 0, 10)) +
+     block(3, 31, entry(12, 0, 30)),
+     'record 2\n' + ONE + 'input 12 state 0 stamp 30 wide 30\n'),
+    ('configured above the first poll',
+     START + configuration((12, 1, 1)) + '> 3601\n' + block(1, 1) + block(2, 11, entry(12, 0, 10)) +
+     block(3, 31, entry(12, 0, 30)), 'record 1\n' + ONE + 'line 13 input 12 breaks alternate\n'),
+    # Apart: the filter for the change; 0 acts as 1; the last item of an input counts.
+    ('as far as the filter', START + block(1, 14, entry(12, 0, 10), entry(12, 1, 13)),
+     'record 2\n' + ONE + 'input 12 state 1 stamp 13 wide 13\n'),
+    ('nearer than the filter', START + block(1, 14, entry(12, 0, 10), entry(12, 1, 12)),
+     'record 1\n' + ONE + 'line 6 input 12 breaks apart\n'),
+    ('the other filter', START + block(1, 19, entry(12, 1, 10), entry(12, 0, 14)),
+     'record 1\ninput 12 state 1 stamp 10 wide 10\nline 6 input 12 breaks apart\n'),
+    ('another input', START + block(1, 14, entry(12, 0, 10), entry(13, 1, 12)),
+     'record 2\n' + ONE + 'input 13 state 1 stamp 12 wide 12\n'),
+    ('an input without filters', START + block(1, 14, entry(11, 0, 10), entry(11, 1, 10)),
+     'record 2\ninput 11 state 0 stamp 10 wide 10\ninput 11 state 1 stamp 10 wide 10\n'),
+    ('a filter of 0', configuration((12, 0, 0)) + block(0, 0) + block(1, 14, entry(12, 0, 10), entry(12, 1, 10)),
+     'record 1\n' + ONE + 'line 6 input 12 breaks apart\n'),
+    ('a filter of 0 and a sample', configuration((12, 0, 0)) + block(0, 0) + block(1, 14, entry(12, 0, 10), entry(12, 1, 11)),
+     'record 2\n' + ONE + 'input 12 state 1 stamp 11 wide 11\n'),
+    ('the last item', configuration((12, 5, 1), (12, 5, 3)) + block(0, 0) + block(1, 14, entry(12, 0, 10), entry(12, 1, 12)),
+     'record 1\n' + ONE + 'line 6 input 12 breaks apart\n'),
+    ('the last item, shorter', configuration((12, 5, 3), (12, 5, 1)) + block(0, 0) + block(1, 14, entry(12, 0, 10), entry(12, 1, 12)),
+     'record 2\n' + ONE + 'input 12 state 1 stamp 12 wide 12\n'),
+    ('a refused configuration', configuration((12, 5, 3), status=1) + block(0, 0) + block(1, 14, entry(12, 0, 10), entry(12, 1, 12)),
+     'record 2\n' + ONE + 'input 12 state 1 stamp 12 wide 12\n'),
+    ('an unanswered configuration', '> 33010c0503\n' + block(0, 0) + block(1, 14, entry(12, 0, 10), entry(12, 1, 12)),
+     'record 2\n' + ONE + 'input 12 state 1 stamp 12 wide 12\n'),
+    ('a later configuration of another input', configuration((12, 5, 3)) + configuration((13, 5, 3)) + block(0, 0) +
+     block(1, 14, entry(12, 0, 10), entry(12, 1, 12)), 'record 2\n' + ONE + 'input 12 state 1 stamp 12 wide 12\n'),
+    ('a load lifts apart', START + LOAD + block(1, 14, entry(12, 0, 10), entry(12, 1, 12)),
+     'record 2\n' + ONE + 'input 12 state 1 stamp 12 wide 12\n'),
+    # A gap mark between lifts every rule.
+    ('a gap mark', configuration((12, 5, 3)) + block(0, 0) + block(1, 11, entry(12, 0, 10)) +
+     block(2, 300, entry(12, 0, 9), *FULL[1:], status=12),
+     'record 257\n' + ONE + 'gap\ninput 12 state 0 stamp 9 wide 9\n' +
+     ''.join('input 0 state %d stamp %d wide %d\n' % (place % 2, place + 11, place + 11) for place in range(1, 255))),
+    # The nine rules come first, also below an entry that breaks a rule on content.
+    ('a rule broken below', START + block(1, 11, entry(12, 0, 10), entry(12, 0, 10)) + '> 3604\n', 'line 7 breaks advance\n'),
+    ('a bad line below', START + block(1, 11, entry(12, 0, 10), entry(12, 0, 10)) + '> zz\n', 'line 7: bad line\n'),
+]
+
+# As many blocks as fit, of 255 entries of one input in turn, and the last entry is doubled.
+BLOCK = block(0, 300, *FULL, status=8)
+
+
+def longest():
+    """The longest transcript of full blocks, whose last entry breaks a rule, and what `record` writes of it."""
+    count = lines_that_fit(BLOCK, START) - 1
+    text, stamp, state, items = START, 0, 0, []
+    for turn in range(count):
+        entries = []
+        for _ in range(255):
+            stamp, state = stamp + 5, 1 - state
+            entries.append(entry(13, state, stamp))
+            items.append('input 13 state %d stamp %d wide %d\n' % (state, stamp % 65_536, stamp))
+        text += block((turn + 1) % 256, stamp, *entries, status=8)
+    text += block((count + 1) % 256, stamp + 5, entry(13, state, stamp + 5))
+    return text, 'record %d\n%sline %d input 13 breaks alternate\n' % (len(items), ''.join(items), text.count('\n'))
+
+
+def random_transcript(draw):
+    """A transcript that keeps the nine rules: few inputs, states that mostly alternate, times that mostly rise."""
+    lines, number, clock, states, more = [], draw.randrange(256), draw.choice((0, 0xffff_ff00, 70_000)), {}, False
+    for _ in range(draw.randrange(4, 40)):
+        what = draw.random()
+        if what < 0.06:
+            lines.append('> 32%08x' % draw.randrange(1 << 32))
+            lines += ['< b200'] if draw.random() < 0.7 else []
+        elif what < 0.25:
+            items = ''.join('%02x%02x%02x' % (draw.randrange(4) | draw.randrange(2) << 7, draw.randrange(9), draw.randrange(9))
+                            for _ in range(draw.randrange(5)))
+            lines.append('> 33%02x%s' % (len(items) // 6, items))
+            lines += ['< b3%02x' % draw.choice((0, 0, 0, 1, 0xfe))] if draw.random() < 0.7 else []
+        elif what < 0.4:
+            lines.append('> 36%02x' % number)
+        elif what < 0.45:
+            lines += ['> 3c', '< bc02']
+        else:
+            count = 255 if draw.random() < 0.05 else draw.randrange(1 if more else 0, 6)
+            more = count == 255 and draw.random() < 0.8
+            entries = ''
+            for _ in range(count):
+                clock += draw.choice((0, 1, 1, 2, 3, 5, 9, -1 if draw.random() < 0.1 else 1))
+                named = draw.randrange(4)
+                states[named] = states.get(named, 0) ^ (draw.random() < 0.9)
+                entries += entry(named, states[named], clock)
+            status = 8 * more + 4 * (more and draw.random() < 0.4)
+            clock += draw.randrange(4)
+            lines += ['> 36%02x' % number, '< b6%02x%02x%s%02x%08x' % (number, count, entries, status, clock % (1 << 32))]
+            number = (number + 1) % 256
+    return '\n'.join(lines) + '\n'
+
+
+def lossy_script(seed):
+    """A script of tools/lossy-script, whose bus loses frames and repeats none."""
+    words = ['--rounds', '120', '--repeat', '0', '--loss', str((0, 0.1, 0.3)[seed % 3]), '--seed', str(seed),
+             '--inputs', str((1, 4, 16)[seed // 3 % 3])]
+    return written_by([os.path.join(TOP, 'tools', 'lossy-script'), *words])
+
+
+def late_script(draw):
+    """A script with configurations and loads of the counter: a command is lost, arrives at once, or late, below further
+    commands; its answer reaches the CPU directly after the command or never."""
+    lines, sent, last, answers, late, levels = ['fio2070 script 1 2 %d' % draw.randrange(256)], 0, 0, 0, [], (1 << 64) - 1
+    loads = draw.random() < 0.3
+    for _ in range(150):
+        for _ in range(draw.randrange(5)):
+            for named in range(6):
+                levels ^= (draw.random() < 0.2) << named
+            lines.append('scan ' + levels.to_bytes(8, 'little').hex())
+        if loads and draw.random() < 0.1:
+            lines.append('sync')
+        what, sent = draw.random(), sent + 1
+        if what < 0.15:
+            items = [(draw.randrange(6) | (draw.random() < 0.2) << 7, draw.randrange(6), draw.randrange(6))
+                     for _ in range(draw.randrange(1, 7))]
+            lines.append('send 33%02x' % len(items) + ''.join('%02x%02x%02x' % item for item in items))
+        elif loads and what < 0.2:
+            lines.append('send 32%08x' % draw.choice((0, 70_000, 0xffff_fff0)))
+        else:
+            lines.append('poll')
+        while late and draw.random() < 0.5:
+            last, answers = late.pop(0), answers + 1
+            lines.append('to-module %d' % last)
+        arrives = draw.random()
+        if arrives < 0.7:
+            last, answers, late = sent, answers + 1, []
+            lines.append('to-module %d' % sent)
+            if draw.random() < 0.8:
+                lines.append('to-cpu %d' % answers)
+        elif arrives < 0.9:
+            late.append(sent)
+    return '\n'.join(lines) + '\n'
+
+
+def written_by(words, text=''):
+    """What a command writes for an input."""
+    return subprocess.run(words, input=text.encode(), stdout=subprocess.PIPE, timeout=60).stdout.decode()
+
+
+def run_of_link(script):
+    """The transcript of a run of `simulate`."""
+    report = output_of('simulate', script)[0]
+    with tempfile.NamedTemporaryFile('w', suffix='.script') as file:
+        file.write(script)
+        file.flush()
+        return written_by([os.path.join(TOP, 'tools', 'transcript'), file.name], report)
+
+
+def dropped(entries, at):
+    del entries[at]
+
+
+def doubled(entries, at):
+    entries.insert(at, entries[at])
+
+
+def turned(entries, at):
+    entries[at] = bytes((entries[at][0] ^ 128,)) + entries[at][1:]
+
+
+def swapped(entries, at):
+    entries[at:at + 2] = reversed(entries[at:at + 2])
+
+
+def changed(text, change, draw):
+    """A transcript with one entry of a block changed: any, or to be swapped one with another stamp than the next one."""
+    lines, found = text.split('\n'), []
+    for place, line in enumerate(lines):
+        octets = bytes.fromhex(line[2:]) if line.startswith('< b6') else b''
+        entries = [octets[at:at + 3] for at in range(3, len(octets) - 5, 3)]
+        found += [(place, octets, entries, at) for at in range(len(entries))
+                  if change is not swapped or at + 1 < len(entries) and entries[at][1:] != entries[at + 1][1:]]
+    if not found:
+        return text
+    place, octets, entries, at = draw.choice(found)
+    change(entries, at)
+    lines[place] = '< ' + (octets[:2] + bytes((len(entries),)) + b''.join(entries) + octets[-5:]).hex()
+    return '\n'.join(lines)
+
+
+def agrees(check, name, text):
+    """A row: the program writes what the model says. Whether it is a record without a breach."""
+    expected = Record(text).text()
+    good = '\nline ' not in expected
+    row(check, name, 'record', text, expected, 0 if good else 1)
+    return good
+
+
+check = Check()
+for name, text, expected in WORKED:
+    broken = expected.startswith('line ') or '\nline ' in expected
+    row(check, 'worked: ' + name, 'record', text, expected, 1 if broken else 0)
+    if not expected.startswith('line '):
+        check.equal('worked, the model: ' + name, expected, Record(text).text())
+text, expected = longest()
+check.holds('the longest transcript is no longer than an input may be', MOST_OCTETS - 4096 < len(text) <= MOST_OCTETS, len(text))
+row(check, 'the longest transcript', 'record', text, expected, 1)
+draw = random.Random(1)
+kept = 0
+for turn in range(TRANSCRIPTS):
+    kept += agrees(check, 'random transcript %d' % turn, random_transcript(draw))
+check.holds('of the random transcripts some are broken and some are not', 20 < kept < TRANSCRIPTS - 20, kept)
+found = {change.__name__: 0 for change in (dropped, doubled, turned, swapped)}
+for seed in range(SEEDS):
+    text = run_of_link(lossy_script(seed))
+    check.holds('a run that nobody changed is not accused: seed %d' % seed, agrees(check, 'run %d' % seed, text))
+    for change in (dropped, doubled, turned, swapped):
+        found[change.__name__] += not agrees(check, 'run %d with an entry %s' % (seed, change.__name__), changed(text, change, draw))
+for turn in range(LATE_RUNS):
+    text = run_of_link(late_script(draw))
+    check.holds('a run with late commands is not accused: %d' % turn, agrees(check, 'late run %d' % turn, text) and 'b6' in text)
+    for change in (dropped, doubled, turned):
+        agrees(check, 'late run %d with an entry %s' % (turn, change.__name__), changed(text, change, draw))
+for name, count in found.items():
+    check.holds('of %d runs with an entry %s at least half are found' % (SEEDS, name), 2 * count >= SEEDS, count)
+check.end()

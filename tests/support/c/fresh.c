@@ -1,0 +1,113 @@
+/* Each call that writes, into memory that nothing has written before, from malloc: what it says to have written is all
+ * written, and no call reads what was there. For valgrind. The last line is `N passed, M failed`. */
+#include "fio2070.h"
+
+#include <stdio.h>
+#include <stdlib.h>
+#include <string.h>
+
+static int passed, failed;
+#define CHECK(condition) check((condition) != 0, #condition, __LINE__)
+
+static void check(int holds, const char *text, int line) {
+    if (holds) {
+        passed++;
+    } else {
+        failed++;
+        printf("line %d: %s\n", line, text);
+    }
+}
+
+/* What was taken, which stays until the end. */
+static void *taken[64];
+static int count_taken;
+
+static void *fresh(size_t size) {
+    void *place = count_taken < 64 ? malloc(size) : NULL;
+    if (place == NULL) exit(2);
+    taken[count_taken++] = place;
+    return place;
+}
+
+static uint8_t *room(void) { return (uint8_t *)fresh(FIO2070_LONGEST_FRAME); }
+
+/* Whether these octets are written. */
+static int is_written(size_t count, const uint8_t *octets, const char *expected, size_t length) {
+    return count == length && memcmp(octets, expected, length) == 0;
+}
+
+static void reads(void) {
+    static const uint8_t block[] = {0xb6, 5, 1, 0x8c, 3, 0xe7, 0, 0, 0, 3, 0xe8};
+    static const uint8_t configuration[] = {51, 1, 12, 5, 3};
+    struct fio2070_block_header *header = (struct fio2070_block_header *)fresh(sizeof *header);
+    struct fio2070_command *command = (struct fio2070_command *)fresh(sizeof *command);
+    struct fio2070_answer *answer = (struct fio2070_answer *)fresh(sizeof *answer);
+    struct fio2070_entry *entries = (struct fio2070_entry *)fresh(2 * sizeof *entries);
+    struct fio2070_configuration_item *items = (struct fio2070_configuration_item *)fresh(2 * sizeof *items);
+    struct fio2070_fault fault;
+    uint8_t *text = room();
+    CHECK(fio2070_read_block(block, sizeof block, header).kind == FIO2070_FAULT_NONE);
+    CHECK(header->number == 5 && header->status == 0 && header->count == 1 && header->reserved == 0 && header->stamp == 1000);
+    CHECK(fio2070_block_entries(block, sizeof block, entries, 2) == 1 && entries[0].input == 12 && entries[0].state == 1);
+    CHECK(fio2070_decode_command(configuration, 5, command).kind == FIO2070_FAULT_NONE);
+    CHECK(command->code == 51 && command->count == 1 && command->load == 0 && command->controls[7] == 0);
+    CHECK(fio2070_command_items(configuration, 5, items, 2) == 1 && items[0].input == 12 && items[0].trailing == 3);
+    CHECK(fio2070_decode_answer(block, sizeof block, answer).kind == FIO2070_FAULT_NONE);
+    CHECK(answer->code == 182 && answer->count == 1 && answer->reserved[2] == 0 && answer->inputs == 0);
+    CHECK(is_written(fio2070_show(configuration + 1, 1, text, FIO2070_LONGEST_FRAME), text, "unknown type 1\n", 15));
+    fault = fio2070_decode_command(configuration + 1, 1, (struct fio2070_command *)fresh(sizeof *command));
+    CHECK(is_written(fio2070_fault_text(&fault, text, FIO2070_LONGEST_FRAME), text, "unknown type 1", 14));
+}
+
+static void writes(void) {
+    static const struct fio2070_entry entry = {12, 1, 999};
+    static const struct fio2070_configuration_item item = {12, 0, 5, 3};
+    uint8_t *out = room();
+    CHECK(is_written(fio2070_encode_load_counter(65536, out, 5), out, "\x32\0\1\0\0", 5));
+    CHECK(is_written(fio2070_encode_configure_inputs(&item, 1, room(), 4), out, "", 0));
+    out = room();
+    CHECK(is_written(fio2070_encode_configure_inputs(&item, 1, out, 5), out, "\x33\1\x0c\5\3", 5));
+    out = room();
+    CHECK(is_written(fio2070_encode_block_answer(5, &entry, 1, 0, 1000, out, 11), out, "\xb6\5\1\x8c\3\xe7\0\0\0\3\xe8", 11));
+    out = room();
+    CHECK(is_written(fio2070_encode_other_command(59, (const uint8_t *)"\1\2", 2, out, 3), out, "\x3b\1\2", 3));
+    out = room();
+    CHECK(is_written(fio2070_encode_status_answer(1, 2, 3, 4, out, 8), out, "\xb1\1\2\3\0\0\0\4", 8));
+}
+
+static void ends(void) {
+    struct fio2070_module *module = (struct fio2070_module *)fresh(sizeof *module);
+    struct fio2070_checker *checker = (struct fio2070_checker *)fresh(sizeof *checker);
+    struct fio2070_breach *breach = (struct fio2070_breach *)fresh(sizeof *breach);
+    struct fio2070_content_checker *content = (struct fio2070_content_checker *)fresh(sizeof *content);
+    struct fio2070_content_breach *entry = (struct fio2070_content_breach *)fresh(sizeof *entry);
+    struct fio2070_record_item *items = (struct fio2070_record_item *)fresh(FIO2070_MOST_RECORD_ITEMS * sizeof *items);
+    struct fio2070_poller poller = {5};
+    struct fio2070_heard heard;
+    uint8_t *out = room();
+    size_t count;
+    CHECK(fio2070_module_start(module, 2, 255) == 0);
+    CHECK(is_written(fio2070_module_receive(module, (const uint8_t *)"\x33\1\x0c\1\1", 5, out), out, "\xb3\0", 2));
+    fio2070_module_scan(module, 0);
+    out = room();
+    count = fio2070_module_receive(module, (const uint8_t *)"\x36\5", 2, out);
+    CHECK(is_written(count, out, "\xb6\5\1\x0c\0\1\0\0\0\0\1", 11));
+    fio2070_checker_start(checker);
+    CHECK(fio2070_checker_sent(checker, (const uint8_t *)"\x36\5", 2, breach) == 0 && breach->rule == 0);
+    CHECK(fio2070_checker_heard(checker, out, count, breach) == 0 && breach->due == 0);
+    fio2070_content_start(content);
+    fio2070_content_sent(content, (const uint8_t *)"\x36\5", 2);
+    CHECK(fio2070_content_heard(content, out, count, entry) == 0 && entry->rule == 0 && entry->entry == 0 && entry->input == 0);
+    heard = fio2070_poller_hear(&poller, out, count, items, FIO2070_MOST_RECORD_ITEMS);
+    CHECK(heard.kind == FIO2070_HEARD_TAKEN && heard.items == 1 && poller.number == 6);
+    CHECK(items[0].input == 12 && items[0].state == 0 && items[0].reserved[2] == 0 && items[0].wide == 1);
+    CHECK(fio2070_module_flags(module) == FIO2070_BIT_WAS_RESET && fio2070_module_errors(module).receive == 0);
+}
+
+int main(void) {
+    reads();
+    writes();
+    ends();
+    printf("%d passed, %d failed\n", passed, failed);
+    return failed != 0;
+}

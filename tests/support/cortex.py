@@ -1,0 +1,64 @@
+"""The portable library on a Cortex-M4 without an operating system: qemu-system-arm's board mps2-an386, of which 256 KB of
+flash and 64 KB of RAM are used."""
+
+import os
+import re
+import shutil
+import subprocess
+
+from support.tables import TOP
+
+SOURCES = os.path.join(TOP, 'tests/support/c')
+FLAGS = ['-std=c99', '-mcpu=cortex-m4', '-mthumb', '-ffunction-sections', '-fdata-sections']
+COMPILER, QEMU = 'arm-none-eabi-gcc', 'qemu-system-arm'
+# The parts of the library, each with the names of its calls; `all` has every call of the header.
+PARTS = {'module': r'module_', 'poller': r'poller_',
+         'codec': r'(en|de)code_|command_items|read_block|block_entries|widen|fault_text', 'all': ''}
+
+
+class Failed(Exception):
+    """What a command wrote that failed."""
+
+
+def missing():
+    """The command that is not here, and its package; nothing where all are."""
+    for command, package in ((COMPILER, 'gcc-arm-none-eabi, libnewlib-arm-none-eabi'), (QEMU, 'qemu-system-arm')):
+        if not shutil.which(command):
+            return 'no %s here (Debian packages %s)' % (command, package)
+    return None
+
+
+def run(*words):
+    done = subprocess.run(words, capture_output=True, text=True, stdin=subprocess.DEVNULL, timeout=300, check=False)
+    if done.returncode:
+        raise Failed('%s: status %d %s' % (words[0], done.returncode, done.stderr[-500:]))
+    return done.stdout
+
+
+def compiled(folder, options, library):
+    """The portable library as an object in the folder."""
+    made = os.path.join(folder, 'fio2070.o')
+    run(COMPILER, *FLAGS, *options, '-Wall', '-Wextra', '-Wpedantic', '-Wconversion', '-Werror', '-I', library, '-c',
+        os.path.join(library, 'fio2070.c'), '-o', made)
+    return made
+
+
+def output_of(folder, options, library, program, words):
+    """What a program writes there that is given these words. Nanoseconds of its clock are instructions."""
+    made, start = os.path.join(folder, 'cortex.elf'), os.path.join(SOURCES, 'cortex_m')
+    run(COMPILER, *FLAGS, *options, '-I', library, '--specs=rdimon.specs', '-nostartfiles', '-T',
+        os.path.join(start, 'link.ld'), '-Wl,--gc-sections', '-DARGUMENTS=' + ','.join('"%s"' % word for word in words),
+        os.path.join(start, 'start.c'), os.path.join(SOURCES, program), compiled(folder, options, library), '-o', made)
+    return run(QEMU, '-M', 'mps2-an386', '-icount', 'shift=0', '-nographic', '-semihosting-config',
+               'enable=on,target=native', '-kernel', made)
+
+
+def code_of(folder, options, library, part):
+    """The octets of code and constants that the calls of a part take, without those of the compiler's own library."""
+    with open(os.path.join(library, 'fio2070.h'), encoding='utf-8') as file:
+        calls = re.findall(r'^(?!static)[\w *]*?\b(fio2070_\w+)\(', file.read(), re.M)
+    roots = ['-Wl,-u,' + call for call in calls if re.match('fio2070_(%s)' % PARTS[part], call)]
+    made = os.path.join(folder, 'part.elf')
+    run(COMPILER, *FLAGS, '-nostdlib', '-Wl,--gc-sections,--unresolved-symbols=ignore-all,-e,0', *roots,
+        compiled(folder, options, library), '-o', made)
+    return sum(int(number) for number in run('arm-none-eabi-size', made).splitlines()[1].split()[:2])
