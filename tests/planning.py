@@ -3,8 +3,10 @@
 counts alone, that it reaches each bound, and that one scan more loses a transition; and in small settings, by a search of
 all states, that the bounds are exact. Runs the densest traffic by
 `simulate`: what arrives at the end of each clean round, how late it is, outages of the length in the table and of one
-scan more, rounds as far apart as the table says and one scan further, and restarts. Last line: `N passed, M failed`."""
+scan more, rounds as far apart as the table says and one scan further, restarts, and configurations that open other inputs.
+Last line: `N passed, M failed`."""
 
+import itertools
 import os
 import re
 import sys
@@ -140,6 +142,40 @@ def check_search(check):
                         most_exact(inputs, filter_length, per_block, every, lost_answer), (waiting, late))
 
 
+def most_reported(inputs, filter_length, opened, scans):
+    """The most that so many scans can report, by a search of all that inputs and configurations can do, where no more than
+    so many are open at each scan. An input can change at a sample that is the filter's since its latest change or
+    configuration, or one later."""
+    reached = {tuple(sorted((is_open, filter_length - 1) for is_open in flags)): 0
+               for flags in itertools.product((0, 1), repeat=inputs)}
+    for _ in range(scans):
+        configured = {}
+        for state, count in reached.items():
+            choices = [(one, (0, 0), (1, 0)) for one in state]
+            for after in itertools.product(*choices):
+                if sum(is_open for is_open, _ in after) <= opened:
+                    after = tuple(sorted(after))
+                    configured[after] = max(count, configured.get(after, 0))
+        reached = {}
+        for state, count in configured.items():
+            choices = [((is_open, min(age + 1, filter_length - 1), 0),)
+                       + ((is_open, 0, is_open),) * (age == filter_length - 1) for is_open, age in state]
+            for after in itertools.product(*choices):
+                found = tuple(sorted(one[:2] for one in after))
+                reached[found] = max(count + sum(one[2] for one in after), reached.get(found, 0))
+    return max(reached.values())
+
+
+def check_configured_search(check):
+    """Configurations that leave no more inputs open make no more transitions: so many scans report at most one of each such
+    input for each filter that begins in them."""
+    for inputs, filter_length, opened in ((3, 1, 1), (3, 2, 1), (3, 3, 1), (3, 2, 2), (4, 2, 2), (4, 3, 2)):
+        for scans in range(8):
+            check.equal('the most that %d scans report of %d inputs with filters of %d, %d of them open'
+                        % (scans, inputs, filter_length, opened),
+                        logged_in(opened, filter_length, scans), most_reported(inputs, filter_length, opened, scans))
+
+
 class Densest:
     """A script in which the open inputs change as often as their filters let them, and what it logs."""
 
@@ -188,12 +224,33 @@ class Densest:
         return entries, [None if item == 'gap' else int(item.split()[-1]) for item in record]
 
 
-def check_rounds(check, inputs, filter_length, lost_answer):
+class Configured(Densest):
+    """The same traffic, in which after each filter a configuration opens the next so many inputs in place of those that
+    were open. It is delivered twice, as one is whose answer was lost."""
+
+    def configure(self):
+        first = (self.scans // self.filter - 1) * self.inputs
+        items = [bytes([(first + place) % 64 | 0x80, self.filter, self.filter]) for place in range(self.inputs)]
+        items += [bytes([(first + self.inputs + place) % 64, self.filter, self.filter]) for place in range(self.inputs)]
+        self.lines.append('send ' + (bytes([51, len(items)]) + b''.join(items)).hex())
+        self.deliver_to_module()
+        self.lines.append('to-module %d' % self.to_module)
+        self.to_cpu += 2
+
+    def scan(self, count):
+        for _ in range(count):
+            super().scan(1)
+            if self.scans % self.filter == 0:
+                self.configure()
+
+
+def check_rounds(check, inputs, filter_length, lost_answer, traffic=Densest):
     """Clean rounds as far apart as the table says: nothing is lost, and how late the latest is."""
     row = planned(inputs, filter_length)
     every, latest = row[2], row[6 if lost_answer else 4]
-    name = 'clean rounds of %d inputs with filters of %d%s' % (inputs, filter_length, ', one lost' * lost_answer)
-    script = Densest(inputs, filter_length, WAITING[0])
+    name = '%s: clean rounds of %d inputs with filters of %d%s' % (
+        traffic.__name__, inputs, filter_length, ', one lost' * lost_answer)
+    script = traffic(inputs, filter_length, WAITING[0])
     if lost_answer:
         script.lost_round()
     logged, made = [], []
@@ -210,20 +267,20 @@ def check_rounds(check, inputs, filter_length, lost_answer):
                 all(ends[place] >= logged[place - rounds] for place in range(rounds, 6)))
     late = [made[place] - script.logged[end - count] for place, (end, count) in enumerate(zip(ends, entries)) if count]
     check.holds(name + ': no transition is more than %d scans late' % latest, max(late) <= latest, max(late))
-    if (inputs, filter_length) == (64, 5):
+    if (inputs, filter_length) == (64, 5) or traffic is Configured:
         check.equal(name + ': the latest', latest, max(late))
 
 
-def check_outage(check, inputs, filter_length, waiting):
+def check_outage(check, inputs, filter_length, waiting, traffic=Densest):
     """An outage as long as the table says is ridden out and caught up with; one of a scan more is not."""
     length = planned(inputs, filter_length)[7 + WAITING.index(waiting)]
-    name = 'outage of %d inputs with filters of %d, %d waiting' % (inputs, filter_length, waiting)
-    script = Densest(inputs, filter_length, waiting)
+    name = '%s: outage of %d inputs with filters of %d, %d waiting' % (traffic.__name__, inputs, filter_length, waiting)
+    script = traffic(inputs, filter_length, waiting)
     script.scan(length)
     for _ in range(1 + -(-waiting // PER_BLOCK)):
         script.clean_round()
     check.equal(name + ': %d scans are ridden out' % length, script.logged, script.run()[1])
-    script = Densest(inputs, filter_length, waiting)
+    script = traffic(inputs, filter_length, waiting)
     script.scan(length + 1)
     script.clean_round()
     check.holds(name + ': %d scans lose something' % (length + 1), None in script.run()[1])
@@ -275,6 +332,7 @@ def main():
     check_table(check)
     check_bounds(check)
     check_search(check)
+    check_configured_search(check)
     check_polling(check)
     check_room(check)
     check_restart(check)
@@ -285,6 +343,10 @@ def main():
             check_outage(check, inputs, filter_length, WAITING[0])
     for inputs, filter_length in ((64, 1), (64, 5), (32, 10), (8, 5)):
         check_outage(check, inputs, filter_length, WAITING[1])
+    for inputs, filter_length in ((8, 2), (16, 5), (32, 5)):
+        check_rounds(check, inputs, filter_length, False, Configured)
+        check_rounds(check, inputs, filter_length, True, Configured)
+        check_outage(check, inputs, filter_length, WAITING[0], Configured)
     check.end()
 
 

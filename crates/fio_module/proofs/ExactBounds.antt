@@ -1,10 +1,10 @@
 -- How many entries wait at most, and how late they are, with blocks and filters counted whole.
-use Rattle.std.proofs.Common.{◌≡◌, ℕ, ◌+◌, ◌-◌, ◌*◌, ◌/◌, ◌<◌, ◌≤◌, [], ◌∷◌, ◌++◌, length, Some, slice_get, refl, ap, sym, subst, ◌∙◌, arith, inl, inr, append_assoc, length-drop}
+use Rattle.std.proofs.Common.{◌≡◌, ℕ, ◌+◌, ◌-◌, ◌*◌, ◌/◌, ◌<◌, ◌≤◌, [], ◌∷◌, ◌++◌, length, Some, slice_get, refl, ap, subst, ◌∙◌, arith, inl, inr, append_assoc, length-drop}
 use Rattle.std.proofs.Math.Nat.{mul-le-mul_left, div-mul-le_self, le-div_iff_mul-le, div-lt_iff_lt-mul}
 use Rattle.std.proofs.lemmas.Bool.{cases_lt}
 use Rattle.fio_message.specs.declared.commands.Command.TheVariants.{ConfigureInputs}
-use Rattle.fio_input.specs.Delivery.{scans_in, open_inputs, OpenHaveFiltersOf, NoneIsApplied}
-use Rattle.fio_input.proofs.FewReports.{open_inputs-carried, open_filters-carried}
+use Rattle.fio_input.specs.Delivery.{scans_in, FewStayOpen}
+use Rattle.fio_input.proofs.FewStayOpen.{reports_are_few}
 use Rattle.fio_module.specs.Settings.{Settings, AreInRange}
 use Rattle.fio_module.specs.Life.{Life, Occurrence, Scanned, Commanded, scans_of, filter_events}
 use Rattle.fio_module.specs.Log.{Transition, log_of}
@@ -14,12 +14,11 @@ use Rattle.fio_module.specs.KeepingUp.{scans_behind, IsKeptUp, KeepsUp}
 use Rattle.fio_module.specs.ExactBounds.{KeepsUpExactly, KeptUpKeepsUpExactly}
 use Rattle.fio_module.proofs.BlockLaws.{blocks_end_within}
 use Rattle.fio_module.proofs.Losses.{holds_now}
-use Rattle.fio_module.proofs.Growth.{filter_events-append, log-grows}
+use Rattle.fio_module.proofs.Growth.{log-grows}
 use Rattle.fio_module.proofs.ListParts.{each-from_get, get_in_drop}
 use Rattle.fio_module.proofs.Ages.{was_logged, scans_in-append}
-use Rattle.fio_module.proofs.Pace.{IsPaced, none_before, none_since, nothing_left, paced}
+use Rattle.fio_module.proofs.Pace.{IsPaced, few_before, few_since, nothing_left, paced}
 use Rattle.fio_module.proofs.Polling.{kept_up_keeps_up}
-use Rattle.fio_module.proofs.Outages.{few_reports}
 
 -- more scans have no fewer filters
 more_filters : (a b filter : ℕ) → 1 ≤ filter → a ≤ b → a / filter ≤ b / filter
@@ -48,42 +47,34 @@ no_scan (Scanned raw ∷ later) life none = absurd (omega arith)
 no_scan (Commanded (ConfigureInputs items) ∷ later) life none = no_scan later life none
 no_scan (other ∷ later) life none = no_scan later life none
 
-module _ (settings : Settings) (range : AreInRange settings) (filter scans most : ℕ) (life : Life) where
-  abbrev opened : ℕ
-  opened = open_inputs (filter_events life)
+module _ (settings : Settings) (range : AreInRange settings) (opened filter scans most : ℕ) (life : Life) where
+  abbrev IsFew : Life → Type 0
+  IsFew later = FewStayOpen opened filter (filter_events later) (filter_events life)
 
   -- what the log gained, from one time to another
-  gained : (upto before : Life) → 1 ≤ filter → OpenHaveFiltersOf (filter_events life) filter
-      → NoneIsApplied (filter_events (upto ++ before))
+  gained : (upto before : Life) → 1 ≤ filter → IsFew (upto ++ before)
       → length (log_of (upto ++ (before ++ life)))
       ≤ length (log_of (before ++ life)) + opened * (1 + (scans_in (filter_events upto) - 1) / filter)
-  gained upto before some filters none =
+  gained upto before some few =
       let rest = before ++ life in
-      let earlier = none_before upto before none in
-      let joined = filter_events-append before life in
-      let as_many : open_inputs (filter_events rest) ≡ opened = ap open_inputs joined ∙ open_inputs-carried (filter_events before) (filter_events life) earlier in
-      let still = subst (λ es. OpenHaveFiltersOf es filter) (sym joined)
-      (open_filters-carried (filter_events before) (filter_events life) filter earlier filters) in
-      let few = few_reports filter upto rest (none_since upto before none) some still in
-      let same : open_inputs (filter_events rest) * (1 + (scans_in (filter_events upto) - 1) / filter) ≡ opened * (1 + (scans_in (filter_events upto) - 1) / filter) =
-      ap (λ n. n * (1 + (scans_in (filter_events upto) - 1) / filter)) as_many in
+      let reports = reports_are_few opened filter (filter_events upto) (filter_events rest) some (few_since opened filter upto before life few) in
       omega (arith, log-grows upto rest)
 
-  exactly : (later : Life) → IsKeptUp settings filter scans most life later → KeepsUpExactly settings filter scans life later
+  exactly : (later : Life) → IsKeptUp settings opened filter scans most life later → KeepsUpExactly settings opened filter scans life later
   exactly later k =
       let here = later ++ life in
-      let p = paced settings filter scans most life k.some k.filters k.enough k.room later
-      (nothing_left settings range life (ap length k.nothing_waits)) k.not_applied k.behind in
-      let keeps = holds_now (KeepsUp settings filter scans life) later (kept_up_keeps_up settings filter scans most life later range k) in
+      let p = paced settings opened filter scans most life k.some k.enough k.room later
+      (nothing_left settings range life (ap length k.nothing_waits)) k.few_open k.behind in
+      let keeps = holds_now (KeepsUp settings opened filter scans life) later (kept_up_keeps_up settings opened filter scans most life later range k) in
       let rest = p.before ++ life in
       let whole : here ≡ p.since ++ rest = ap (λ l. l ++ life) p.split ∙ append_assoc p.since p.before life in
-      let none = subst (λ l. NoneIsApplied (filter_events l)) p.split k.not_applied in
+      let stay = subst IsFew p.split k.few_open in
       let few_beyond = keeps.few_beyond in
       let within : newest_end settings here ≤ length (log_of here) = blocks_end_within settings here in
       let from : waiting_from settings here ≡ newest_end settings here = omega arith in
       let count = length-drop (waiting_from settings here) (log_of here) in
       let grown = ap (λ l. length (log_of l)) whole in
-      let g = gained p.since p.before k.some k.filters none in
+      let g = gained p.since p.before k.some stay in
       let bound = scans * p.full + scans_behind scans later life in
       let filters_more = more_filters (scans_in (filter_events p.since) - 1) (bound - 1) filter k.some (omega (arith, p.scanned)) in
       let most_reports = mul-le-mul_left opened (add_one ((scans_in (filter_events p.since) - 1) / filter) ((bound - 1) / filter) filters_more) in
@@ -91,25 +82,25 @@ module _ (settings : Settings) (range : AreInRange settings) (filter scans most 
         blocks = p.full;
         few_wait = omega (arith, p.ended);
         young = each-from_get _ (waiting_of settings here)
-            (λ n transition is. young later k p whole none (waiting_from settings here + n) transition (omega arith)
+            (λ n transition is. young later k p whole stay (waiting_from settings here + n) transition (omega arith)
             (get_in_drop (waiting_from settings here) (log_of here) n transition is));
       }
     where
       add_one : (a b : ℕ) → a ≤ b → 1 + a ≤ 1 + b
       add_one a b le = omega arith
 
-      young : (later : Life) → IsKeptUp settings filter scans most life later → (p : IsPaced settings scans life later)
-          → later ++ life ≡ p.since ++ (p.before ++ life) → NoneIsApplied (filter_events (p.since ++ p.before))
+      young : (later : Life) → IsKeptUp settings opened filter scans most life later → (p : IsPaced settings scans life later)
+          → later ++ life ≡ p.since ++ (p.before ++ life) → IsFew (p.since ++ p.before)
           → (place : ℕ) (transition : Transition) → newest_end settings (later ++ life) ≤ place
           → slice_get (log_of (later ++ life)) place ≡ Some transition
           → scans_of (later ++ life) + 1 + filter * (settings.per_block * p.full / opened)
           ≤ transition.scans + (scans * p.full + scans_behind scans later life)
-      young later k p whole none place transition high is =
+      young later k p whole stay place transition high is =
           let rest = p.before ++ life in
           let is' = subst (λ l. slice_get (log_of l) place ≡ Some transition) whole is in
           let w = was_logged p.since rest place transition (omega (arith, p.ended)) is' in
-          let none' = subst (λ l. NoneIsApplied (filter_events l)) (ap (λ l. l ++ p.before) w.split ∙ append_assoc w.after w.upto p.before) none in
-          let g = gained w.upto p.before k.some k.filters (none_before w.after (w.upto ++ p.before) none') in
+          let stay' = subst IsFew (ap (λ l. l ++ p.before) w.split ∙ append_assoc w.after w.upto p.before) stay in
+          let g = gained w.upto p.before k.some (few_before opened filter w.after (w.upto ++ p.before) life stay') in
           let counts = ap (λ l. scans_in (filter_events l)) w.split ∙ scans_in-append w.after w.upto in
           let now = ap scans_of whole in
           let upto = scans_in (filter_events w.upto) in
@@ -124,17 +115,16 @@ module _ (settings : Settings) (range : AreInRange settings) (filter scans most 
             | inr never ↦ absurd (omega (arith, w.logged, p.ended, no_scan w.upto rest (omega arith)))
           ]
 
-  at_each : (later : Life) → IsKeptUp settings filter scans most life later → AtEachTime (KeepsUpExactly settings filter scans life) later
+  at_each : (later : Life) → IsKeptUp settings opened filter scans most life later → AtEachTime (KeepsUpExactly settings opened filter scans life) later
   at_each [] k = exactly [] k
   at_each (occurrence ∷ later) k = (exactly (occurrence ∷ later) k, at_each later (earlier occurrence later k))
     where
-      earlier : (occurrence : Occurrence) (later : Life) → IsKeptUp settings filter scans most life (occurrence ∷ later) → IsKeptUp settings filter scans most life later
+      earlier : (occurrence : Occurrence) (later : Life) → IsKeptUp settings opened filter scans most life (occurrence ∷ later) → IsKeptUp settings opened filter scans most life later
       earlier occurrence later k =
           record {
             nothing_waits = k.nothing_waits;
             some = k.some;
-            filters = k.filters;
-            not_applied = none_before (occurrence ∷ []) later k.not_applied;
+            few_open = few_before opened filter (occurrence ∷ []) later life k.few_open;
             enough = k.enough;
             behind = k.behind.1;
             room = k.room;
@@ -142,4 +132,4 @@ module _ (settings : Settings) (range : AreInRange settings) (filter scans most 
 
 -- a module that is kept up with
 pub kept_up_keeps_up_exactly : KeptUpKeepsUpExactly
-kept_up_keeps_up_exactly settings filter scans most life later range k = at_each settings range filter scans most life later k
+kept_up_keeps_up_exactly settings opened filter scans most life later range k = at_each settings range opened filter scans most life later k

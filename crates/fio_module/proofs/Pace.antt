@@ -3,8 +3,8 @@ use Rattle.std.proofs.Common.{◌≡◌, ℕ, zero, suc, ◌+◌, ◌-◌, ◌*�
 use Rattle.std.proofs.Math.Nat.{mul-le-mul_left, mul-le-mul_right, le_of_mul-le-mul_right}
 use Rattle.std.proofs.lemmas.Bool.{cases_lt}
 use Rattle.fio_message.specs.declared.commands.Command.TheVariants.{Poll, ConfigureInputs}
-use Rattle.fio_input.specs.Delivery.{scans_in, all_reports_in, open_inputs, OpenHaveFiltersOf, NoneIsApplied}
-use Rattle.fio_input.proofs.FewReports.{reports_times_filter, open_inputs-carried, open_filters-carried}
+use Rattle.fio_input.specs.Delivery.{scans_in, all_reports_in, HasFewOpen, FewStayOpen, NoneIsApplied}
+use Rattle.fio_input.proofs.FewStayOpen.{at_each_scan-back, at_each_scan-front, reports_times_filter}
 use Rattle.fio_module.specs.Settings.{Settings, AreInRange}
 use Rattle.fio_module.specs.Life.{Life, Occurrence, Scanned, Commanded, scans_of, filter_events}
 use Rattle.fio_module.specs.Log.{Transition, log_of}
@@ -26,6 +26,20 @@ none_before later life none =
 pub none_since : (later life : Life) → NoneIsApplied (filter_events (later ++ life)) → NoneIsApplied (filter_events later)
 none_since later life none =
     each-front _ (filter_events later) (filter_events life) (subst NoneIsApplied (filter_events-append later life) none)
+
+-- where few stay open, few did before and do since
+pub few_before : (opened filter : ℕ) (later before life : Life) → FewStayOpen opened filter (filter_events (later ++ before)) (filter_events life)
+    → FewStayOpen opened filter (filter_events before) (filter_events life)
+few_before opened filter later before life few =
+    at_each_scan-back (HasFewOpen opened filter) (filter_events later) (filter_events before) (filter_events life)
+    (subst (λ es. FewStayOpen opened filter es (filter_events life)) (filter_events-append later before) few)
+
+pub few_since : (opened filter : ℕ) (later before life : Life) → FewStayOpen opened filter (filter_events (later ++ before)) (filter_events life)
+    → FewStayOpen opened filter (filter_events later) (filter_events (before ++ life))
+few_since opened filter later before life few =
+    subst (λ es. FewStayOpen opened filter (filter_events later) es) (sym (filter_events-append before life))
+    (at_each_scan-front (HasFewOpen opened filter) (filter_events later) (filter_events before) (filter_events life)
+    (subst (λ es. FewStayOpen opened filter es (filter_events life)) (filter_events-append later before) few))
 
 -- where nothing waits, the newest block ends the log
 pub nothing_left : (settings : Settings) → AreInRange settings → (life : Life) → length (waiting_of settings life) ≡ 0
@@ -73,12 +87,12 @@ young_at_pace left filter opened age behind one some few =
           absurd (omega arith)
     ]
 
-module _ (settings : Settings) (filter scans most : ℕ) (life : Life)
-    (some : 1 ≤ filter) (filters : OpenHaveFiltersOf (filter_events life) filter)
-    (enough : open_inputs (filter_events life) * scans ≤ settings.per_block * filter)
-    (room : open_inputs (filter_events life) * (most + (filter - 1)) ≤ settings.waiting * filter) where
-  abbrev opened : ℕ
-  opened = open_inputs (filter_events life)
+module _ (settings : Settings) (opened filter scans most : ℕ) (life : Life) (some : 1 ≤ filter)
+    (enough : opened * scans ≤ settings.per_block * filter)
+    (room : opened * (most + (filter - 1)) ≤ settings.waiting * filter) where
+  -- few inputs stay open
+  abbrev IsFew : Life → Type 0
+  IsFew later = FewStayOpen opened filter (filter_events later) (filter_events life)
 
   -- how many stand beyond the newest block
   abbrev beyond : Life → ℕ
@@ -90,28 +104,20 @@ module _ (settings : Settings) (filter scans most : ℕ) (life : Life)
     pub gained : length (log_of (upto ++ (before ++ life))) ≡ length (log_of (before ++ life)) + reports
     pub few : reports * filter + opened * 1 ≤ opened * (scans_in (filter_events upto) + filter)
 
-  has_gained : (upto before : Life) → NoneIsApplied (filter_events (upto ++ before)) → HasGained upto before
-  has_gained upto before none =
+  has_gained : (upto before : Life) → IsFew (upto ++ before) → HasGained upto before
+  has_gained upto before few =
       let rest = before ++ life in
-      let events = filter_events rest in
-      let earlier = none_before upto before none in
-      let joined : events ≡ filter_events before ++ filter_events life = filter_events-append before life in
-      let as_many : open_inputs events ≡ opened = ap open_inputs joined ∙ open_inputs-carried (filter_events before) (filter_events life) earlier in
-      let still = subst (λ es. OpenHaveFiltersOf es filter) (sym joined)
-      (open_filters-carried (filter_events before) (filter_events life) filter earlier filters) in
-      let reports = all_reports_in (filter_events upto) events in
       record {
-        reports = reports;
+        reports = all_reports_in (filter_events upto) (filter_events rest);
         gained = log-grows upto rest;
-        few = subst (λ n. reports * filter + n * 1 ≤ n * (scans_in (filter_events upto) + filter)) as_many
-            (reports_times_filter filter (filter_events upto) events (none_since upto before none) some still);
+        few = reports_times_filter opened filter (filter_events upto) (filter_events rest) some (few_since opened filter upto before life few);
       }
 
   -- few stand beyond the newest block
-  bound : (later : Life) → NoneIsApplied (filter_events later) → IsPaced settings scans life later
+  bound : (later : Life) → IsFew later → IsPaced settings scans life later
       → beyond later * filter + opened * 1 ≤ opened * (scans_behind scans later life + filter)
-  bound later none p =
-      let g = has_gained p.since p.before (subst (λ l. NoneIsApplied (filter_events l)) p.split none) in
+  bound later stay p =
+      let g = has_gained p.since p.before (subst IsFew p.split stay) in
       let whole : later ++ life ≡ p.since ++ (p.before ++ life) = ap (λ l. l ++ life) p.split ∙ append_assoc p.since p.before life in
       let grown = ap (λ l. length (log_of l)) whole in
       let within : newest_end settings (later ++ life) ≤ length (log_of (later ++ life)) = blocks_end_within settings (later ++ life) in
@@ -135,17 +141,17 @@ module _ (settings : Settings) (filter scans most : ℕ) (life : Life)
       one_more a (suc b) le = let same : suc b - 1 ≡ b = omega arith in rw same (grind arith)
 
   -- none of them is old
-  young : (later : Life) → NoneIsApplied (filter_events later) → IsPaced settings scans life later
+  young : (later : Life) → IsFew later → IsPaced settings scans life later
       → (place : ℕ) (transition : Transition) → newest_end settings (later ++ life) ≤ place
       → slice_get (log_of (later ++ life)) place ≡ Some transition
       → IsYoung (scans_behind scans later life) filter (later ++ life) transition
-  young later none p place transition high is =
+  young later stay p place transition high is =
       let rest = p.before ++ life in
       let whole : later ++ life ≡ p.since ++ rest = ap (λ l. l ++ life) p.split ∙ append_assoc p.since p.before life in
       let is' = subst (λ l. slice_get (log_of l) place ≡ Some transition) whole is in
       let w = was_logged p.since rest place transition (omega (arith, p.ended)) is' in
-      let none' = subst (λ l. NoneIsApplied (filter_events l)) (p.split ∙ ap (λ l. l ++ p.before) w.split ∙ append_assoc w.after w.upto p.before) none in
-      let g = has_gained w.upto p.before (none_before w.after (w.upto ++ p.before) none') in
+      let stay' = subst IsFew (p.split ∙ ap (λ l. l ++ p.before) w.split ∙ append_assoc w.after w.upto p.before) stay in
+      let g = has_gained w.upto p.before (few_before opened filter w.after (w.upto ++ p.before) life stay') in
       let counts = ap (λ l. scans_in (filter_events l)) w.split ∙ scans_in-append w.after w.upto in
       let left = place + 1 - newest_end settings (later ++ life) in
       let age = scans_in (filter_events w.after) in
@@ -240,27 +246,27 @@ module _ (settings : Settings) (filter scans most : ℕ) (life : Life)
   IsNear later = scans_behind scans later life ≤ most
 
   -- so from a time at which nothing waits
-  pub paced : (later : Life) → newest_end settings life ≡ length (log_of life) → NoneIsApplied (filter_events later)
+  pub paced : (later : Life) → newest_end settings life ≡ length (log_of life) → IsFew later
       → AtEachTime IsNear later → IsPaced settings scans life later
-  paced [] ends none near =
+  paced [] ends stay near =
       let none_full : settings.per_block * 0 ≡ 0 = grind arith in
       record { since = []; before = []; split = refl; full = 0; ended = omega arith; scanned = omega arith }
-  paced (Scanned raw ∷ later) ends none near = paced-scan later raw (paced later ends none.1 near.1)
-  paced (Commanded (Poll number) ∷ later) ends none near =
-      let p = paced later ends none near.1 in
+  paced (Scanned raw ∷ later) ends stay near = paced-scan later raw (paced later ends stay.1 near.1)
+  paced (Commanded (Poll number) ∷ later) ends stay near =
+      let p = paced later ends stay near.1 in
       paced-poll later number (is_new (latest_poll (later ++ life)) number) refl
-      (few_beyond later (holds_now IsNear later near.1) (bound later none p)) p
-  paced (Commanded (ConfigureInputs items) ∷ later) ends none near =
-      paced-other later (Commanded (ConfigureInputs items)) refl refl (λ since. refl) (paced later ends none.1 near.1)
-  paced (other ∷ later) ends none near =
-      paced-other later other refl refl (λ since. refl) (paced later ends none near.1)
+      (few_beyond later (holds_now IsNear later near.1) (bound later stay p)) p
+  paced (Commanded (ConfigureInputs items) ∷ later) ends stay near =
+      paced-other later (Commanded (ConfigureInputs items)) refl refl (λ since. refl) (paced later ends stay near.1)
+  paced (other ∷ later) ends stay near =
+      paced-other later other refl refl (λ since. refl) (paced later ends stay near.1)
 
   -- what holds at such a time
-  keeps_up : (later : Life) → newest_end settings life ≡ length (log_of life) → NoneIsApplied (filter_events later)
-      → AtEachTime IsNear later → KeepsUp settings filter scans life later
-  keeps_up later ends none near =
-      let p = paced later ends none near in
-      let fewer = bound later none p in
+  keeps_up : (later : Life) → newest_end settings life ≡ length (log_of life) → IsFew later
+      → AtEachTime IsNear later → KeepsUp settings opened filter scans life later
+  keeps_up later ends stay near =
+      let p = paced later ends stay near in
+      let fewer = bound later stay p in
       let few = few_beyond later (holds_now IsNear later near) fewer in
       let here = later ++ life in
       let waiting = length-drop (waiting_from settings here) (log_of here) in
@@ -273,7 +279,7 @@ module _ (settings : Settings) (filter scans most : ℕ) (life : Life)
         few_wait = omega arith;
         few_beyond = few;
         young = each-from_get (IsYoung (scans_behind scans later life) filter here) (waiting_of settings here)
-            (λ k transition is. young later none p (waiting_from settings here + k) transition (omega arith)
+            (λ k transition is. young later stay p (waiting_from settings here + k) transition (omega arith)
             (get_in_drop (waiting_from settings here) (log_of here) k transition is));
       }
     where
@@ -282,10 +288,10 @@ module _ (settings : Settings) (filter scans most : ℕ) (life : Life)
       one_more a (suc b) le = let same : suc b - 1 ≡ b = omega arith in rw same (grind arith)
 
   -- and at each time
-  pub keeps_up_each : (later : Life) → newest_end settings life ≡ length (log_of life) → NoneIsApplied (filter_events later)
-      → AtEachTime IsNear later → AtEachTime (KeepsUp settings filter scans life) later
-  keeps_up_each [] ends none near = keeps_up [] ends none near
-  keeps_up_each (occurrence ∷ later) ends none near = (
-    keeps_up (occurrence ∷ later) ends none near,
-    keeps_up_each later ends (none_before (occurrence ∷ []) later none) near.1,
+  pub keeps_up_each : (later : Life) → newest_end settings life ≡ length (log_of life) → IsFew later
+      → AtEachTime IsNear later → AtEachTime (KeepsUp settings opened filter scans life) later
+  keeps_up_each [] ends stay near = keeps_up [] ends stay near
+  keeps_up_each (occurrence ∷ later) ends stay near = (
+    keeps_up (occurrence ∷ later) ends stay near,
+    keeps_up_each later ends (few_before opened filter (occurrence ∷ []) later life stay) near.1,
   )

@@ -184,9 +184,9 @@ pub each-push : {A : Type 0} (P : A → Type 0) (xs : List A) (x : A) → AllByR
 each-push P [] x all one = (one, tt)
 each-push P (y ∷ xs) x all one = (all.0, each-push P xs x all.1 one)
 
-module _ (settings : Settings) (filter scans most : ℕ) (life : Life) where
+module _ (settings : Settings) (opened filter scans most : ℕ) (life : Life) where
   abbrev Keeps : Life → Type 0
-  Keeps later = KeepsUp settings filter scans life later
+  Keeps later = KeepsUp settings opened filter scans life later
 
   abbrev IsNear : Life → Type 0
   IsNear later = scans_behind scans later life ≤ most

@@ -2,7 +2,7 @@
 use Rattle.std.specs.Prelude.{◌≡◌, ℕ, ◌+◌, ◌-◌, ◌*◌, ◌≤◌, [], ◌∷◌, ◌++◌, length, if◌then◌else◌}
 use Rattle.std.specs.List.{AllByRecursion}
 use Rattle.fio_message.specs.declared.commands.Command.TheVariants.{Poll}
-use Rattle.fio_input.specs.Delivery.{open_inputs, OpenHaveFiltersOf, NoneIsApplied}
+use Rattle.fio_input.specs.Delivery.{FewStayOpen}
 use Rattle.fio_module.specs.Settings.{Settings, AreInRange}
 use Rattle.fio_module.specs.Life.{Life, Scanned, Commanded, scans_of, filter_events}
 use Rattle.fio_module.specs.Log.{Transition}
@@ -21,21 +21,19 @@ scans_behind scans (Commanded (Poll number) ∷ later) life =
     else scans_behind scans later life
 scans_behind scans (other ∷ later) life = scans_behind scans later life
 
--- Kept up with: from a time on at which nothing waits, while no configuration is applied, the blocks
--- are never more than `most` scans behind, where each makes up for `scans`, in which the open inputs
--- change no more often than a block takes.
-pub record IsKeptUp (settings : Settings) (filter scans most : ℕ) (life later : Life)
+-- Kept up with: from a time on at which nothing waits, the blocks are never more than `most` scans
+-- behind, where each makes up for `scans`; no more than `opened` inputs stay open, whatever configurations
+-- come, and in so many scans they change no more often than a block takes.
+pub record IsKeptUp (settings : Settings) (opened filter scans most : ℕ) (life later : Life)
     : Type 0 where
   pub nothing_waits : waiting_of settings life ≡ []
   -- the filters of the open inputs are at least this
   pub some : 1 ≤ filter
-  pub filters : OpenHaveFiltersOf (filter_events life) filter
-  pub not_applied : NoneIsApplied (filter_events later)
-  pub enough : open_inputs (filter_events life) * scans ≤ settings.per_block * filter
+  pub few_open : FewStayOpen opened filter (filter_events later) (filter_events life)
+  pub enough : opened * scans ≤ settings.per_block * filter
   pub behind : AtEachTime (λ l. scans_behind scans l life ≤ most) later
   -- as many may wait as the open inputs can change in that many scans
-  pub room :
-      open_inputs (filter_events life) * (most + (filter - 1)) ≤ settings.waiting * filter
+  pub room : opened * (most + (filter - 1)) ≤ settings.waiting * filter
 
 -- a transition is of one of the latest scans of a life: at most b + f - 2 scans came after its own
 abbrev pub IsYoung : ℕ → ℕ → Life → Transition → Type 0
@@ -44,10 +42,11 @@ IsYoung behind filter life transition =
 
 -- What holds then, for b scans behind: k (b + f - 1) / f entries wait at most, none are pushed out,
 -- and none that waits is older than b + f - 2 scans.
-pub record KeepsUp (settings : Settings) (filter scans : ℕ) (life later : Life) : Type 0 where
+pub record KeepsUp (settings : Settings) (opened filter scans : ℕ) (life later : Life)
+    : Type 0 where
   pub few_wait :
       length (waiting_of settings (later ++ life)) * filter
-      ≤ open_inputs (filter_events life) * (scans_behind scans later life + (filter - 1))
+      ≤ opened * (scans_behind scans later life + (filter - 1))
   pub few_beyond : FewBeyond settings (later ++ life)
   pub young :
       AllByRecursion (IsYoung (scans_behind scans later life) filter (later ++ life))
@@ -56,17 +55,16 @@ pub record KeepsUp (settings : Settings) (filter scans : ℕ) (life later : Life
 -- Where rounds keep up, the module keeps up at each time.
 abbrev pub KeptUpKeepsUp : Type 0
 KeptUpKeepsUp =
-    (settings : Settings) (filter scans most : ℕ) (life later : Life) →
-    AreInRange settings → IsKeptUp settings filter scans most life later →
-    AtEachTime (KeepsUp settings filter scans life) later
+    (settings : Settings) (opened filter scans most : ℕ) (life later : Life) →
+    AreInRange settings → IsKeptUp settings opened filter scans most life later →
+    AtEachTime (KeepsUp settings opened filter scans life) later
 
 -- Where a block takes as many entries as there are inputs, or more, one takes what the open inputs can report in the scans of a
 -- filter but one, and two what they can report in the scans that a block makes up for besides.
 abbrev pub BlocksTakeTheRest : Type 0
 BlocksTakeTheRest =
-    (settings : Settings) (filter scans : ℕ) (life : Life) →
-    INPUTS ≤ settings.per_block → 1 ≤ filter →
-    open_inputs (filter_events life) * scans ≤ settings.per_block * filter →
-    (open_inputs (filter_events life) * (0 + (filter - 1)) ≤ 1 * (settings.per_block * filter))
-    × (open_inputs (filter_events life) * (scans + (filter - 1))
-    ≤ 2 * (settings.per_block * filter))
+    (settings : Settings) (opened filter scans : ℕ) →
+    INPUTS ≤ settings.per_block → opened ≤ INPUTS → 1 ≤ filter →
+    opened * scans ≤ settings.per_block * filter →
+    (opened * (0 + (filter - 1)) ≤ 1 * (settings.per_block * filter))
+    × (opened * (scans + (filter - 1)) ≤ 2 * (settings.per_block * filter))

@@ -5,7 +5,7 @@ use Rattle.std.proofs.lemmas.Bool.{cases_lt}
 use Rattle.std.proofs.Math.Nat.{zero-div, mul-zero}
 use Rattle.std.proofs.lemmas.List.{take-append-le, append_cancel_right}
 use Rattle.fio_message.specs.declared.commands.Command.TheVariants.{Poll, ConfigureInputs}
-use Rattle.fio_input.specs.Delivery.{scans_in, open_inputs, NoneIsApplied}
+use Rattle.fio_input.specs.Delivery.{scans_in, FewStayOpen}
 use Rattle.fio_module.specs.Settings.{Settings, AreInRange}
 use Rattle.fio_module.specs.Life.{Life, Scanned, Commanded, life_of, scans_of, filter_events}
 use Rattle.fio_module.specs.Log.{Transition, log_of}
@@ -146,17 +146,17 @@ module _ (settings : Settings) (first filter behind between : ℕ) (last now : M
       each-from_get (IsYoung (between + behind) filter (life_of now.history)) (drop (end_taken settings now) log)
       (λ k transition is. young_since settings first filter behind between last now some (end_taken settings last) young t (end_taken settings now + k) transition (omega arith) (get_in_drop (end_taken settings now) log k transition is))
 
-module _ (settings : Settings) (range : AreInRange settings) (first filter : ℕ) (untaken : Bool) (scans : ℕ) (machine : Machine)
+module _ (settings : Settings) (range : AreInRange settings) (first opened filter : ℕ) (untaken : Bool) (scans : ℕ) (machine : Machine)
     (b : IsBetween settings first machine) (receipts : List Machine) (last now : Machine) (later : Life)
-    (p : IsPolledInTime settings first filter untaken scans machine receipts last later)
+    (p : IsPolledInTime settings first opened filter untaken scans machine receipts last later)
     (t : LeadsInTime settings first scans (newest_of machine receipts) last now) where
   abbrev behind : ℕ
   behind = behind_after untaken scans
 
-  pub arrived_last : HasArrived settings filter (scans + behind) behind machine receipts last
+  pub arrived_last : HasArrived settings opened filter (scans + behind) behind machine receipts last
   arrived_last =
-      arrives settings range first filter untaken scans machine b p.all_taken p.nothing_waits p.some p.filters p.enough
-      receipts last later p.rounds p.since p.not_applied
+      arrives settings range first opened filter untaken scans machine b p.all_taken p.nothing_waits p.inputs p.some p.enough
+      receipts last later p.rounds p.since p.few_open
 
   -- the scans since the newest poll was received, to the end of its round
   abbrev so_far : ℕ
@@ -164,17 +164,17 @@ module _ (settings : Settings) (range : AreInRange settings) (first filter : ℕ
 
   all_taken_last : last.round ≡ length (blocks_in settings last)
   all_taken_last =
-      (has_chain settings range first filter untaken scans machine b p.all_taken p.nothing_waits p.some p.filters p.enough receipts last p.rounds).reached.all_taken
+      (has_chain settings range first opened filter untaken scans machine b p.all_taken p.nothing_waits p.inputs p.some p.enough receipts last p.rounds).reached.all_taken
 
   order : scans_of (life_of last.history) ≡ scans_of (life_of (newest_of machine receipts).history) + so_far
   order =
-      let c = has_chain settings range first filter untaken scans machine b p.all_taken p.nothing_waits p.some p.filters p.enough receipts last p.rounds in
+      let c = has_chain settings range first opened filter untaken scans machine b p.all_taken p.nothing_waits p.inputs p.some p.enough receipts last p.rounds in
       omega (arith, c.since_newest)
 
   -- no more than so many come until now
   few_so_far : so_far ≤ scans
   few_so_far =
-      let c = has_chain settings range first filter untaken scans machine b p.all_taken p.nothing_waits p.some p.filters p.enough receipts last p.rounds in
+      let c = has_chain settings range first opened filter untaken scans machine b p.all_taken p.nothing_waits p.inputs p.some p.enough receipts last p.rounds in
       omega (arith, c.since_newest, c.few)
 
   since_last : LeadsInTime settings first (scans - so_far) last last now
@@ -201,21 +201,20 @@ module _ (settings : Settings) (range : AreInRange settings) (first filter : ℕ
       (lacks_only_young_since settings first filter (so_far + behind) (scans - so_far) last now p.some all_taken_last young_last since_last)
 
   -- and exactly so late
-  pub lacks_exactly : LacksOnlyYoungExactly settings (open_inputs (filter_events (life_of machine.history))) filter scans (scans + behind) now
+  pub lacks_exactly : LacksOnlyYoungExactly settings opened filter scans (scans + behind) now
   lacks_exactly =
       let life = life_of machine.history in
       let before = life_of last.history in
-      let opened = open_inputs (filter_events life) in
-      let c = has_chain settings range first filter untaken scans machine b p.all_taken p.nothing_waits p.some p.filters p.enough receipts last p.rounds in
+      let c = has_chain settings range first opened filter untaken scans machine b p.all_taken p.nothing_waits p.inputs p.some p.enough receipts last p.rounds in
       let r = c.reached in
       let same_so : c.so_far ≡ so_far = omega (arith, c.since_newest, order) in
       let same : later ≡ c.later = append_cancel_right later c.later life (sym p.since ∙ r.since) in
-      let none = subst (λ l. NoneIsApplied (filter_events l)) same p.not_applied in
-      let k = kept_up settings range first filter untaken scans machine b p.all_taken p.nothing_waits p.some p.filters p.enough c.later none r.near in
-      let x = holds_now (KeepsUpExactly settings filter scans life) c.later (kept_up_keeps_up_exactly settings filter scans (scans + behind) life c.later range k) in
+      let stay = subst (λ l. FewStayOpen opened filter (filter_events l) (filter_events life)) same p.few_open in
+      let k = kept_up settings range first opened filter untaken scans machine b p.all_taken p.nothing_waits p.inputs p.some p.enough c.later stay r.near in
+      let x = holds_now (KeepsUpExactly settings opened filter scans life) c.later (kept_up_keeps_up_exactly settings opened filter scans (scans + behind) life c.later range k) in
       let ends : waiting_of settings before ≡ drop (end_taken settings last) (log_of before) =
       ap (λ n. drop n (log_of before))
-      (waits_from_end settings range filter scans (scans + behind) (behind + c.so_far) machine last c.later r.since r.near r.now k ∙ sym (taken_end settings last r.all_taken)) in
+      (waits_from_end settings range opened filter scans (scans + behind) (behind + c.so_far) machine last c.later r.since r.near r.now k ∙ sym (taken_end settings last r.all_taken)) in
       let gone = filter * (settings.per_block * x.blocks / opened) in
       let made_up = scans * x.blocks in
       let old = subst (λ l. AllByRecursion (λ (transition : Transition). scans_of l + 1 + gone ≤ transition.scans + (made_up + scans_behind scans c.later life)) (waiting_of settings l)) (sym r.since) x.young in
@@ -241,11 +240,11 @@ module _ (settings : Settings) (range : AreInRange settings) (first filter : ℕ
 -- where a link is polled in time it is never late
 pub never_late : (settings : Settings) → AreInRange settings → (first : ℕ) (machine : Machine) → IsBetween settings first machine
     → IsNeverLate settings first machine
-never_late settings range first machine b filter untaken scans receipts last now later p t =
-    lacks_only_young settings range first filter untaken scans machine b receipts last now later p t
+never_late settings range first machine b opened filter untaken scans receipts last now later p t =
+    lacks_only_young settings range first opened filter untaken scans machine b receipts last now later p t
 
 -- and exactly so late
 pub never_late_exactly : (settings : Settings) → AreInRange settings → (first : ℕ) (machine : Machine) → IsBetween settings first machine
     → IsNeverLateExactly settings first machine
-never_late_exactly settings range first machine b filter untaken scans receipts last now later p t =
-    lacks_exactly settings range first filter untaken scans machine b receipts last now later p t
+never_late_exactly settings range first machine b opened filter untaken scans receipts last now later p t =
+    lacks_exactly settings range first opened filter untaken scans machine b receipts last now later p t

@@ -9,7 +9,6 @@ use Rattle.fio_message.specs.declared.commands.Command.TheVariants.{Poll}
 use Rattle.fio_message.specs.declared.commands.Command.TheVariants as commands
 use Rattle.fio_input.specs.Counter.{asked_number, one_more_if_loaded}
 use Rattle.fio_input.specs.FilterHistory.{is_reported}
-use Rattle.fio_input.specs.Delivery.{open_inputs}
 use Rattle.fio_module.specs.Settings.{Settings, AreInRange}
 use Rattle.fio_module.specs.Life.{Life, Scanned, LineSynced, Commanded, life_of, counter_events, loads_of, filter_events}
 use Rattle.fio_module.specs.Log.{Transition, entry_of, log_of, transition_at, transitions_below}
@@ -176,22 +175,22 @@ taken_end settings machine taken =
     ap end_of_blocks (ap (λ n. take n blocks) taken ∙ take_all (length blocks) blocks (omega arith))
 
 -- Blocks that are made while a module is kept up with, and what a record gains from them.
-module _ (settings : Settings) (range : AreInRange settings) (filter scans most behind : ℕ) (machine last : Machine) (later : Life)
+module _ (settings : Settings) (range : AreInRange settings) (opened filter scans most behind : ℕ) (machine last : Machine) (later : Life)
     (since : life_of last.history ≡ later ++ life_of machine.history)
     (near : AtEachTime (λ l. scans_behind scans l (life_of machine.history) ≤ most) later)
     (few_behind : scans_behind scans later (life_of machine.history) ≤ behind)
-    (k : IsKeptUp settings filter scans most (life_of machine.history) later) where
+    (k : IsKeptUp settings opened filter scans most (life_of machine.history) later) where
   abbrev life : Life
   life = life_of machine.history
 
   abbrev now : Life
   now = life_of last.history
 
-  keeps : AtEachTime (KeepsUp settings filter scans life) later
-  keeps = kept_up_keeps_up settings filter scans most life later range k
+  keeps : AtEachTime (KeepsUp settings opened filter scans life) later
+  keeps = kept_up_keeps_up settings opened filter scans most life later range k
 
   pub made_since : HasMade settings filter most life later
-  made_since = has_made settings filter scans most life later keeps near
+  made_since = has_made settings opened filter scans most life later keeps near
 
   ends : newest_end settings life ≡ length (log_of life)
   ends = nothing_left settings range life (ap length k.nothing_waits)
@@ -247,8 +246,8 @@ module _ (settings : Settings) (range : AreInRange settings) (filter scans most 
       ∙ ap (λ ts. machine.items ++ map timed_item ts) are_logged
 
   -- what holds now
-  keeps_now : KeepsUp settings filter scans life later
-  keeps_now = holds_now (KeepsUp settings filter scans life) later keeps
+  keeps_now : KeepsUp settings opened filter scans life later
+  keeps_now = holds_now (KeepsUp settings opened filter scans life) later keeps
 
   -- what waits begins at the end of the newest block
   pub waits_from_end : waiting_from settings now ≡ newest_end settings now
@@ -265,19 +264,19 @@ module _ (settings : Settings) (range : AreInRange settings) (filter scans most 
 
   -- few are left at the end of a clean round
   pub few_left_since : (length (log_of now) - newest_end settings now) * filter
-      ≤ open_inputs (filter_events life) * (behind + (filter - 1))
+      ≤ opened * (behind + (filter - 1))
   few_left_since =
-      let few = subst (λ l. length (waiting_of settings l) * filter ≤ open_inputs (filter_events life) * (scans_behind scans later life + (filter - 1))) (sym since) keeps_now.few_wait in
+      let few = subst (λ l. length (waiting_of settings l) * filter ≤ opened * (scans_behind scans later life + (filter - 1))) (sym since) keeps_now.few_wait in
       let count = length-drop (waiting_from settings now) (log_of now) in
       let left : length (waiting_of settings now) ≡ length (log_of now) - newest_end settings now = omega (arith, waits_from_end) in
       let product : length (waiting_of settings now) * filter ≡ (length (log_of now) - newest_end settings now) * filter = ap (λ n. n * filter) left in
-      let more : open_inputs (filter_events life) * (scans_behind scans later life + (filter - 1)) ≤ open_inputs (filter_events life) * (behind + (filter - 1)) = mul-le-mul_left (open_inputs (filter_events life)) (omega arith) in
+      let more : opened * (scans_behind scans later life + (filter - 1)) ≤ opened * (behind + (filter - 1)) = mul-le-mul_left opened (omega arith) in
       omega arith
 
-module _ (settings : Settings) (range : AreInRange settings) (first filter scans most behind : ℕ) (machine last : Machine) (later : Life)
+module _ (settings : Settings) (range : AreInRange settings) (first opened filter scans most behind : ℕ) (machine last : Machine) (later : Life)
     (b : IsBetween settings first machine) (taken : machine.round ≡ length (blocks_in settings machine))
     (r : IsReached settings first scans most behind machine last later)
-    (k : IsKeptUp settings filter scans most (life_of machine.history) later) where
+    (k : IsKeptUp settings opened filter scans most (life_of machine.history) later) where
   abbrev then_life : Life
   then_life = life_of machine.history
 
@@ -285,7 +284,7 @@ module _ (settings : Settings) (range : AreInRange settings) (first filter scans
   last_life = life_of last.history
 
   abbrev made : HasMade settings filter most then_life later
-  made = made_since settings range filter scans most behind machine last later r.since r.near r.now k
+  made = made_since settings range opened filter scans most behind machine last later r.since r.near r.now k
 
   -- what those blocks hold is what arrived
   are_arrived : in_blocks_since settings machine last ≡ transitions_arrived settings machine last
@@ -295,28 +294,28 @@ module _ (settings : Settings) (range : AreInRange settings) (first filter scans
   gained : last.items ≡ machine.items ++ flat_map recorded_of made.made
   gained =
       all_recorded settings first last r.between r.all_taken
-      ∙ ap (flat_map recorded_of) (blocks_now settings range filter scans most behind machine last later r.since r.near r.now k)
+      ∙ ap (flat_map recorded_of) (blocks_now settings range opened filter scans most behind machine last later r.since r.near r.now k)
       ∙ flat_map-append recorded_of (blocks_of settings then_life) made.made
       ∙ ap (λ its. its ++ flat_map recorded_of made.made) (sym (all_recorded settings first machine b taken))
 
   pub whole : map piece_of last.items
       ≡ map piece_of machine.items ++ map (λ transition. EntryPiece (entry_of transition)) (transitions_arrived settings machine last)
   whole =
-      whole_since settings range filter scans most behind machine last later r.since r.near r.now k gained
+      whole_since settings range opened filter scans most behind machine last later r.since r.near r.now k gained
       ∙ ap (λ ts. map piece_of machine.items ++ map (λ transition. EntryPiece (entry_of transition)) ts) are_arrived
 
   pub times : loads_of last_life ≡ loads_of then_life → most + filter ≤ 65537
       → last.items ≡ machine.items ++ map timed_item (transitions_arrived settings machine last)
   times none few =
-      times_since settings range filter scans most behind machine last later r.since r.near r.now k gained none few
+      times_since settings range opened filter scans most behind machine last later r.since r.near r.now k gained none few
       ∙ ap (λ ts. machine.items ++ map timed_item ts) are_arrived
 
   pub young : AllByRecursion (IsYoung behind filter last_life) (drop (end_taken settings last) (log_of last_life))
   young =
       subst (λ n. AllByRecursion (IsYoung behind filter last_life) (drop n (log_of last_life))) (sym (taken_end settings last r.all_taken))
-      (young_since_blocks settings range filter scans most behind machine last later r.since r.near r.now k)
+      (young_since_blocks settings range opened filter scans most behind machine last later r.since r.near r.now k)
 
   -- few are left at the end of a clean round
   pub few_left : (length (log_of last_life) - newest_end settings last_life) * filter
-      ≤ open_inputs (filter_events then_life) * (behind + (filter - 1))
-  few_left = few_left_since settings range filter scans most behind machine last later r.since r.near r.now k
+      ≤ opened * (behind + (filter - 1))
+  few_left = few_left_since settings range opened filter scans most behind machine last later r.since r.near r.now k

@@ -2,15 +2,14 @@
 use Rattle.std.proofs.Common.{◌≡◌, ℕ, zero, suc, ◌+◌, ◌-◌, ◌*◌, ◌≤◌, min, Bool, true, false, List, [], ◌∷◌, ◌++◌, length, Some, slice_get, refl, ap, sym, subst, ◌∙◌, arith, append_assoc}
 use Rattle.std.proofs.Math.Nat.{mul-le-mul_left, mul-le-mul_right}
 use Rattle.std.proofs.lemmas.List.{append_cancel_right}
-use Rattle.fio_input.specs.Delivery.{scans_in, open_inputs, OpenHaveFiltersOf, NoneIsApplied}
-use Rattle.fio_input.proofs.FewReports.{open_inputs-few}
+use Rattle.fio_input.specs.Delivery.{scans_in, FewStayOpen}
 use Rattle.fio_module.specs.Settings.{Settings, AreInRange}
 use Rattle.fio_module.specs.Life.{Life, life_of, scans_of, filter_events}
 use Rattle.fio_module.specs.Log.{log_of}
 use Rattle.fio_module.specs.Blocks.{blocks_of, newest_end, waiting_of}
 use Rattle.fio_module.specs.Delivery.{AtEachTime}
 use Rattle.fio_module.specs.KeepingUp.{scans_behind, IsKeptUp}
-use Rattle.fio_module.proofs.Pace.{none_before}
+use Rattle.fio_module.proofs.Pace.{few_before}
 use Rattle.fio_module.proofs.Outages.{ends-grow}
 use Rattle.fio_module.proofs.NewLevels.{scans_of-append}
 use Rattle.fio_module.proofs.Polling.{has_room}
@@ -30,33 +29,32 @@ pub record LeftOf (settings : Settings) (filter most rounds : ℕ) (begin last :
       let left = length (log_of (life_of begin.history)) - newest_end settings (life_of last.history) in
       1 ≤ left → left * filter + rounds * (settings.per_block * filter) ≤ most
 
-module _ (settings : Settings) (range : AreInRange settings) (first filter : ℕ) (untaken : Bool) (scans : ℕ) (machine : Machine)
+module _ (settings : Settings) (range : AreInRange settings) (first opened filter : ℕ) (untaken : Bool) (scans : ℕ) (machine : Machine)
     (b : IsBetween settings first machine) (taken : machine.round ≡ length (blocks_in settings machine))
-    (nothing : waiting_of settings (life_of machine.history) ≡ []) (some : 1 ≤ filter)
-    (filters : OpenHaveFiltersOf (filter_events (life_of machine.history)) filter)
-    (enough : open_inputs (filter_events (life_of machine.history)) * scans ≤ settings.per_block * filter) where
+    (nothing : waiting_of settings (life_of machine.history) ≡ []) (inputs : opened ≤ 64) (some : 1 ≤ filter)
+    (enough : opened * scans ≤ settings.per_block * filter) where
   abbrev life : Life
   life = life_of machine.history
 
-  abbrev opened : ℕ
-  opened = open_inputs (filter_events life)
+  -- few inputs stay open
+  abbrev IsFew : Life → Type 0
+  IsFew later = FewStayOpen opened filter (filter_events later) (filter_events life)
 
   -- how many scans the blocks are behind at most at the end of a clean round
   abbrev behind : ℕ
   behind = behind_after untaken scans
 
   -- it is kept up with
-  pub kept_up : (later : Life) → NoneIsApplied (filter_events later)
+  pub kept_up : (later : Life) → IsFew later
       → AtEachTime (λ l. scans_behind scans l life ≤ scans + behind) later
-      → IsKeptUp settings filter scans (scans + behind) life later
-  kept_up later none near =
-      let room = has_room settings range filter scans 2 opened some (omega arith) (open_inputs-few (filter_events life)) enough in
+      → IsKeptUp settings opened filter scans (scans + behind) life later
+  kept_up later stay near =
+      let room = has_room settings range filter scans 2 opened some (omega arith) inputs enough in
       let twice : opened * (scans + behind + (filter - 1)) ≤ opened * (2 * scans + (filter - 1)) = mul-le-mul_left opened (few_behind untaken) in
       record {
         nothing_waits = nothing;
         some = some;
-        filters = filters;
-        not_applied = none;
+        few_open = stay;
         enough = enough;
         behind = near;
         room = omega arith;
@@ -76,13 +74,13 @@ module _ (settings : Settings) (range : AreInRange settings) (first filter : ℕ
     upto_poll = stretch_of s.number s.before ++ later
 
     -- the clean round that has just ended
-    pub left_now : NoneIsApplied (filter_events (s.after_it ++ upto_poll)) → LeftOf settings filter (opened * (behind + (filter - 1))) 0 receipt last
-    left_now none =
+    pub left_now : IsFew (s.after_it ++ upto_poll) → LeftOf settings filter (opened * (behind + (filter - 1))) 0 receipt last
+    left_now stay =
         let near = near_then settings first untaken scans machine done receipt last later so_far r s all_taken few in
         let low = now_then settings first untaken scans machine done receipt last later so_far r s all_taken few in
         let since = s.at_poll_life ∙ ap (stretch_of s.number) (since_receipt settings first untaken scans machine done receipt last later so_far r s all_taken few) in
-        let k = kept_up upto_poll (none_before s.after_it upto_poll none) near in
-        let most = few_left_since settings range filter scans (scans + behind) behind machine s.at_poll upto_poll since near low k in
+        let k = kept_up upto_poll (few_before opened filter s.after_it upto_poll life stay) near in
+        let most = few_left_since settings range opened filter scans (scans + behind) behind machine s.at_poll upto_poll since near low k in
         let polled = stretch_of s.number (life_of receipt.history) in
         let same : length (log_of (life_of s.at_poll.history)) ≡ length (log_of (life_of receipt.history)) = ap (λ l. length (log_of l)) s.at_poll_life in
         let end : newest_end settings (life_of s.at_poll.history) ≡ newest_end settings polled = ap (newest_end settings) s.at_poll_life in
@@ -135,7 +133,7 @@ module _ (settings : Settings) (range : AreInRange settings) (first filter : ℕ
     pub since_newest : scans_of (life_of last.history) ≡ scans_of (life_of (newest_of machine receipts).history) + so_far
     pub few : so_far ≤ scans
     pub reached : IsReached settings first scans (scans + behind) (behind + so_far) machine last later
-    pub through : NoneIsApplied (filter_events later) → (rounds : ℕ) (receipt : Machine) → slice_get receipts rounds ≡ Some receipt
+    pub through : IsFew later → (rounds : ℕ) (receipt : Machine) → slice_get receipts rounds ≡ Some receipt
         → LeftOf settings filter (opened * (behind + (filter - 1))) rounds receipt last
 
   chain_next : (receipts : List Machine) (done receipt last : Machine)
@@ -165,19 +163,19 @@ module _ (settings : Settings) (range : AreInRange settings) (first filter : ℕ
       through : (s : HasStretch settings first done receipt last)
           → (untaken ≡ false → last.round ≡ length (blocks_in settings receipt) + 1)
           → c.so_far + scans_in (filter_events s.before) ≤ scans
-          → NoneIsApplied (filter_events (s.after_it ++ (stretch_of s.number s.before ++ c.later)))
+          → IsFew (s.after_it ++ (stretch_of s.number s.before ++ c.later))
           → (rounds : ℕ) (earlier : Machine) → slice_get (receipt ∷ receipts) rounds ≡ Some earlier
           → LeftOf settings filter (opened * (behind + (filter - 1))) rounds earlier last
-      through s all_taken few none zero earlier is =
+      through s all_taken few stay zero earlier is =
           let same : receipt ≡ earlier = cc in
           subst (λ m. LeftOf settings filter (opened * (behind + (filter - 1))) 0 m last) same
-          (left_now done receipt last c.later c.so_far c.reached s all_taken few none)
-      through s all_taken few none (suc rounds) earlier is =
+          (left_now done receipt last c.later c.so_far c.reached s all_taken few stay)
+      through s all_taken few stay (suc rounds) earlier is =
           let one_more : rounds + 1 ≡ suc rounds = omega arith in
-          let none_upto = none_before s.after_it (stretch_of s.number s.before ++ c.later) none in
+          let stay_upto = few_before opened filter s.after_it (stretch_of s.number s.before ++ c.later) life stay in
           subst (λ n. LeftOf settings filter (opened * (behind + (filter - 1))) n earlier last) one_more
           (left_then done receipt last c.later c.so_far c.reached s all_taken few earlier rounds (opened * (behind + (filter - 1)))
-          (c.through (none_before (stretch_of s.number s.before) c.later none_upto) rounds earlier is))
+          (c.through (few_before opened filter (stretch_of s.number s.before) c.later life stay_upto) rounds earlier is))
 
   pub has_chain : (receipts : List Machine) (last : Machine) → RoundsInTime settings first untaken scans machine receipts last
       → HasChain receipts last
@@ -188,7 +186,7 @@ module _ (settings : Settings) (range : AreInRange settings) (first filter : ℕ
         since_newest = omega arith;
         few = omega arith;
         reached = reached_start settings first scans (scans + behind) (behind + 0) machine b taken;
-        through = λ none n receipt is. absurd (cc is);
+        through = λ stay n receipt is. absurd (cc is);
       } in
       subst (HasChain []) (sym rounds) start
   has_chain (receipt ∷ receipts) last rounds =
@@ -212,23 +210,23 @@ module _ (settings : Settings) (range : AreInRange settings) (first filter : ℕ
 
   -- what has arrived
   pub arrives : (receipts : List Machine) (last : Machine) (later : Life) → RoundsInTime settings first untaken scans machine receipts last
-      → life_of last.history ≡ later ++ life → NoneIsApplied (filter_events later)
-      → HasArrived settings filter (scans + behind) behind machine receipts last
-  arrives receipts last later rounds since none =
+      → life_of last.history ≡ later ++ life → IsFew later
+      → HasArrived settings opened filter (scans + behind) behind machine receipts last
+  arrives receipts last later rounds since stay =
       let c = has_chain receipts last rounds in
       let r = c.reached in
       let same : later ≡ c.later = append_cancel_right later c.later life (sym since ∙ r.since) in
-      let none' = subst (λ l. NoneIsApplied (filter_events l)) same none in
-      let k = kept_up c.later none' r.near in
+      let stay' = subst IsFew same stay in
+      let k = kept_up c.later stay' r.near in
       let since_newest = c.since_newest in
       record {
-        whole = whole settings range first filter scans (scans + behind) (behind + c.so_far) machine last c.later b taken r k;
-        times = times settings range first filter scans (scans + behind) (behind + c.so_far) machine last c.later b taken r k;
+        whole = whole settings range first opened filter scans (scans + behind) (behind + c.so_far) machine last c.later b taken r k;
+        times = times settings range first opened filter scans (scans + behind) (behind + c.so_far) machine last c.later b taken r k;
         through = λ n receipt few is.
-            let left = none_left n receipt last r.all_taken (c.through none' n receipt is) few in
+            let left = none_left n receipt last r.all_taken (c.through stay' n receipt is) few in
             omega (arith, taken_end settings last r.all_taken);
         young = λ more within.
-            young settings range first filter scans (scans + behind) (more + behind) machine last c.later b taken
+            young settings range first opened filter scans (scans + behind) (more + behind) machine last c.later b taken
             (reached_behind settings first scans (scans + behind) (behind + c.so_far) (more + behind) machine last c.later (omega arith) r) k;
       }
 
@@ -236,9 +234,9 @@ module _ (settings : Settings) (range : AreInRange settings) (first filter : ℕ
   pub keeps_up : (receipts : List Machine) (last now : Machine) (later stretch : Life)
       → RoundsInTime settings first untaken scans machine receipts last → life_of last.history ≡ later ++ life
       → LeadsInTime settings first scans (newest_of machine receipts) last now
-      → life_of now.history ≡ stretch ++ (later ++ life) → NoneIsApplied (filter_events (stretch ++ later))
-      → IsKeptUp settings filter scans (scans + behind) life (stretch ++ later)
-  keeps_up receipts last now later stretch rounds since t is none =
+      → life_of now.history ≡ stretch ++ (later ++ life) → IsFew (stretch ++ later)
+      → IsKeptUp settings opened filter scans (scans + behind) life (stretch ++ later)
+  keeps_up receipts last now later stretch rounds since t is stay =
       let c = has_chain receipts last rounds in
       let r = c.reached in
       let same : c.later ≡ later = append_cancel_right c.later later life (sym r.since ∙ since) in
@@ -250,6 +248,6 @@ module _ (settings : Settings) (range : AreInRange settings) (first filter : ℕ
       let since_newest = c.since_newest in
       let count = scans_grown last now g.stretch g.life in
       let in_time = t.in_time in
-      kept_up (stretch ++ later) none
+      kept_up (stretch ++ later) stay
       (subst (λ l. AtEachTime (λ l. scans_behind scans l life ≤ scans + behind) (l ++ later)) same_stretch
       (behind_each scans life later (scans + behind) g.stretch (omega arith) near))

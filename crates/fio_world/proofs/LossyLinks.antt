@@ -2,7 +2,6 @@
 use Rattle.std.proofs.Common.{◌≡◌, ℕ, ◌+◌, ◌-◌, ◌*◌, ◌≤◌, max, List, [], ◌∷◌, ◌++◌, length, refl, ap, sym, subst, ◌∙◌, arith, append_assoc}
 use Rattle.std.specs.List.{AllByRecursion}
 use Rattle.std.proofs.lemmas.List.{append_cancel_right}
-use Rattle.fio_input.proofs.FewReports.{open_inputs-few}
 use Rattle.fio_module.specs.Settings.{Settings, AreInRange}
 use Rattle.fio_module.specs.Life.{Life, life_of, scans_of, filter_events}
 use Rattle.fio_module.specs.Blocks.{blocks_of}
@@ -115,7 +114,7 @@ left_within scans most (pause ∷ pauses) near = omega (arith, near.0)
 -- where a link is kept up with
 pub all_arrives : (settings : Settings) → AreInRange settings → (first : ℕ) (machine : Machine) → IsBetween settings first machine
     → AllArrivesWhereKeptUpWith settings first machine
-all_arrives settings range first machine b filter scans most pauses receipt last later p =
+all_arrives settings range first machine b opened filter scans most pauses receipt last later p =
     let life = life_of machine.history in
     let behind = left_behind scans pauses in
     let found = reached settings range first scans most machine b p.all_taken pauses receipt last p.rounds p.near in
@@ -126,19 +125,18 @@ all_arrives settings range first machine b filter scans most pauses receipt last
     let same : found.0 ≡ later = append_cancel_right found.0 later life (sym at_once.since ∙ p.since) in
     let r : IsReached settings first scans most (behind + so_far) machine last later =
     subst (λ l. IsReached settings first scans most (behind + so_far) machine last l) same at_once in
-    let k : IsKeptUp settings filter scans most life later = record {
+    let k : IsKeptUp settings opened filter scans most life later = record {
       nothing_waits = p.nothing_waits;
       some = p.some;
-      filters = p.filters;
-      not_applied = p.not_applied;
+      few_open = p.few_open;
       enough = p.enough;
       behind = r.near;
       room = p.room;
     } in
-    let recent = young settings range first filter scans most (behind + so_far) machine last later b p.all_taken r k in
+    let recent = young settings range first opened filter scans most (behind + so_far) machine last later b p.all_taken r k in
     record {
-      whole = whole settings range first filter scans most (behind + so_far) machine last later b p.all_taken r k;
-      times = times settings range first filter scans most (behind + so_far) machine last later b p.all_taken r k;
+      whole = whole settings range first opened filter scans most (behind + so_far) machine last later b p.all_taken r k;
+      times = times settings range first opened filter scans most (behind + so_far) machine last later b p.all_taken r k;
       late = λ between now t.
           let grown = (grows settings first last now t.leads_on.events t.leads_on.no_restart t.leads_on.leads).life in
           let count = scans_grown last now (grows settings first last now t.leads_on.events t.leads_on.no_restart t.leads_on.leads).stretch grown in
@@ -196,6 +194,4 @@ rounds_catch_up scans pace untaken (pause ∷ later) earlier few all =
 
 -- at the standard limits
 pub standard_limits_have_room : StandardLimitsHaveRoom 19 76
-standard_limits_have_room id life =
-    let few = open_inputs-few (filter_events life) in
-    (omega arith, omega arith)
+standard_limits_have_room id opened few = (omega arith, omega arith)

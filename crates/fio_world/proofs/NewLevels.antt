@@ -31,9 +31,9 @@ get_from_take (suc n) (y ∷ xs) (suc k) x low is = get_from_take n xs k x (omeg
 get_from_map : {A B : Type 0} (f : A → B) (xs : List A) (k : ℕ) (x : A) → slice_get xs k ≡ Some x → slice_get (map f xs) k ≡ Some (f x)
 get_from_map f xs k x is = slice_get-map f xs k ∙ ap (option_map f) is
 
-module _ (settings : Settings) (range : AreInRange settings) (first filter : ℕ) (untaken : Bool) (scans : ℕ) (machine : Machine)
+module _ (settings : Settings) (range : AreInRange settings) (first opened filter : ℕ) (untaken : Bool) (scans : ℕ) (machine : Machine)
     (b : IsBetween settings first machine) (receipts : List Machine) (last now : Machine) (later : Life)
-    (p : IsPolledInTime settings first filter untaken scans machine receipts last later)
+    (p : IsPolledInTime settings first opened filter untaken scans machine receipts last later)
     (t : LeadsInTime settings first scans (newest_of machine receipts) last now) (place : ℕ) (transition : Transition)
     (since : length (log_of (life_of machine.history)) ≤ place)
     (at : slice_get (log_of (life_of now.history)) place ≡ Some transition)
@@ -47,7 +47,7 @@ module _ (settings : Settings) (range : AreInRange settings) (first filter : ℕ
       elim (cases_lt place (end_taken settings last)) as (λ _. place < end_taken settings last) [
         | inl low ↦ low
         | inr high ↦
-            let young = young_at settings range first filter untaken scans machine b receipts last now later p t place transition high at in
+            let young = young_at settings range first opened filter untaken scans machine b receipts last now later p t place transition high at in
             absurd (omega arith)
       ]
 
@@ -55,7 +55,7 @@ module _ (settings : Settings) (range : AreInRange settings) (first filter : ℕ
   was_there =
       let g = grows settings first last now t.leads_on.events t.leads_on.no_restart t.leads_on.leads in
       let more = later_log g.stretch (life_of last.history) in
-      let chain = has_chain settings range first filter untaken scans machine b p.all_taken p.nothing_waits p.some p.filters p.enough receipts last p.rounds in
+      let chain = has_chain settings range first opened filter untaken scans machine b p.all_taken p.nothing_waits p.inputs p.some p.enough receipts last p.rounds in
       let within = blocks_end_within settings (life_of last.history) in
       let end = taken_end settings last chain.reached.all_taken in
       get_in_front (log_of (life_of last.history)) more.0 place transition (omega (arith, taken))
@@ -70,7 +70,7 @@ module _ (settings : Settings) (range : AreInRange settings) (first filter : ℕ
   pub has_gained : HasGained machine now transition
       ((loads_of (life_of last.history) ≡ loads_of (life_of machine.history)) × (most + filter ≤ 65537))
   has_gained =
-      let a = arrived_last settings range first filter untaken scans machine b receipts last now later p t in
+      let a = arrived_last settings range first opened filter untaken scans machine b receipts last now later p t in
       let g = gains settings first last now t.leads_on.events t.leads_on.leads in
       let from = place - length (log_of (life_of machine.history)) in
       let got : Transition → Piece = λ transition. EntryPiece (entry_of transition) in
@@ -95,7 +95,7 @@ module _ (settings : Settings) (range : AreInRange settings) (first filter : ℕ
 -- new levels are recorded
 pub new_levels_are_recorded : (settings : Settings) → AreInRange settings → (first : ℕ) (machine : Machine)
     → IsBetween settings first machine → NewLevelsAreRecorded settings first machine
-new_levels_are_recorded settings range first machine b filter untaken scans receipts last now later p t input level before samples after is new long =
+new_levels_are_recorded settings range first machine b opened filter untaken scans receipts last now later p t input level before samples after is new long =
     let life = before ++ life_of machine.history in
     let found = new_levels_are_logged input level life samples new in
     let place = found.0 in
@@ -111,6 +111,6 @@ new_levels_are_recorded settings range first machine b filter untaken scans rece
       place = place;
       transition = transition;
       logged = l;
-      gained = has_gained settings range first filter untaken scans machine b receipts last now later p t place transition
+      gained = has_gained settings range first opened filter untaken scans machine b receipts last now later p t place transition
           (omega (arith, log-grown before (life_of machine.history), l.since)) at (omega (arith, l.upto, scans_of-append after (samples ++ life)));
     }

@@ -4,6 +4,7 @@ use Rattle.fio_message.specs.declared.commands.Command.TheVariants.{ConfigureInp
 use Rattle.fio_message.specs.Bits.{is_set}
 use Rattle.fio_message.specs.Decoding.{message_in}
 use Rattle.fio_input.specs.Delivery.{OpenHaveFiltersOf, NoneIsApplied}
+use Rattle.fio_input.proofs.FewStayOpen.{filters_stay}
 use Rattle.fio_module.specs.Settings.{Settings, standard_settings}
 use Rattle.fio_module.specs.Life.{Life, Commanded, life_of, scans_of, filter_events}
 use Rattle.fio_module.specs.Blocks.{waiting_of}
@@ -112,12 +113,12 @@ late_22 = record {
     is_run = run0;
     all_taken = taken0;
     nothing_waits = waits0;
-    filters = filters0;
     rounds = (machine0, refl, round1.0);
     since = life1 ∙ ap (λ l. Commanded (Poll 0) ∷ (densest 5 4 19 ++ l)) (sym life0);
-    not_applied = not_applied1;
+    filters = filters_stay 5 (filter_events (Commanded (Poll 0) ∷ densest 5 4 19)) (filter_events (life_of machine0.history)) not_applied1 filters0;
     until = until1;
   };
+  not_applied = not_applied1;
   nothing_between = (round1.1, tt);
   transition = record { input = 63; level = true; counter = 20; scans = 20; loads = 0 };
   lacking = log_now1;
@@ -220,12 +221,12 @@ late_41 = record {
     is_run = run0;
     all_taken = taken0;
     nothing_waits = waits0;
-    filters = filters0;
     rounds = (heard1, (machine0, refl, round2.0), round3.0);
     since = life2 ∙ ap (λ l. later2 ++ l) (sym life0);
-    not_applied = not_applied2;
+    filters = filters_stay 5 (filter_events later2) (filter_events (life_of machine0.history)) not_applied2 filters0;
     until = late2_leads;
   };
+  not_applied = not_applied2;
   nothing_between = (round3.1, (round2.1, tt));
   transition = record { input = 63; level = true; counter = 20; scans = 20; loads = 0 };
   lacking = log_late2;

@@ -1,8 +1,6 @@
 -- The standard link is never late.
 use Rattle.std.proofs.Common.{ℕ, ◌+◌, ◌*◌, ◌≤◌, Bool, List, drop, arith}
-use Rattle.std.proofs.Math.Nat.{mul-le-mul_right}
-use Rattle.fio_input.specs.Delivery.{open_inputs}
-use Rattle.fio_input.proofs.FewReports.{open_inputs-few}
+use Rattle.fio_input.proofs.FewStayOpen.{all_may_open}
 use Rattle.fio_module.specs.Settings.{AreInRange, standard_settings}
 use Rattle.fio_module.specs.Life.{Life, life_of, scans_of, filter_events}
 use Rattle.fio_module.specs.Log.{log_of}
@@ -29,19 +27,17 @@ standard_in_range id fits =
 module _ (scans : ℕ) (untaken : Bool) (few : 64 * scans ≤ 255 * 5) (id first : ℕ) (events : List Event) (receipts : List Machine)
     (machine last now : Machine) (later : Life) (l : IsStandardLink id first events untaken scans machine receipts last later now) where
   -- it is polled in time
-  pub polled : IsPolledInTime (standard_settings id) first 5 untaken scans machine receipts last later
+  pub polled : IsPolledInTime (standard_settings id) first 64 5 untaken scans machine receipts last later
   polled =
-      let all : open_inputs (filter_events (life_of machine.history)) * scans ≤ 64 * scans =
-      mul-le-mul_right scans (open_inputs-few (filter_events (life_of machine.history))) in
       record {
         all_taken = l.all_taken;
         nothing_waits = l.nothing_waits;
+        inputs = omega arith;
         some = omega arith;
-        filters = l.filters;
         enough = omega arith;
         rounds = l.rounds;
         since = l.since;
-        not_applied = l.not_applied;
+        few_open = all_may_open 5 (filter_events later) (filter_events (life_of machine.history)) l.filters;
       }
 
   pub delivers : Delivers (standard_settings id) first machine
@@ -56,7 +52,7 @@ standard_late scans untaken late few old id first events receipts machine last n
     let now_life = life_of now.history in
     each-map (IsYoung (scans + behind_after untaken scans) 5 now_life) (λ transition. scans_of now_life ≤ transition.scans + late)
     (λ transition is. omega arith) (drop (end_taken (standard_settings id) now) (log_of now_life))
-    (d.never_late 5 untaken scans receipts last now later p l.until)
+    (d.never_late 64 5 untaken scans receipts last now later p l.until)
 
 -- and so many after the last sample of a new level
 pub standard_records : (scans : ℕ) (untaken : Bool) (late : ℕ) → 64 * scans ≤ 255 * 5
@@ -64,7 +60,7 @@ pub standard_records : (scans : ℕ) (untaken : Bool) (late : ℕ) → 64 * scan
 standard_records scans untaken late few old small id first events receipts machine last now later l input level before samples after is new long =
     let p = polled scans untaken few id first events receipts machine last now later l in
     let d = delivers scans untaken few id first events receipts machine last now later l in
-    let r = d.new_levels 5 untaken scans receipts last now later p l.until input level before samples after is new (omega arith) in
+    let r = d.new_levels 64 5 untaken scans receipts last now later p l.until input level before samples after is new (omega arith) in
     let g = r.gained in
     record {
       place = r.place;
@@ -78,19 +74,18 @@ pub standard_kept_up : StandardLinkKeptUpIsNeverLater 19 76 79
 standard_kept_up id first events pauses machine receipt last now later between l t near =
     let settings = standard_settings id in
     let d = what_arrives settings first events machine (standard_in_range id l.id_fits) l.is_run l.no_restart in
-    let has = standard_limits_have_room id (life_of machine.history) in
-    let a = d.kept_up_with 5 19 76 pauses receipt last later (record {
+    let has = standard_limits_have_room id 64 (omega arith) in
+    let a = d.kept_up_with 64 5 19 76 pauses receipt last later (record {
       all_taken = l.all_taken;
       nothing_waits = l.nothing_waits;
       some = omega arith;
-      filters = l.filters;
       enough = has.0;
       room = has.1;
       near = l.near;
       rounds = l.rounds;
       heard_near = l.heard_near;
       since = l.since;
-      not_applied = l.not_applied;
+      few_open = all_may_open 5 (filter_events later) (filter_events (life_of machine.history)) l.filters;
     }) in
     let now_life = life_of now.history in (
       a.whole,
@@ -100,18 +95,17 @@ standard_kept_up id first events pauses machine receipt last now later between l
 
 -- a standard link after restarts
 pub standard_starts_anew : StandardLinkStartsAnew 19 41
-standard_starts_anew id first events begin receipt machine receipts last now later fits run ended nothing filters rounds since none t =
+standard_starts_anew id first events begin receipt machine receipts last now later fits run ended nothing rounds since filters t =
     let settings = standard_settings id in
-    let all = open_inputs-few (filter_events (life_of machine.history)) in
-    let a = delivery_starts_anew settings first events begin (standard_in_range id fits) run 5 19 receipt machine receipts last later (record {
+    let a = delivery_starts_anew settings first events begin (standard_in_range id fits) run 64 5 19 receipt machine receipts last later (record {
       ended = ended;
       nothing_waits = nothing;
+      inputs = omega arith;
       some = omega arith;
-      filters = filters;
       enough = omega arith;
       rounds = rounds;
       since = since;
-      not_applied = none;
+      few_open = all_may_open 5 (filter_events later) (filter_events (life_of machine.history)) filters;
     }) in
     let now_life = life_of now.history in (
       a.whole,

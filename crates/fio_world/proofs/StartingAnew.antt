@@ -3,8 +3,7 @@ use Rattle.std.proofs.Common.{◌≡◌, ℕ, ◌+◌, ◌-◌, ◌*◌, ◌≤�
 use Rattle.std.specs.List.{AllByRecursion, flat_map}
 use Rattle.std.proofs.Math.Nat.{mul-le-mul_left}
 use Rattle.std.proofs.lemmas.List.{append_cancel_right, append_cancel_left, take_all}
-use Rattle.fio_input.specs.Delivery.{scans_in, open_inputs}
-use Rattle.fio_input.proofs.FewReports.{open_inputs-few}
+use Rattle.fio_input.specs.Delivery.{scans_in}
 use Rattle.fio_module.specs.Settings.{Settings, AreInRange}
 use Rattle.fio_module.specs.Life.{Life, life_of, scans_of, filter_events}
 use Rattle.fio_module.specs.Blocks.{latest_poll, blocks_of, newest_end}
@@ -186,36 +185,34 @@ module _ (settings : Settings) (range : AreInRange settings) (first : ℕ) where
 
   -- so all arrives
   pub starts_anew : (begin : Machine) → IsOpen begin → DeliveryStartsAnew settings first begin
-  starts_anew begin o filter scans first_receipt machine receipts last later p =
+  starts_anew begin o opened filter scans first_receipt machine receipts last later p =
       let found = gone scans machine begin first_receipt o p.ended receipts last p.rounds in
       let life = life_of machine.history in
       let same : found.0 ≡ later = append_cancel_right found.0 later life (sym found.1.since ∙ p.since) in
       let h : HasGone scans machine (newest_of machine receipts) last later = subst (HasGone scans machine (newest_of machine receipts) last) same found.1 in
-      let opened = open_inputs (filter_events life) in
-      let room = has_room settings range filter scans 2 opened p.some (omega arith) (open_inputs-few (filter_events life)) p.enough in
+      let room = has_room settings range filter scans 2 opened p.some (omega arith) p.inputs p.enough in
       let twice : opened * (scans + scans + (filter - 1)) ≤ opened * (2 * scans + (filter - 1)) = mul-le-mul_left opened (omega arith) in
-      let k : IsKeptUp settings filter scans (scans + scans) life later = record {
+      let k : IsKeptUp settings opened filter scans (scans + scans) life later = record {
         nothing_waits = p.nothing_waits;
         some = p.some;
-        filters = p.filters;
-        not_applied = p.not_applied;
+        few_open = p.few_open;
         enough = p.enough;
         behind = h.near;
         room = omega arith;
       } in
       let o = h.since_base in
-      let made = made_since settings range filter scans (scans + scans) (scans + h.so_far) machine last later h.since h.near h.now k in
+      let made = made_since settings range opened filter scans (scans + scans) (scans + h.so_far) machine last later h.since h.near h.now k in
       let new : o.rest ≡ made.made =
       append_cancel_left (blocks_in settings machine) o.rest made.made
-      (sym o.split ∙ blocks_now settings range filter scans (scans + scans) (scans + h.so_far) machine last later h.since h.near h.now k) in
+      (sym o.split ∙ blocks_now settings range opened filter scans (scans + scans) (scans + h.so_far) machine last later h.since h.near h.now k) in
       let all : last.round - machine.round ≡ length o.rest = omega (arith, h.all_taken, o.made) in
       let gained : last.items ≡ machine.items ++ flat_map recorded_of made.made =
       o.kept
       ∙ ap (λ n. machine.items ++ record_of n o.rest) all
       ∙ ap (λ bs. machine.items ++ flat_map recorded_of bs) (take_all (length o.rest) o.rest (omega arith) ∙ new) in
       record {
-        whole = whole_since settings range filter scans (scans + scans) (scans + h.so_far) machine last later h.since h.near h.now k gained;
-        times = times_since settings range filter scans (scans + scans) (scans + h.so_far) machine last later h.since h.near h.now k gained;
+        whole = whole_since settings range opened filter scans (scans + scans) (scans + h.so_far) machine last later h.since h.near h.now k gained;
+        times = times_since settings range opened filter scans (scans + scans) (scans + h.so_far) machine last later h.since h.near h.now k gained;
         young = λ now t.
             let order = h.since_receipt in
             let g = grows settings first last now t.leads_on.events t.leads_on.no_restart t.leads_on.leads in
@@ -223,7 +220,7 @@ module _ (settings : Settings) (range : AreInRange settings) (first : ℕ) where
             let in_time = t.in_time in
             let longer : scans - h.so_far + (scans + h.so_far) ≡ scans + scans = omega (arith, h.few) in
             let all = all_young_since settings first filter (scans + h.so_far) (scans - h.so_far) last now p.some _
-            (young_since_blocks settings range filter scans (scans + scans) (scans + h.so_far) machine last later h.since h.near h.now k)
+            (young_since_blocks settings range opened filter scans (scans + scans) (scans + h.so_far) machine last later h.since h.near h.now k)
             (record { leads_on = t.leads_on; in_time = omega arith }) in
             subst (λ n. AllByRecursion (IsYoung n filter (life_of now.history)) (drop (newest_end settings (life_of last.history)) (log_of (life_of now.history)))) longer all;
       }

@@ -67,9 +67,9 @@ whole_unless_full settings machine pieces few =
 -- where the module is polled often
 pub whole_where_polled_often : (settings : Settings) → AreInRange settings → (machine : Machine)
     → RecordIsPieces settings machine → IsWholeWherePolledOften settings machine
-whole_where_polled_often settings range machine pieces filter scans life later is few often =
+whole_where_polled_often settings range machine pieces opened filter scans life later is few often =
     whole_unless_full settings machine pieces
-    (subst (NeverTooMany settings) (sym is) (polled_often_stays_few settings filter scans life later range often few))
+    (subst (NeverTooMany settings) (sym is) (polled_often_stays_few settings opened filter scans life later range often few))
 
 -- where it is polled often for each input
 pub whole_where_polled_for_each : (settings : Settings) → AreInRange settings → (machine : Machine)
@@ -81,6 +81,6 @@ whole_where_polled_for_each settings range machine pieces scans life later is fe
 -- after an outage
 pub whole_after_outage : (settings : Settings) (machine : Machine)
     → RecordIsPieces settings machine → IsWholeAfterOutage settings machine
-whole_after_outage settings machine pieces filter life later is few outage =
+whole_after_outage settings machine pieces opened filter life later is few outage =
     whole_unless_full settings machine pieces
-    (subst (NeverTooMany settings) (sym is) (outage_stays_few settings filter life later outage few))
+    (subst (NeverTooMany settings) (sym is) (outage_stays_few settings opened filter life later outage few))

@@ -1,7 +1,7 @@
 -- How late a transition can be in the record at any time, not only at the end of a clean round.
 use Rattle.std.specs.Prelude.{◌≡◌, ℕ, ◌+◌, ◌*◌, ◌/◌, ◌≤◌, Bool, List, [], ◌++◌, length, drop}
 use Rattle.std.specs.List.{AllByRecursion}
-use Rattle.fio_input.specs.Delivery.{open_inputs, OpenHaveFiltersOf, NoneIsApplied}
+use Rattle.fio_input.specs.Delivery.{OpenKeepFiltersOf}
 use Rattle.fio_module.specs.Settings.{Settings, standard_settings}
 use Rattle.fio_module.specs.Life.{Life, life_of, scans_of, filter_events}
 use Rattle.fio_module.specs.Log.{log_of}
@@ -25,22 +25,22 @@ LacksOnlyYoung behind filter settings machine =
 -- nothing older than 2 n + f - 2 where a clean round may repeat a block.
 abbrev pub IsNeverLate : Settings → ℕ → Machine → Type 0
 IsNeverLate settings first machine =
-    (filter : ℕ) (untaken : Bool) (scans : ℕ) (receipts : List Machine) (last now : Machine)
+    (opened filter : ℕ) (untaken : Bool) (scans : ℕ) (receipts : List Machine) (last now : Machine)
     (later : Life) →
-    IsPolledInTime settings first filter untaken scans machine receipts last later →
+    IsPolledInTime settings first opened filter untaken scans machine receipts last later →
     LeadsInTime settings first scans (newest_of machine receipts) last now →
     LacksOnlyYoung (scans + behind_after untaken scans) filter settings now
 
 -- The same with blocks counted whole: for some number j of them the record lacks nothing that is more than
 -- j s + m - 1 - f (j b / k) scans old, for k inputs, filters of f, blocks of b that each make up for s scans,
 -- and m scans behind.
-pub record LacksOnlyYoungExactly (settings : Settings) (inputs filter scans behind : ℕ) (machine : Machine)
+pub record LacksOnlyYoungExactly (settings : Settings) (opened filter scans behind : ℕ) (machine : Machine)
     : Type 0 where
   pub blocks : ℕ
   pub young :
       AllByRecursion
       (λ transition. scans_of (life_of machine.history) + 1
-      + filter * (settings.per_block * blocks / inputs)
+      + filter * (settings.per_block * blocks / opened)
       ≤ transition.scans + (scans * blocks + behind))
       (drop (end_taken settings machine) (log_of (life_of machine.history)))
 
@@ -48,16 +48,15 @@ pub record LacksOnlyYoungExactly (settings : Settings) (inputs filter scans behi
 -- block.
 abbrev pub IsNeverLateExactly : Settings → ℕ → Machine → Type 0
 IsNeverLateExactly settings first machine =
-    (filter : ℕ) (untaken : Bool) (scans : ℕ) (receipts : List Machine) (last now : Machine)
+    (opened filter : ℕ) (untaken : Bool) (scans : ℕ) (receipts : List Machine) (last now : Machine)
     (later : Life) →
-    IsPolledInTime settings first filter untaken scans machine receipts last later →
+    IsPolledInTime settings first opened filter untaken scans machine receipts last later →
     LeadsInTime settings first scans (newest_of machine receipts) last now →
-    LacksOnlyYoungExactly settings (open_inputs (filter_events (life_of machine.history)))
-    filter scans (scans + behind_after untaken scans) now
+    LacksOnlyYoungExactly settings opened filter scans (scans + behind_after untaken scans) now
 
 -- A standard link: under the standard limits, after any run without restarts that ended where the CPU
--- had taken all blocks and nothing waited, with filters of at least 5 for the open inputs. Since then the
--- module has received the poll of a clean round at least every so many scans, and has applied no configuration.
+-- had taken all blocks and nothing waited. Since then the module has received the poll of a clean round at
+-- least every so many scans, and the filters of the open inputs stay at least 5, whatever configurations come.
 pub record IsStandardLink (id first : ℕ) (events : List Event) (untaken : Bool) (scans : ℕ)
     (machine : Machine) (receipts : List Machine) (last : Machine) (later : Life) (now : Machine)
     : Type 0 where
@@ -66,10 +65,10 @@ pub record IsStandardLink (id first : ℕ) (events : List Event) (untaken : Bool
   pub is_run : IsRun (standard_settings id) first events machine
   pub all_taken : machine.round ≡ length (blocks_in (standard_settings id) machine)
   pub nothing_waits : waiting_of (standard_settings id) (life_of machine.history) ≡ []
-  pub filters : OpenHaveFiltersOf (filter_events (life_of machine.history)) 5
   pub rounds : RoundsInTime (standard_settings id) first untaken scans machine receipts last
   pub since : life_of last.history ≡ later ++ life_of machine.history
-  pub not_applied : NoneIsApplied (filter_events later)
+  pub filters :
+      OpenKeepFiltersOf 5 (filter_events later) (filter_events (life_of machine.history))
   -- nor are there more scans since the newest of these polls
   pub until : LeadsInTime (standard_settings id) first scans (newest_of machine receipts) last now
 

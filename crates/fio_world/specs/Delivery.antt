@@ -160,9 +160,9 @@ GapsNameTimes settings machine = (place : ℕ) →
 -- Poll often enough, and nothing is lost, ever: the record is whole where the module is polled often
 -- from a time of its life on at which nothing waits.
 abbrev pub IsWholeWherePolledOften : Settings → Machine → Type 0
-IsWholeWherePolledOften settings machine = (filter scans : ℕ) (life later : Life) →
+IsWholeWherePolledOften settings machine = (opened filter scans : ℕ) (life later : Life) →
     life_of machine.history ≡ later ++ life → NeverTooMany settings life →
-    IsPolledOften settings filter scans life later → RecordIsWhole settings machine
+    IsPolledOften settings opened filter scans life later → RecordIsWhole settings machine
 
 -- so it is where the module is polled often for each input, with its own filters
 abbrev pub IsWholeWherePolledForEach : Settings → Machine → Type 0
@@ -172,6 +172,6 @@ IsWholeWherePolledForEach settings machine = (scans : ℕ) (life later : Life) �
 
 -- so is it after an outage that the buffer has room for
 abbrev pub IsWholeAfterOutage : Settings → Machine → Type 0
-IsWholeAfterOutage settings machine = (filter : ℕ) (life later : Life) →
+IsWholeAfterOutage settings machine = (opened filter : ℕ) (life later : Life) →
     life_of machine.history ≡ later ++ life → NeverTooMany settings life →
-    IsOutage settings filter life later → RecordIsWhole settings machine
+    IsOutage settings opened filter life later → RecordIsWhole settings machine

@@ -2,7 +2,8 @@
 -- and how late a transition can be.
 use Rattle.std.specs.Prelude.{◌≡◌, ℕ, ◌+◌, ◌-◌, ◌*◌, ◌%◌, ◌^◌, ◌<◌, ◌≤◌, Bool, false, List, [], ◌∷◌, ◌++◌, map, length, take, drop, slice_get, Some, if◌then◌else◌}
 use Rattle.std.specs.List.{AllByRecursion}
-use Rattle.fio_input.specs.Delivery.{open_inputs, OpenHaveFiltersOf, NoneIsApplied}
+use Rattle.fio_message.specs.declared.limits.TheConstants.{INPUTS}
+use Rattle.fio_input.specs.Delivery.{FewStayOpen}
 use Rattle.fio_module.specs.Settings.{Settings}
 use Rattle.fio_module.specs.Life.{Life, life_of, scans_of, loads_of, filter_events}
 use Rattle.fio_module.specs.Log.{Transition, entry_of, log_of}
@@ -81,22 +82,21 @@ abbrev pub behind_after : Bool → ℕ → ℕ
 behind_after untaken scans = if untaken then scans else 0
 
 -- Polled in time: the CPU had taken all blocks and nothing waited. Since then the module has received the
--- poll of a clean round at least once in so many scans, in which the open inputs change no more often than a
--- block takes, and it has applied no configuration.
-pub record IsPolledInTime (settings : Settings) (first filter : ℕ) (untaken : Bool) (scans : ℕ)
+-- poll of a clean round at least once in so many scans; no more than `opened` inputs stay open, whatever
+-- configurations come, and in so many scans they change no more often than a block takes.
+pub record IsPolledInTime (settings : Settings) (first opened filter : ℕ) (untaken : Bool) (scans : ℕ)
     (machine : Machine) (receipts : List Machine) (last : Machine) (later : Life) : Type 0 where
   pub all_taken : machine.round ≡ length (blocks_in settings machine)
   pub nothing_waits : waiting_of settings (life_of machine.history) ≡ []
+  pub inputs : opened ≤ INPUTS
   -- the filters of the open inputs are at least this
   pub some : 1 ≤ filter
-  pub filters : OpenHaveFiltersOf (filter_events (life_of machine.history)) filter
-  pub enough :
-      open_inputs (filter_events (life_of machine.history)) * scans
-      ≤ settings.per_block * filter
+  pub enough : opened * scans ≤ settings.per_block * filter
   pub rounds : RoundsInTime settings first untaken scans machine receipts last
   -- what has happened to the module since then
   pub since : life_of last.history ≡ later ++ life_of machine.history
-  pub not_applied : NoneIsApplied (filter_events later)
+  pub few_open :
+      FewStayOpen opened filter (filter_events later) (filter_events (life_of machine.history))
 
 -- a transition as an item of the record, with the counter at its scan
 abbrev pub timed_item : Transition → Item
@@ -115,7 +115,7 @@ transitions_arrived settings machine last =
 
 -- What has arrived at the end of a clean round, where the blocks are never more than `most` scans
 -- behind, and when the poll of a clean round has been received no more than `behind`.
-pub record HasArrived (settings : Settings) (filter most behind : ℕ)
+pub record HasArrived (settings : Settings) (opened filter most behind : ℕ)
     (machine : Machine) (receipts : List Machine) (last : Machine) : Type 0 where
   -- the record has gained the transitions logged since, each once and in order, and no gap mark
   pub whole :
@@ -131,8 +131,7 @@ pub record HasArrived (settings : Settings) (filter most behind : ℕ)
   -- earlier, which are as many as blocks that take what may be left
   pub through :
       (rounds : ℕ) (receipt : Machine)
-      → open_inputs (filter_events (life_of machine.history)) * (behind + (filter - 1))
-      ≤ rounds * (settings.per_block * filter)
+      → opened * (behind + (filter - 1)) ≤ rounds * (settings.per_block * filter)
       → slice_get receipts rounds ≡ Some receipt
       → length (log_of (life_of receipt.history)) ≤ end_taken settings last
   -- and through all but what the latest scans reported, and those since the newest of these polls
@@ -144,11 +143,11 @@ pub record HasArrived (settings : Settings) (filter most behind : ℕ)
 -- Where a link is polled in time, all arrives in time.
 abbrev pub AllArrivesInTime : Settings → ℕ → Machine → Type 0
 AllArrivesInTime settings first machine =
-    (filter : ℕ) (untaken : Bool) (scans : ℕ) (receipts : List Machine) (last : Machine)
+    (opened filter : ℕ) (untaken : Bool) (scans : ℕ) (receipts : List Machine) (last : Machine)
     (later : Life) →
-    IsPolledInTime settings first filter untaken scans machine receipts last later →
+    IsPolledInTime settings first opened filter untaken scans machine receipts last later →
     let behind = behind_after untaken scans in
-    HasArrived settings filter (scans + behind) behind machine receipts last
+    HasArrived settings opened filter (scans + behind) behind machine receipts last
 
 -- Each clean round, and what comes before it since the one before, makes a new block, which the CPU
 -- takes: where the CPU had taken all blocks, it has taken all again, and one more at least.
@@ -169,13 +168,14 @@ RoundsMakeBlocks settings first machine =
 -- twice as many where a clean round may repeat a block, as long as the next such poll may be received.
 abbrev pub RoundsKeepUp : Settings → ℕ → Machine → Type 0
 RoundsKeepUp settings first machine =
-    (filter : ℕ) (untaken : Bool) (scans : ℕ) (receipts : List Machine) (last now : Machine)
+    (opened filter : ℕ) (untaken : Bool) (scans : ℕ) (receipts : List Machine) (last now : Machine)
     (later stretch : Life) →
-    IsPolledInTime settings first filter untaken scans machine receipts last later →
+    IsPolledInTime settings first opened filter untaken scans machine receipts last later →
     LeadsInTime settings first scans (newest_of machine receipts) last now →
     life_of now.history ≡ stretch ++ (later ++ life_of machine.history) →
-    NoneIsApplied (filter_events (stretch ++ later)) →
-    IsKeptUp settings filter scans (scans + behind_after untaken scans)
+    FewStayOpen opened filter (filter_events (stretch ++ later))
+    (filter_events (life_of machine.history)) →
+    IsKeptUp settings opened filter scans (scans + behind_after untaken scans)
     (life_of machine.history) (stretch ++ later)
 
 -- an event that reaches the module past the bus: a scan, a line sync, flags that are raised

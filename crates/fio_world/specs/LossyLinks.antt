@@ -1,7 +1,8 @@
 -- Links that lose rounds or are down for a while, and catch up again.
 use Rattle.std.specs.Prelude.{◌≡◌, ℕ, ◌+◌, ◌-◌, ◌*◌, ◌≤◌, max, List, [], ◌∷◌, ◌++◌, map, length, drop}
 use Rattle.std.specs.List.{AllByRecursion}
-use Rattle.fio_input.specs.Delivery.{open_inputs, OpenHaveFiltersOf, NoneIsApplied}
+use Rattle.fio_message.specs.declared.limits.TheConstants.{INPUTS}
+use Rattle.fio_input.specs.Delivery.{FewStayOpen, OpenKeepFiltersOf}
 use Rattle.fio_module.specs.Settings.{Settings, standard_settings}
 use Rattle.fio_module.specs.Life.{Life, life_of, scans_of, loads_of, filter_events}
 use Rattle.fio_module.specs.Log.{entry_of, log_of}
@@ -60,27 +61,23 @@ BeginNear scans most (pause ∷ pauses) =
 
 -- Kept up with: the CPU had taken all blocks and nothing waited. Since then clean rounds came that each
 -- make up for `scans` scans, with blocks never more than `most` behind, as many as the buffer has room
--- for; and the module has applied no configuration.
-pub record IsKeptUpWith (settings : Settings) (first filter scans most : ℕ)
+-- for; and no more than `opened` inputs stay open, whatever configurations come.
+pub record IsKeptUpWith (settings : Settings) (first opened filter scans most : ℕ)
     (machine : Machine) (pauses : List Pause) (receipt last : Machine) (later : Life) : Type 0 where
   pub all_taken : machine.round ≡ length (blocks_in settings machine)
   pub nothing_waits : waiting_of settings (life_of machine.history) ≡ []
   -- the filters of the open inputs are at least this
   pub some : 1 ≤ filter
-  pub filters : OpenHaveFiltersOf (filter_events (life_of machine.history)) filter
-  pub enough :
-      open_inputs (filter_events (life_of machine.history)) * scans
-      ≤ settings.per_block * filter
-  pub room :
-      open_inputs (filter_events (life_of machine.history)) * (most + (filter - 1))
-      ≤ settings.waiting * filter
+  pub enough : opened * scans ≤ settings.per_block * filter
+  pub room : opened * (most + (filter - 1)) ≤ settings.waiting * filter
   pub near : BeginNear scans most pauses
   pub rounds : RoundsAfter settings first machine pauses receipt last
   -- nor are they more than that when the CPU hears the answer to the newest poll
   pub heard_near : IsWithin (most - left_behind scans pauses) receipt last
   -- what has happened to the module since then
   pub since : life_of last.history ≡ later ++ life_of machine.history
-  pub not_applied : NoneIsApplied (filter_events later)
+  pub few_open :
+      FewStayOpen opened filter (filter_events later) (filter_events (life_of machine.history))
 
 -- What has arrived then at the end of a clean round, and at any time after it.
 pub record ArrivesLate (settings : Settings) (first filter most behind : ℕ) (machine receipt last : Machine)
@@ -103,8 +100,8 @@ pub record ArrivesLate (settings : Settings) (first filter most behind : ℕ) (m
 -- Where a link is kept up with, all arrives: whole, and late by no more than the blocks are behind.
 abbrev pub AllArrivesWhereKeptUpWith : Settings → ℕ → Machine → Type 0
 AllArrivesWhereKeptUpWith settings first machine =
-    (filter scans most : ℕ) (pauses : List Pause) (receipt last : Machine) (later : Life) →
-    IsKeptUpWith settings first filter scans most machine pauses receipt last later →
+    (opened filter scans most : ℕ) (pauses : List Pause) (receipt last : Machine) (later : Life) →
+    IsKeptUpWith settings first opened filter scans most machine pauses receipt last later →
     ArrivesLate settings first filter most (left_behind scans pauses) machine receipt last
 
 -- a pause of at most so many scans, of which at most so many come after the CPU had last taken all
@@ -135,14 +132,14 @@ RoundsCatchUp =
 -- behind.
 abbrev pub StandardLimitsHaveRoom : ℕ → ℕ → Type 0
 StandardLimitsHaveRoom scans most =
-    (id : ℕ) (life : Life) →
-    (open_inputs (filter_events life) * scans ≤ (standard_settings id).per_block * 5)
-    × (open_inputs (filter_events life) * (most + (5 - 1)) ≤ (standard_settings id).waiting * 5)
+    (id opened : ℕ) → opened ≤ INPUTS →
+    (opened * scans ≤ (standard_settings id).per_block * 5)
+    × (opened * (most + (5 - 1)) ≤ (standard_settings id).waiting * 5)
 
 -- A standard link that is kept up with: under the standard limits, after any run without restarts that ended
--- where the CPU had taken all blocks and nothing waited, with filters of at least 5 for the open inputs. Since
--- then clean rounds have come that each make up for `scans` scans, with blocks never more than `most` behind,
--- and the module has applied no configuration.
+-- where the CPU had taken all blocks and nothing waited. Since then clean rounds have come that each make up
+-- for `scans` scans, with blocks never more than `most` behind, and the filters of the open inputs stay at
+-- least 5, whatever configurations come.
 pub record IsStandardLinkKeptUp (id first : ℕ) (events : List Event) (scans most : ℕ)
     (machine : Machine) (pauses : List Pause) (receipt last : Machine) (later : Life) : Type 0 where
   pub id_fits : id ≤ 255
@@ -150,12 +147,12 @@ pub record IsStandardLinkKeptUp (id first : ℕ) (events : List Event) (scans mo
   pub is_run : IsRun (standard_settings id) first events machine
   pub all_taken : machine.round ≡ length (blocks_in (standard_settings id) machine)
   pub nothing_waits : waiting_of (standard_settings id) (life_of machine.history) ≡ []
-  pub filters : OpenHaveFiltersOf (filter_events (life_of machine.history)) 5
   pub near : BeginNear scans most pauses
   pub rounds : RoundsAfter (standard_settings id) first machine pauses receipt last
   pub heard_near : IsWithin (most - left_behind scans pauses) receipt last
   pub since : life_of last.history ≡ later ++ life_of machine.history
-  pub not_applied : NoneIsApplied (filter_events later)
+  pub filters :
+      OpenKeepFiltersOf 5 (filter_events later) (filter_events (life_of machine.history))
 
 -- Such a link loses nothing, and is never later than so many scans: until the blocks are more than `most`
 -- behind, what the record lacks is at most so many scans old.

@@ -33,9 +33,9 @@ pub record IsRecorded (input : ℕ) (level : Bool) (life samples : Life) (machin
 -- after the last of them, or 2 n + f - 2 where a clean round may repeat a block.
 abbrev pub NewLevelsAreRecorded : Settings → ℕ → Machine → Type 0
 NewLevelsAreRecorded settings first machine =
-    (filter : ℕ) (untaken : Bool) (scans : ℕ) (receipts : List Machine) (last now : Machine)
+    (opened filter : ℕ) (untaken : Bool) (scans : ℕ) (receipts : List Machine) (last now : Machine)
     (later : Life) →
-    IsPolledInTime settings first filter untaken scans machine receipts last later →
+    IsPolledInTime settings first opened filter untaken scans machine receipts last later →
     LeadsInTime settings first scans (newest_of machine receipts) last now →
     (input : ℕ) (level : Bool) (before samples after : Life) →
     let life = before ++ life_of machine.history in

@@ -35,6 +35,8 @@ pub record StandardLinkIsAsLate (scans : ℕ) (untaken : Bool) (late : ℕ) : Ty
   pub now : Machine
   pub later : Life
   pub link : IsStandardLink id first events untaken scans machine receipts last later now
+  -- no configuration is applied
+  pub not_applied : NoneIsApplied (filter_events later)
   pub nothing_between :
       HaveNothingBetween (standard_settings id) first untaken scans machine receipts last link.rounds
   -- the first that the record lacks

@@ -1,7 +1,8 @@
 -- After restarts: delivery starts anew with a clean round in the module's present life.
 use Rattle.std.specs.Prelude.{◌≡◌, ℕ, ◌+◌, ◌*◌, ◌≤◌, true, List, [], ◌++◌, map, length, take, drop}
 use Rattle.std.specs.List.{AllByRecursion}
-use Rattle.fio_input.specs.Delivery.{open_inputs, OpenHaveFiltersOf, NoneIsApplied}
+use Rattle.fio_message.specs.declared.limits.TheConstants.{INPUTS}
+use Rattle.fio_input.specs.Delivery.{FewStayOpen, OpenKeepFiltersOf}
 use Rattle.fio_module.specs.Settings.{Settings, standard_settings}
 use Rattle.fio_module.specs.Life.{Life, life_of, scans_of, loads_of, filter_events}
 use Rattle.fio_module.specs.Log.{Transition, entry_of, log_of}
@@ -15,22 +16,21 @@ use Rattle.fio_world.specs.InTime.{LeadsInTime, newest_of, RoundsInTime, timed_i
 
 -- Polled in time since a clean round, whatever came before it, restarts included: the round has just ended,
 -- and nothing waits. Since then nothing was restarted; the module has received the poll of
--- a clean round at least once in so many scans, in which the open inputs change no more often than a block takes,
--- and has applied no configuration.
-pub record IsPolledSinceRound (settings : Settings) (first filter scans : ℕ) (begin receipt machine : Machine)
+-- a clean round at least once in so many scans; no more than `opened` inputs stay open, whatever configurations
+-- come, and in so many scans they change no more often than a block takes.
+pub record IsPolledSinceRound (settings : Settings) (first opened filter scans : ℕ) (begin receipt machine : Machine)
     (receipts : List Machine) (last : Machine) (later : Life) : Type 0 where
   pub ended : IsCleanRound settings first begin receipt machine
   pub nothing_waits : waiting_of settings (life_of machine.history) ≡ []
+  pub inputs : opened ≤ INPUTS
   -- the filters of the open inputs are at least this
   pub some : 1 ≤ filter
-  pub filters : OpenHaveFiltersOf (filter_events (life_of machine.history)) filter
-  pub enough :
-      open_inputs (filter_events (life_of machine.history)) * scans
-      ≤ settings.per_block * filter
+  pub enough : opened * scans ≤ settings.per_block * filter
   pub rounds : RoundsInTime settings first true scans machine receipts last
   -- what has happened to the module since then
   pub since : life_of last.history ≡ later ++ life_of machine.history
-  pub not_applied : NoneIsApplied (filter_events later)
+  pub few_open :
+      FewStayOpen opened filter (filter_events later) (filter_events (life_of machine.history))
 
 -- the transitions logged since a machine, through the end of the newest block
 abbrev pub in_blocks_since : Settings → Machine → Machine → List Transition
@@ -61,8 +61,9 @@ pub record HasArrivedSince (settings : Settings) (first filter scans : ℕ) (mac
 -- then, all arrives in time.
 abbrev pub DeliveryStartsAnew : Settings → ℕ → Machine → Type 0
 DeliveryStartsAnew settings first begin =
-    (filter scans : ℕ) (receipt machine : Machine) (receipts : List Machine) (last : Machine) (later : Life) →
-    IsPolledSinceRound settings first filter scans begin receipt machine receipts last later →
+    (opened filter scans : ℕ) (receipt machine : Machine) (receipts : List Machine) (last : Machine)
+    (later : Life) →
+    IsPolledSinceRound settings first opened filter scans begin receipt machine receipts last later →
     HasArrivedSince settings first filter scans machine receipts last
 
 -- The standard link after restarts, polled at least every so many scans since a clean round that left nothing
@@ -75,10 +76,9 @@ StandardLinkStartsAnew scans late =
     IsRun settings first events begin →
     IsCleanRound settings first begin receipt machine →
     waiting_of settings (life_of machine.history) ≡ [] →
-    OpenHaveFiltersOf (filter_events (life_of machine.history)) 5 →
     RoundsInTime settings first true scans machine receipts last →
     life_of last.history ≡ later ++ life_of machine.history →
-    NoneIsApplied (filter_events later) →
+    OpenKeepFiltersOf 5 (filter_events later) (filter_events (life_of machine.history)) →
     LeadsInTime settings first scans (newest_of machine receipts) last now →
     (map piece_of last.items
     ≡ map piece_of machine.items

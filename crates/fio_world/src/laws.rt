@@ -147,8 +147,8 @@ pub fn clean_rounds_keep_up()
 {}
 
 /// Where the module receives the poll of a clean round at least every n scans, with k * n at most
-/// `per_block` * f, from a time on at which the CPU has taken all blocks and nothing waits, and no
-/// configuration is applied: the record gains each transition once, in order, with its time, and no gap
+/// `per_block` * f, from a time on at which the CPU has taken all blocks and nothing waits, and no more than
+/// k inputs stay open, with filters of at least f, whatever configurations come: the record gains each transition once, in order, with its time, and no gap
 /// mark; and at the end of a clean round it lacks none that had been logged when the module received the
 /// poll of the one two rounds earlier, or more than n + f - 2 scans before it received that of this one.
 /// Where no answer is lost it is one round, and f - 2 scans.
