@@ -4,12 +4,12 @@ use Rattle.std.proofs.lemmas.List.{length-append, length-take-le, take-append-dr
 use Rattle.hex.specs.Hex.{encode_with}
 use Rattle.fio_show.specs.CommandLines.{body_text}
 use Rattle.fio_show.specs.Digits.{digits_of}
-use Rattle.fio_c.specs.Written.{Appends, overwritten}
-use Rattle.fio_c.proofs.Overwriting.{overwritten-more}
+use Rattle.fio_c.specs.Written.{Appends, buffer_with}
+use Rattle.fio_c.proofs.Overwriting.{buffer_with-more}
 
 -- a buffer that is written into is as long as before
-length-overwritten : (place : ℕ) (octets before : List ℕ) → place + length octets ≤ length before → length (overwritten place octets before) ≡ length before
-length-overwritten place octets before room =
+length-buffer_with : (place : ℕ) (octets before : List ℕ) → place + length octets ≤ length before → length (buffer_with place octets before) ≡ length before
+length-buffer_with place octets before room =
     omega (
       arith,
       room,
@@ -36,8 +36,8 @@ both front back before middle after place inner end first then = record {
   written = λ room.
       let fits : inner ≤ length before = omega (arith, then.counted, room) in
       let here = first.written fits in
-      let long : length middle ≡ length before = ap length here ∙ length-overwritten place front before (omega (arith, first.counted, fits)) in
-      overwritten-more place inner front back before middle after first.counted (omega (arith, then.counted, room)) here (then.written (omega (arith, long, room)));
+      let long : length middle ≡ length before = ap length here ∙ length-buffer_with place front before (omega (arith, first.counted, fits)) in
+      buffer_with-more place inner front back before middle after first.counted (omega (arith, then.counted, room)) here (then.written (omega (arith, long, room)));
 }
 
 -- a body that is not empty is written in its digits

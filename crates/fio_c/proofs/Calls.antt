@@ -20,41 +20,41 @@ use Rattle.fio_module.specs.Settings.{Settings, AreInRange}
 use Rattle.fio_module.specs.Life.{Life, Received, Commanded, life_of, life_after_command}
 use Rattle.fio_module.specs.Life as lives
 use Rattle.fio_module.specs.Sendings.{Sending, answer_of, latest_sending}
-use Rattle.fio_module.specs.Sent.{KeepsSending}
+use Rattle.fio_module.specs.KeptSending.{KeepsSending}
 use Rattle.fio_module.specs.Replies.{answer_to, answer_if, reply_to}
-use Rattle.fio_cpu.specs.Hearing.{added, next_number, heard_as}
-use Rattle.fio_cpu.specs.Record.{recorded}
+use Rattle.fio_cpu.specs.Hearing.{new_items, next_number, heard_as}
+use Rattle.fio_cpu.specs.Record.{items_of_block}
 use Rattle.fio_cpu.specs.declared.record.Item.{Item}
 use Rattle.fio_cpu.specs.declared.poller.Heard.{Heard as HeardOf}
 use Rattle.fio_cpu.specs.declared.poller.Heard.TheVariants as outcomes
 use Rattle.fio_world.specs.declared.event.Event.{Event}
 use Rattle.fio_world.specs.declared.event.Event.TheVariants.{Scan, LineSync, Raise, Poll, Send, ToModule, ToCpu, Restart}
-use Rattle.fio_world.specs.Link.{Machine, Sent, start, refusal, after, happened, sent, received, heard, heard_block, answer_frames, number_of, item_numbered, delivery_refusal, Leads}
+use Rattle.fio_world.specs.Link.{Machine, SentFrame, start, refusal, after, after_module_event, after_sending, after_delivery_to_module, after_delivery_to_cpu, after_delivered_block, answer_frames, number_of, item_numbered, delivery_refusal, Leads}
 use Rattle.fio_world.proofs.Promises.{runs_are_sound}
 use Rattle.fio_world.proofs.RoundNumbers.{number_of-next}
 use Rattle.fio_world.proofs.Spelled.{no_block_in}
 use Rattle.fio_c.specs.declared.poller.Heard.{Heard}
 use Rattle.fio_c.specs.declared.poller.RecordItem.{RecordItem}
-use Rattle.fio_c.specs.Module.{History, Reached, ErrorsSet, IsModuleAfter, reached, errors_of, with_errors, settings_of}
+use Rattle.fio_c.specs.Module.{History, Reached, ErrorsSet, IsModuleAfter, events_reached, errors_of, with_errors, settings_of}
 use Rattle.fio_c.specs.declared.module.ErrorCounts.{ErrorCounts}
 use Rattle.fio_c.specs.Written.{Writes, WritesAnswer}
 use Rattle.fio_c.specs.Hearing.{Hears, flat_record_item, flat_heard}
-use Rattle.fio_c.specs.Calls.{Held, held_at_start, HasHappened, HasPolled, HasReceived, HasHeard, IsFoundAnd, IsCalledFor, AreCalled, Call, For, SetErrors, CallsAreRuns, events_of, frames_written}
+use Rattle.fio_c.specs.Calls.{CallerState, caller_at_start, HasHappened, HasPolled, HasReceived, HasHeard, IsFoundAnd, IsCalledFor, AreCalled, Call, For, SetErrors, CallsAreRuns, events_of, frames_written}
 
 -- the octets of a frame
-abbrev octets_of : Sent → List ℕ
+abbrev octets_of : SentFrame → List ℕ
 octets_of frame = frame.octets
 
 -- the block that a frame spells
-abbrev block_of : Sent → Option Block
+abbrev block_of : SentFrame → Option Block
 block_of frame = block_in frame.octets
 
 -- What a caller has is what the machine has; of the frames to the CPU, the blocks that they spell, since
 -- others may have error counts.
-record Follows (settings : Settings) (first : ℕ) (machine : Machine) (held : Held) : Type 0 where
+record Follows (settings : Settings) (first : ℕ) (machine : Machine) (held : CallerState) : Type 0 where
   history : History
   device : IsModuleAfter settings held.device history
-  same_history : reached history ≡ machine.history
+  same_history : events_reached history ≡ machine.history
   number : held.number ≡ number_of first machine.round
   to_module : held.to_module ≡ map octets_of machine.to_module
   to_cpu : map block_in held.to_cpu ≡ map block_of machine.to_cpu
@@ -77,11 +77,11 @@ written_front octets before after count wrote some =
 
 -- ---- each event
 
-module _ (settings : Settings) (first : ℕ) (machine : Machine) (held next : Held) (f : Follows settings first machine held) where
+module _ (settings : Settings) (first : ℕ) (machine : Machine) (held next : CallerState) (f : Follows settings first machine held) where
   follows_event : (event : lives.Event) → HasHappened (Reached event) held next
-      → Follows settings first (happened machine event) next
+      → Follows settings first (after_module_event machine event) next
   follows_event event h =
-      subst (Follows settings first (happened machine event)) (sym h.rest) (record {
+      subst (Follows settings first (after_module_event machine event)) (sym h.rest) (record {
         history = Reached event ∷ f.history;
         device = h.had settings f.history f.device;
         same_history = ap (λ older. event ∷ older) f.same_history;
@@ -110,9 +110,9 @@ module _ (settings : Settings) (first : ℕ) (machine : Machine) (held next : He
       })
 
   follows_sent : (command : Command) → next ≡ record held { to_module = held.to_module ++ command_octets command ∷ [] }
-      → Follows settings first (sent machine command) next
+      → Follows settings first (after_sending machine command) next
   follows_sent command rest =
-      subst (Follows settings first (sent machine command)) (sym rest) (record {
+      subst (Follows settings first (after_sending machine command)) (sym rest) (record {
         history = f.history;
         device = f.device;
         same_history = f.same_history;
@@ -127,7 +127,7 @@ module _ (settings : Settings) (first : ℕ) (machine : Machine) (held next : He
         items = f.items;
       })
 
-  follows_poll : HasPolled held next → Follows settings first (sent machine (commands.Poll (number_of first machine.round))) next
+  follows_poll : HasPolled held next → Follows settings first (after_sending machine (commands.Poll (number_of first machine.round))) next
   follows_poll h =
       let wrote : take h.count h.after ≡ command_octets (commands.Poll held.number) =
       written_front (command_octets (commands.Poll held.number)) h.before h.after h.count h.wrote h.some in
@@ -211,7 +211,7 @@ errors_fit errors (Some (answers.Status flags receive transmit stamp)) most fits
 errors_fit errors (Some other) most fits answer is = fits answer is
 
 -- the frame with a number, by its octets
-numbered_octets : (frames : List Sent) (index : ℕ)
+numbered_octets : (frames : List SentFrame) (index : ℕ)
     → item_numbered (map octets_of frames) index ≡ option_map octets_of (item_numbered frames index)
 numbered_octets frames zero = refl
 numbered_octets frames (suc place) = slice_get-map octets_of frames place
@@ -222,7 +222,7 @@ numbered_said : (frames : List (List ℕ)) (index : ℕ)
 numbered_said frames zero = refl
 numbered_said frames (suc place) = slice_get-map block_in frames place
 
-numbered_block : (frames : List Sent) (index : ℕ)
+numbered_block : (frames : List SentFrame) (index : ℕ)
     → item_numbered (map block_of frames) index ≡ option_map block_of (item_numbered frames index)
 numbered_block frames zero = refl
 numbered_block frames (suc place) = slice_get-map block_of frames place
@@ -240,9 +240,9 @@ count_written count (outcomes.Stale block) = refl
 items_written : (number next : ℕ) (octets : List ℕ) (before after : List RecordItem) (heard : Heard)
     → Hears number octets before after next heard → heard.kind ≢ 4
     → (next ≡ next_number number (block_in octets))
-    × (take heard.items after ≡ map flat_record_item (added number (block_in octets)))
+    × (take heard.items after ≡ map flat_record_item (new_items number (block_in octets)))
 items_written number next octets before after heard hears room =
-    let new = added number (block_in octets) in
+    let new = new_items number (block_in octets) in
     elim (cases_lt (length before) (length new)) as
     (λ _. (next ≡ next_number number (block_in octets)) × (take heard.items after ≡ map flat_record_item new)) [
       | inl short ↦ absurd (room (ap (λ (h : Heard). h.kind) (hears.no_room short).0))
@@ -257,7 +257,7 @@ items_written number next octets before after heard hears room =
           )
     ]
 
-module _ (settings : Settings) (first : ℕ) (machine : Machine) (held : Held) (f : Follows settings first machine held)
+module _ (settings : Settings) (first : ℕ) (machine : Machine) (held : CallerState) (f : Follows settings first machine held)
     (index : ℕ) where
   abbrev number : ℕ
   number = number_of first machine.round
@@ -267,7 +267,7 @@ module _ (settings : Settings) (first : ℕ) (machine : Machine) (held : Held) (
   delivered = record machine { last_to_cpu = index }
 
   -- what the caller has then
-  abbrev hearing : ℕ → List Item → Held
+  abbrev hearing : ℕ → List Item → CallerState
   hearing next new = record held { number = next; last_to_cpu = index; items = held.items ++ map flat_record_item new }
 
   heard_nothing_new : Follows settings first delivered (hearing number [])
@@ -285,8 +285,8 @@ module _ (settings : Settings) (first : ℕ) (machine : Machine) (held : Held) (
 
   heard_if : (taken : Bool) (block : Block)
       → Follows settings first
-      (if taken then record delivered { round = machine.round + 1; items = machine.items ++ recorded block } else delivered)
-      (hearing (if taken then (number + 1) % 256 else number) (if taken then recorded block else []))
+      (if taken then record delivered { round = machine.round + 1; items = machine.items ++ items_of_block block } else delivered)
+      (hearing (if taken then (number + 1) % 256 else number) (if taken then items_of_block block else []))
   heard_if false block = heard_nothing_new
   heard_if true block = record {
     history = f.history;
@@ -298,43 +298,43 @@ module _ (settings : Settings) (first : ℕ) (machine : Machine) (held : Held) (
     last_to_module = f.last_to_module;
     last_to_cpu = refl;
     items =
-        ap (λ l. l ++ map flat_record_item (recorded block)) f.items
-        ∙ sym (map-append flat_record_item machine.items (recorded block));
+        ap (λ l. l ++ map flat_record_item (items_of_block block)) f.items
+        ∙ sym (map-append flat_record_item machine.items (items_of_block block));
   }
 
   heard_found : (found : Option Block)
-      → Follows settings first (heard_block first delivered found) (hearing (next_number number found) (added number found))
+      → Follows settings first (after_delivered_block first delivered found) (hearing (next_number number found) (new_items number found))
   heard_found None = heard_nothing_new
   heard_found (Some block) = heard_if (block.number == number) block
 
-  follows_heard : (next : Held) (octets : Option (List ℕ)) (found : Option Sent)
+  follows_heard : (next : CallerState) (octets : Option (List ℕ)) (found : Option SentFrame)
       → option_map block_in octets ≡ option_map block_of found
       → IsFoundAnd octets (λ frame. HasHeard index frame held next)
-      → Follows settings first (heard first machine index found) next
+      → Follows settings first (after_delivery_to_cpu first machine index found) next
   follows_heard next None found same is = absurd is
   follows_heard next (Some octets) None same h = absurd (cc same)
   follows_heard next (Some octets) (Some frame) same h =
       let new = items_written held.number h.number octets h.before h.after h.heard h.hears h.room in
-      let has : next ≡ hearing (next_number number (block_in octets)) (added number (block_in octets)) =
+      let has : next ≡ hearing (next_number number (block_in octets)) (new_items number (block_in octets)) =
       h.rest
       ∙ ap₂ (λ n l. record held { number = n; last_to_cpu = index; items = held.items ++ l }) new.0 new.1
-      ∙ ap (λ n. hearing (next_number n (block_in octets)) (added n (block_in octets))) f.number in
-      subst (Follows settings first (heard first machine index (Some frame))) (sym has)
-      (subst (λ found. Follows settings first (heard_block first delivered found)
-      (hearing (next_number number (block_in octets)) (added number (block_in octets))))
+      ∙ ap (λ n. hearing (next_number n (block_in octets)) (new_items n (block_in octets))) f.number in
+      subst (Follows settings first (after_delivery_to_cpu first machine index (Some frame))) (sym has)
+      (subst (λ found. Follows settings first (after_delivered_block first delivered found)
+      (hearing (next_number number (block_in octets)) (new_items number (block_in octets))))
       (same_Some _ _ same) (heard_found (block_in octets)))
 
-  follows_received : (next : Held) (found : Option Sent)
+  follows_received : (next : CallerState) (found : Option SentFrame)
       → IsFoundAnd (option_map octets_of found) (λ octets. HasReceived index octets held next)
-      → Follows settings first (received settings machine index found) next
+      → Follows settings first (after_delivery_to_module settings machine index found) next
   follows_received next None is = absurd is
   follows_received next (Some frame) h =
       let device = h.had settings f.history f.device in
       let errors = errors_of f.history in
-      let reply = reply_to settings (reached f.history) frame.octets in
+      let reply = reply_to settings (events_reached f.history) frame.octets in
       let fits : (answer : Answer) → reply ≡ Some answer → length (answer_octets answer) ≤ length h.before = λ answer is.
       (let most : length (answer_octets answer) ≤ 773 =
-      reply_fits settings (life_of (reached f.history)) h.device.state.sent (command_in frame.octets) answer device.state.sent is in
+      reply_fits settings (life_of (events_reached f.history)) h.device.state.sent (command_in frame.octets) answer device.state.sent is in
       omega (arith, h.room)) in
       let wrote : map block_in (frames_written h.count h.after) ≡ map block_of (answer_frames reply frame.round) =
       frames_written_say (with_errors errors reply) h.before h.after h.count
@@ -345,7 +345,7 @@ module _ (settings : Settings) (first : ℕ) (machine : Machine) (held : Held) (
       map-append block_in held.to_cpu (frames_written h.count h.after)
       ∙ ap₂ (λ a b. a ++ b) f.to_cpu wrote
       ∙ sym (map-append block_of machine.to_cpu (answer_frames reply frame.round)) in
-      subst (Follows settings first (received settings machine index (Some frame))) (sym h.rest) (record {
+      subst (Follows settings first (after_delivery_to_module settings machine index (Some frame))) (sym h.rest) (record {
         history = Reached (Received frame.octets) ∷ f.history;
         device = device;
         same_history = ap (λ older. Received frame.octets ∷ older) f.same_history;
@@ -369,7 +369,7 @@ may_deliver sent count last other index same ends fine =
     ap₂ (λ n l. delivery_refusal n l index) (sym same) (sym ends) ∙ fine
 
 -- one call for an event is that event
-follows : (settings : Settings) (first : ℕ) (machine : Machine) (held next : Held) (event : Event)
+follows : (settings : Settings) (first : ℕ) (machine : Machine) (held next : CallerState) (event : Event)
     → Follows settings first machine held → IsCalledFor event held next
     → (refusal machine event ≡ None) × Follows settings first (after settings first machine event) next
 follows settings first machine held next (Scan raw) f is = (refl, follows_event settings first machine held next f (lives.Scan raw) is)
@@ -394,7 +394,7 @@ follows settings first machine held next (ToCpu index) f is =
     )
 
 -- calls have events that lead to a machine
-follow_all : (settings : Settings) (first : ℕ) (calls : List Call) (machine : Machine) (held last : Held)
+follow_all : (settings : Settings) (first : ℕ) (calls : List Call) (machine : Machine) (held last : CallerState)
     → Follows settings first machine held → AreCalled calls held last
     → (end : Machine) × Leads settings first machine (events_of calls) end × Follows settings first end last
 follow_all settings first [] machine held last f called =
@@ -410,7 +410,7 @@ follow_all settings first (SetErrors receive transmit ∷ calls) machine held la
 pub calls_are_runs : CallsAreRuns
 calls_are_runs id per_block first device calls last id_low some few first_low started called =
     let settings = settings_of id per_block in
-    let begin : Follows settings first start (held_at_start device first) = record {
+    let begin : Follows settings first start (caller_at_start device first) = record {
       history = [];
       device = started;
       same_history = refl;
@@ -427,7 +427,7 @@ calls_are_runs id per_block first device calls last id_low some few first_low st
       few_per_block = omega arith;
       many_waiting = omega arith;
     } in
-    let run = follow_all settings first calls start (held_at_start device first) last begin called in
+    let run = follow_all settings first calls start (caller_at_start device first) last begin called in
     record {
       machine = run.0;
       sound = runs_are_sound settings first (events_of calls) run.0 range run.1;

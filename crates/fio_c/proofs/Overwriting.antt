@@ -5,14 +5,14 @@ use Rattle.std.proofs.lemmas.List.{length-append, length-map, length-take-le, ma
 use Rattle.std.proofs.lemmas.Slice.{drop-append-drop}
 use Rattle.std.proofs.Math.Seq.{take-append_seam}
 use Rattle.fio_message.proofs.Parts.{IsPart, length-parts}
-use Rattle.fio_c.specs.Written.{Writes, overwritten}
+use Rattle.fio_c.specs.Written.{Writes, buffer_with}
 
 -- octets that are written behind others
-pub overwritten-more : (from place : ℕ) (octets more before now after : List ℕ)
+pub buffer_with-more : (from place : ℕ) (octets more before now after : List ℕ)
     → place ≡ from + length octets → place + length more ≤ length before
-    → now ≡ overwritten from octets before → after ≡ overwritten place more now
-    → after ≡ overwritten from (octets ++ more) before
-overwritten-more from place octets more before now after behind room here there =
+    → now ≡ buffer_with from octets before → after ≡ buffer_with place more now
+    → after ≡ buffer_with from (octets ++ more) before
+buffer_with-more from place octets more before now after behind room here there =
     let start = take from before in
     let front = start ++ octets in
     let end = place + length more in
@@ -32,7 +32,7 @@ overwritten-more from place octets more before now after behind room here there 
 
 -- octets at the front of a buffer that has room for them are written
 pub writes-whole : (octets before after : List ℕ) (count : ℕ) → length octets ≡ count → count ≤ length before
-    → after ≡ overwritten 0 octets before → Writes octets before after count
+    → after ≡ buffer_with 0 octets before → Writes octets before after count
 writes-whole octets before after count long room is =
     let none : 0 + length octets ≡ length octets = omega arith in
     record {
@@ -58,9 +58,9 @@ module _ {X Y : Type 0} {Fits : Y → Type 0} {octets_of : Y → List ℕ} {part
   pub part-more : (from place i : ℕ) (items : List X) (blank : X) (group before now after : List ℕ)
       → place ≡ from + 3 * i → i < length items → group ≡ octets_of (read (get_or items i blank))
       → from + 3 * length items ≤ length before
-      → now ≡ overwritten from (flat_map octets_of (map read (take i items))) before
-      → after ≡ overwritten place group now
-      → after ≡ overwritten from (flat_map octets_of (map read (take (i + 1) items))) before
+      → now ≡ buffer_with from (flat_map octets_of (map read (take i items))) before
+      → after ≡ buffer_with place group now
+      → after ≡ buffer_with from (flat_map octets_of (map read (take (i + 1) items))) before
   part-more from place i items blank group before now after at lt spelled room here there =
       let item = get_or items i blank in
       let octets = flat_map octets_of (map read (take i items)) in
@@ -71,5 +71,5 @@ module _ {X Y : Type 0} {Fits : Y → Type 0} {octets_of : Y → List ℕ} {part
       ap (λ (more : List ℕ). octets ++ more) spelled
       ∙ flat_map_more octets_of [] (map read (take i items)) (read item)
       ∙ ap (flat_map octets_of) (sym (map-append read (take i items) (item ∷ [])) ∙ ap (map read) (sym items_more)) in
-      overwritten-more from place octets group before now after (omega arith) (omega arith) here there
-      ∙ ap (λ o. overwritten from o before) octets_more
+      buffer_with-more from place octets group before now after (omega arith) (omega arith) here there
+      ∙ ap (λ o. buffer_with from o before) octets_more

@@ -11,7 +11,7 @@ use Rattle.fio_world.specs.declared.event.Event.TheVariants.{Scan, LineSync, Rai
 use Rattle.fio_world.specs.Link.{Machine, item_numbered, delivery_refusal, sending_refusal}
 use Rattle.fio_world.specs.Sound.{IsSoundRun}
 use Rattle.fio_c.specs.Module as module_events
-use Rattle.fio_c.specs.Module.{Reached, ErrorsSet, HasHad, Replies, IsModuleAfter, settings_of}
+use Rattle.fio_c.specs.Module.{Reached, ErrorsSet, AddsEvent, Replies, IsModuleAfter, settings_of}
 use Rattle.fio_c.specs.Written.{Writes}
 use Rattle.fio_c.specs.Hearing.{Hears, flat_record_item}
 use Rattle.fio_c.specs.declared.module.Module.{Module}
@@ -20,7 +20,7 @@ use Rattle.fio_c.specs.declared.poller.RecordItem.{RecordItem}
 
 -- what a caller has: the module, the poller's number, the frames that each end has sent, oldest first, the
 -- number of the one delivered last in each direction, 0 for none, and the items that hearing has written
-pub record Held : Type 0 where
+pub record CallerState : Type 0 where
   pub device : Module
   pub number : ℕ
   pub to_module : List (List ℕ)
@@ -30,8 +30,8 @@ pub record Held : Type 0 where
   pub items : List RecordItem
 
 -- before the first call: a module, and a poller with its first number
-abbrev pub held_at_start : Module → ℕ → Held
-held_at_start device number = record {
+abbrev pub caller_at_start : Module → ℕ → CallerState
+caller_at_start device number = record {
   device = device;
   number = number;
   to_module = [];
@@ -53,13 +53,13 @@ events_of (For event ∷ calls) = event ∷ events_of calls
 events_of (SetErrors receive transmit ∷ calls) = events_of calls
 
 -- the module has had one event more, and nothing else has changed
-pub record HasHappened (event : module_events.Event) (old new : Held) : Type 0 where
+pub record HasHappened (event : module_events.Event) (old new : CallerState) : Type 0 where
   pub device : Module
-  pub had : HasHad event old.device device
+  pub had : AddsEvent event old.device device
   pub rest : new ≡ record old { device = device }
 
 -- `fio2070_poller_poll` wrote a poll, and the caller sends what it wrote
-pub record HasPolled (old new : Held) : Type 0 where
+pub record HasPolled (old new : CallerState) : Type 0 where
   pub before : List ℕ
   pub after : List ℕ
   pub count : ℕ
@@ -72,13 +72,13 @@ abbrev pub frames_written : ℕ → List ℕ → List (List ℕ)
 frames_written count buffer = if count == 0 then [] else take count buffer ∷ []
 
 -- `fio2070_module_receive` took this frame, and the caller sends the answer where there is one
-pub record HasReceived (index : ℕ) (octets : List ℕ) (old new : Held) : Type 0 where
+pub record HasReceived (index : ℕ) (octets : List ℕ) (old new : CallerState) : Type 0 where
   pub device : Module
   pub before : List ℕ
   pub after : List ℕ
   pub count : ℕ
   pub room : length before ≡ FRAME_OCTETS
-  pub had : HasHad (Reached (lives.Received octets)) old.device device
+  pub had : AddsEvent (Reached (lives.Received octets)) old.device device
   pub wrote : Replies octets old.device before after count
   pub rest :
       new ≡ record old {
@@ -88,7 +88,7 @@ pub record HasReceived (index : ℕ) (octets : List ℕ) (old new : Held) : Type
       }
 
 -- `fio2070_poller_hear` heard this frame with room for its items, and the caller keeps those
-pub record HasHeard (index : ℕ) (octets : List ℕ) (old new : Held) : Type 0 where
+pub record HasHeard (index : ℕ) (octets : List ℕ) (old new : CallerState) : Type 0 where
   pub before : List RecordItem
   pub after : List RecordItem
   pub number : ℕ
@@ -109,7 +109,7 @@ IsFoundAnd (Some octets) Happened = Happened octets
 
 -- The caller makes the call for an event: a frame goes to either end only where the link machine allows it,
 -- none after a later one of its direction.
-abbrev pub IsCalledFor : Event → Held → Held → Type 0
+abbrev pub IsCalledFor : Event → CallerState → CallerState → Type 0
 IsCalledFor (Scan raw) old new = HasHappened (Reached (lives.Scan raw)) old new
 IsCalledFor LineSync old new = HasHappened (Reached lives.LineSync) old new
 IsCalledFor (Raise mask) old new = HasHappened (Reached (lives.Raise mask)) old new
@@ -127,18 +127,18 @@ IsCalledFor (ToCpu index) old new =
     × IsFoundAnd (item_numbered old.to_cpu index) (λ octets. HasHeard index octets old new)
 
 -- the caller makes the call
-abbrev pub IsCalled : Call → Held → Held → Type 0
+abbrev pub IsCalled : Call → CallerState → CallerState → Type 0
 IsCalled (For event) old new = IsCalledFor event old new
 IsCalled (SetErrors receive transmit) old new = HasHappened (ErrorsSet receive transmit) old new
 
 -- these calls, one after the other
-abbrev pub AreCalled : List Call → Held → Held → Type 0
+abbrev pub AreCalled : List Call → CallerState → CallerState → Type 0
 AreCalled [] old last = last ≡ old
-AreCalled (call ∷ calls) old last = (new : Held) × IsCalled call old new × AreCalled calls new last
+AreCalled (call ∷ calls) old last = (new : CallerState) × IsCalled call old new × AreCalled calls new last
 
 -- Calls are a run of the link: what holds of each run holds of the machine to which their events lead, and
 -- its record is, item by item, what hearing has written.
-pub record AreRun (settings : Settings) (first : ℕ) (events : List Event) (last : Held) : Type 0 where
+pub record AreRun (settings : Settings) (first : ℕ) (events : List Event) (last : CallerState) : Type 0 where
   pub machine : Machine
   pub sound : IsSoundRun settings first events machine
   pub items : last.items ≡ map flat_record_item machine.items
@@ -146,8 +146,8 @@ pub record AreRun (settings : Settings) (first : ℕ) (events : List Event) (las
 -- any calls, from the start of a module and of a poller on, are a run
 abbrev pub CallsAreRuns : Type 0
 CallsAreRuns =
-    (id per_block first : ℕ) (device : Module) (calls : List Call) (last : Held)
+    (id per_block first : ℕ) (device : Module) (calls : List Call) (last : CallerState)
     → id < 256 → per_block ≢ 0 → per_block < 256 → first < 256
     → IsModuleAfter (settings_of id per_block) device []
-    → AreCalled calls (held_at_start device first) last
+    → AreCalled calls (caller_at_start device first) last
     → AreRun (settings_of id per_block) first (events_of calls) last

@@ -7,7 +7,7 @@ use Rattle.fio_cpu.specs.declared.poller.Heard.{Heard as HeardOf}
 use Rattle.fio_cpu.specs.declared.poller.Heard.TheVariants as outcomes
 use Rattle.fio_cpu.specs.declared.record.Item.{Item}
 use Rattle.fio_cpu.specs.declared.record.Item.TheVariants as items
-use Rattle.fio_cpu.specs.Hearing.{added, heard_as, next_number}
+use Rattle.fio_cpu.specs.Hearing.{new_items, heard_as, next_number}
 use Rattle.fio_c.specs.Faults.{no_fault, fault_of}
 use Rattle.fio_c.specs.declared.poller.Heard.{Heard}
 use Rattle.fio_c.specs.declared.poller.RecordItem.{RecordItem}
@@ -64,12 +64,12 @@ pub record Gain (before : MutBor (List RecordItem)) (items : List Item)
 pub record Hears (number : ℕ) (octets : List ℕ) (before after : List RecordItem)
     (next : ℕ) (heard : Heard) : Type 0 where
   pub room :
-      let items = added number (block_in octets) in
+      let items = new_items number (block_in octets) in
       length items ≤ length before →
       (heard ≡ flat_heard (length items) (heard_as number (decoded_answer octets)))
       × (next ≡ next_number number (block_in octets))
       × (after ≡ map flat_record_item items ++ drop (length items) before)
   pub no_room :
-      let count = length (added number (block_in octets)) in
+      let count = length (new_items number (block_in octets)) in
       length before < count →
       (heard ≡ heard_no_room count) × (next ≡ number) × (after ≡ before)

@@ -23,10 +23,10 @@ abbrev pub History : Type 0
 History = List Event
 
 -- what has reached it
-abbrev pub reached : History → lives.History
-reached [] = []
-reached (Reached event ∷ history) = event ∷ reached history
-reached (ErrorsSet receive transmit ∷ history) = reached history
+abbrev pub events_reached : History → lives.History
+events_reached [] = []
+events_reached (Reached event ∷ history) = event ∷ events_reached history
+events_reached (ErrorsSet receive transmit ∷ history) = events_reached history
 
 -- the error counts: those that the firmware set last, 0 before; a restart clears them
 abbrev pub errors_of : History → ErrorCounts
@@ -44,7 +44,7 @@ with_errors errors other = other
 -- the reply to octets after a history: that of the module, with the error counts
 abbrev pub reply_after : Settings → History → List ℕ → Option Answer
 reply_after settings history octets =
-    with_errors (errors_of history) (reply_to settings (reached history) octets)
+    with_errors (errors_of history) (reply_to settings (events_reached history) octets)
 
 -- what a module is made with: 1,024 entries may wait, as TEES 2009 has it
 abbrev pub settings_of : ℕ → ℕ → Settings
@@ -61,12 +61,12 @@ module_at_start id per_block = record {
 
 -- the module was started with these settings, and has been through this history since
 pub record IsModuleAfter (settings : Settings) (value : Module) (history : History) : Type 0 where
-  pub state : IsAfterHistory settings value.state (held_in value.waiting) (reached history)
+  pub state : IsAfterHistory settings value.state (held_in value.waiting) (events_reached history)
   pub errors : value.errors ≡ errors_of history
 
 -- after a call the module has had one event more, whatever it has been through
-abbrev pub HasHad : Event → Module → Module → Type 0
-HasHad event old new = (settings : Settings) (history : History)
+abbrev pub AddsEvent : Event → Module → Module → Type 0
+AddsEvent event old new = (settings : Settings) (history : History)
     → IsModuleAfter settings old history → IsModuleAfter settings new (event ∷ history)
 
 -- the reply to a frame is written, whatever the module has been through

@@ -12,8 +12,8 @@ pub record Writes {T : Type 0} (items before after : List T) (count : ℕ) : Typ
   pub no_room : length before < length items → (count ≡ 0) × (after ≡ before)
 
 -- the buffer with these octets in it from the place on
-abbrev pub overwritten : ℕ → List ℕ → List ℕ → List ℕ
-overwritten place octets before =
+abbrev pub buffer_with : ℕ → List ℕ → List ℕ → List ℕ
+buffer_with place octets before =
     take place before ++ (octets ++ drop (place + length octets) before)
 
 -- Octets are written from the place on where there is room for them, and end at the other place.
@@ -21,7 +21,7 @@ pub record Appends (octets before after : List ℕ) (place end : ℕ) : Type 0 w
   -- where they end, with room or without
   pub counted : end ≡ place + length octets
   -- where there is room the rest of the buffer is unchanged
-  pub written : end ≤ length before → after ≡ overwritten place octets before
+  pub written : end ≤ length before → after ≡ buffer_with place octets before
 
 -- nothing is written, and the count is 0
 abbrev pub WritesNothing : List ℕ → List ℕ → ℕ → Type 0

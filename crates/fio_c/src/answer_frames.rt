@@ -8,7 +8,7 @@ ghost use Rattle.fio_message.specs.Octets.{entry_octets};
 ghost use Rattle.fio_message.specs.declared.answers.Answer.TheVariants as answers;
 ghost use Rattle.fio_message.specs.declared.answers.OtherAnswer.{OtherAnswer as Kind};
 ghost use Rattle.fio_c.specs.Flat.{are_entries, can_be_named, read_entry, read_entries};
-ghost use Rattle.fio_c.specs.Written.{Writes, WritesNothing, overwritten};
+ghost use Rattle.fio_c.specs.Written.{Writes, WritesNothing, buffer_with};
 
 use crate::blocks::Entry;
 use crate::written::{length_with_body, write_at, write_front, write_with_body};
@@ -157,7 +157,7 @@ fn are_named(entries: &[Entry]) -> bool
 fn write_entries(entries: &[Entry], from: usize, out: &mut [u8])
     requires named { list_all (λ entry. can_be_named entry.input) entries.now ≡ true }
     requires room { from + 3 * length entries.now ≤ length out.old }
-    ensures { out.new ≡ overwritten from (flat_map entry_octets (read_entries entries.now)) out.old }
+    ensures { out.new ≡ buffer_with from (flat_map entry_octets (read_entries entries.now)) out.old }
 {
     let mut place = from;
     for entry in entries {

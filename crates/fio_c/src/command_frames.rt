@@ -8,7 +8,7 @@ ghost use Rattle.fio_message.specs.Octets.{item_octets};
 ghost use Rattle.fio_message.specs.declared.commands.OtherCommand.{OtherCommand as Kind};
 ghost use Rattle.fio_message.specs.declared.commands.Command.TheVariants as commands;
 ghost use Rattle.fio_c.specs.Flat.{are_items, can_be_named, read_item, read_items};
-ghost use Rattle.fio_c.specs.Written.{Writes, WritesNothing, overwritten};
+ghost use Rattle.fio_c.specs.Written.{Writes, WritesNothing, buffer_with};
 
 use crate::commands::ConfigurationItem;
 use crate::written::{length_with_body, write_at, write_front, write_with_body};
@@ -108,7 +108,7 @@ fn are_named(items: &[ConfigurationItem]) -> bool
 fn write_items(items: &[ConfigurationItem], from: usize, out: &mut [u8])
     requires named { list_all (λ item. can_be_named item.input) items.now ≡ true }
     requires room { from + 3 * length items.now ≤ length out.old }
-    ensures { out.new ≡ overwritten from (flat_map item_octets (read_items items.now)) out.old }
+    ensures { out.new ≡ buffer_with from (flat_map item_octets (read_items items.now)) out.old }
 {
     let mut place = from;
     for item in items {

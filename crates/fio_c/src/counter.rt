@@ -1,7 +1,7 @@
 //! The millisecond counter in memory of the caller, and times in 32 bits.
 ghost use Rattle.std.specs.Prelude.{◌≡◌, List, [], ◌∷◌};
 ghost use Rattle.fio_input.specs.Counter.{CounterEvent, Tick, AskLoad, LineSync, IsCounterAfter, counter as counter_after, counter_at_start};
-ghost use Rattle.fio_input.specs.Widening.{widened};
+ghost use Rattle.fio_input.specs.Widening.{wide_time_of};
 
 use fio_input::{Counter, widen};
 
@@ -55,7 +55,7 @@ pub extern "C" fn fio2070_counter_now(counter: &Counter) -> u32
 /// one number at or before the stamp, less than 65,536 steps back modulo 2^32, with these low bits.
 #[unsafe(no_mangle)]
 pub extern "C" fn fio2070_widen(answer_stamp: u32, low: u16) -> u32
-    ensures { result ≡ widened answer_stamp low }
+    ensures { result ≡ wide_time_of answer_stamp low }
 {
     widen(answer_stamp, low)
 }

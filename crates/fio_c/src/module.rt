@@ -9,7 +9,7 @@ ghost use Rattle.fio_module.specs.Life.{Scan, LineSync, Raise, Received, Restart
 ghost use Rattle.fio_module.specs.Log.{log_of};
 ghost use Rattle.fio_module.specs.Blocks.{newest_end};
 ghost use Rattle.fio_module.specs.Flags.{flags_of, watchdog_of, outputs_of};
-ghost use Rattle.fio_c.specs.Module.{Commands, ErrorsSet, HasHad, History, IsModuleAfter, Reached, Replies, errors_of, module_at_start, reached, settings_of};
+ghost use Rattle.fio_c.specs.Module.{Commands, ErrorsSet, AddsEvent, History, IsModuleAfter, Reached, Replies, errors_of, module_at_start, events_reached, settings_of};
 
 use crate::written::write_front;
 use fio_message::{CommandView, FRAME_OCTETS, Frame, read_command};
@@ -76,7 +76,7 @@ pub extern "C" fn fio2070_module_start(device: &mut Module, id: u8, per_block: u
 /// that was sent last are lost (own profile).
 #[unsafe(no_mangle)]
 pub extern "C" fn fio2070_module_restart(device: &mut Module)
-    ensures { HasHad (Reached Restart) device.old device.new }
+    ensures { AddsEvent (Reached Restart) device.old device.new }
 {
     device.state.restart(&mut device.waiting);
     device.errors = NO_ERRORS;
@@ -87,7 +87,7 @@ pub extern "C" fn fio2070_module_restart(device: &mut Module)
 /// waiting entries; where 1,024 wait it pushes out the oldest one.
 #[unsafe(no_mangle)]
 pub extern "C" fn fio2070_module_scan(device: &mut Module, raw: u64)
-    ensures { HasHad (Reached (Scan raw)) device.old device.new }
+    ensures { AddsEvent (Reached (Scan raw)) device.old device.new }
 {
     device.state.scan(&mut device.waiting, raw);
 }
@@ -95,7 +95,7 @@ pub extern "C" fn fio2070_module_scan(device: &mut Module, raw: u64)
 /// As `fio_module::Module::line_sync`.
 #[unsafe(no_mangle)]
 pub extern "C" fn fio2070_module_line_sync(device: &mut Module)
-    ensures { HasHad (Reached LineSync) device.old device.new }
+    ensures { AddsEvent (Reached LineSync) device.old device.new }
 {
     device.state.line_sync();
 }
@@ -103,7 +103,7 @@ pub extern "C" fn fio2070_module_line_sync(device: &mut Module)
 /// As `fio_module::Module::raise`.
 #[unsafe(no_mangle)]
 pub extern "C" fn fio2070_module_raise(device: &mut Module, mask: u8)
-    ensures { HasHad (Reached (Raise mask)) device.old device.new }
+    ensures { AddsEvent (Reached (Raise mask)) device.old device.new }
 {
     device.state.raise(mask);
 }
@@ -112,7 +112,7 @@ pub extern "C" fn fio2070_module_raise(device: &mut Module, mask: u8)
 /// (TEES 2009; who counts them is left out there).
 #[unsafe(no_mangle)]
 pub extern "C" fn fio2070_module_set_errors(device: &mut Module, receive: u8, transmit: u8)
-    ensures { HasHad (ErrorsSet receive transmit) device.old device.new }
+    ensures { AddsEvent (ErrorsSet receive transmit) device.old device.new }
 {
     device.errors = ErrorCounts { receive, transmit };
 }
@@ -126,7 +126,7 @@ pub extern "C" fn fio2070_module_receive(
     octets: &[u8],
     out: &mut [u8; FRAME_OCTETS],
 ) -> usize
-    ensures stands { HasHad (Reached (Received octets.now)) device.old device.new }
+    ensures stands { AddsEvent (Reached (Received octets.now)) device.old device.new }
     ensures reply { Replies octets.now device.old out.old out.new result }
 {
     match read_command(octets) {
@@ -169,7 +169,7 @@ fn obey(device: &mut Module, command: CommandView<'_>, out: &mut [u8; FRAME_OCTE
 pub extern "C" fn fio2070_module_flags(device: &Module) -> u8
     ensures { (settings : Settings) (history : History)
         → IsModuleAfter settings device.now history
-        → result ≡ flags_of (life_of (reached history)) }
+        → result ≡ flags_of (life_of (events_reached history)) }
 {
     device.state.flags()
 }
@@ -189,7 +189,7 @@ pub extern "C" fn fio2070_module_errors(device: &Module) -> ErrorCounts
 pub extern "C" fn fio2070_module_outputs(device: &Module) -> Outputs
     ensures { (settings : Settings) (history : History)
         → IsModuleAfter settings device.now history
-        → result ≡ outputs_of (life_of (reached history)) }
+        → result ≡ outputs_of (life_of (events_reached history)) }
 {
     device.state.outputs()
 }
@@ -200,7 +200,7 @@ pub extern "C" fn fio2070_module_outputs(device: &Module) -> Outputs
 pub extern "C" fn fio2070_module_watchdog_ms(device: &Module) -> u8
     ensures { (settings : Settings) (history : History)
         → IsModuleAfter settings device.now history
-        → result ≡ unwrap_or (watchdog_of (life_of (reached history))) 0 }
+        → result ≡ unwrap_or (watchdog_of (life_of (events_reached history))) 0 }
 {
     device.state.watchdog_ms().unwrap_or(0)
 }
@@ -210,7 +210,7 @@ pub extern "C" fn fio2070_module_watchdog_ms(device: &Module) -> u8
 pub extern "C" fn fio2070_module_counter(device: &Module) -> u32
     ensures { (settings : Settings) (history : History)
         → IsModuleAfter settings device.now history
-        → result ≡ counter_of (life_of (reached history)) }
+        → result ≡ counter_of (life_of (events_reached history)) }
 {
     device.state.counter()
 }
@@ -221,7 +221,7 @@ pub extern "C" fn fio2070_module_filtered(device: &Module) -> u64
     ensures { (settings : Settings) (history : History)
         → IsModuleAfter settings device.now history
         → (input : ℕ) → input < INPUTS
-        → is_set result input ≡ input_state input (filter_events (life_of (reached history))) }
+        → is_set result input ≡ input_state input (filter_events (life_of (events_reached history))) }
 {
     device.state.filtered()
 }
@@ -231,7 +231,7 @@ pub extern "C" fn fio2070_module_filtered(device: &Module) -> u64
 pub extern "C" fn fio2070_module_raw(device: &Module) -> u64
     ensures { (settings : Settings) (history : History)
         → IsModuleAfter settings device.now history
-        → result ≡ raw_levels (filter_events (life_of (reached history))) }
+        → result ≡ raw_levels (filter_events (life_of (events_reached history))) }
 {
     device.state.raw()
 }
@@ -242,7 +242,7 @@ pub extern "C" fn fio2070_module_waiting(device: &Module) -> usize
     ensures { (settings : Settings) (history : History)
         → IsModuleAfter settings device.now history
         → result ≡ min settings.waiting
-        (length (log_of (life_of (reached history))) - newest_end settings (life_of (reached history))) }
+        (length (log_of (life_of (events_reached history))) - newest_end settings (life_of (events_reached history))) }
 {
     device.waiting.len()
 }

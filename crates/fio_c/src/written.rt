@@ -1,7 +1,7 @@
 //! Octets in a buffer of the caller.
 ghost use Rattle.std.specs.Prelude.{◌≡◌, ◌<◌, ◌≤◌, ◌+◌, ◌∷◌, length};
 ghost use Rattle.fio_message.specs.declared.limits.TheConstants.{BODY_OCTETS};
-ghost use Rattle.fio_c.specs.Written.{Writes, WritesNothing, overwritten};
+ghost use Rattle.fio_c.specs.Written.{Writes, WritesNothing, buffer_with};
 
 use fio_message::BODY_OCTETS;
 
@@ -50,7 +50,7 @@ pub(crate) fn length_with_body(count: usize) -> usize
 #[inline(always)]
 pub(crate) fn write_at(place: usize, octets: &[u8], out: &mut [u8])
     requires { place + length octets.now ≤ length out.old }
-    ensures { out.new ≡ overwritten place octets.now out.old }
+    ensures { out.new ≡ buffer_with place octets.now out.old }
 {
     out[place..place + octets.len()].copy_from_slice(octets);
 }

@@ -8,8 +8,8 @@ use Rattle.std.proofs.lemmas.Option.{slice_get_within}
 use Rattle.fio_message.specs.declared.fields.Entry.{Entry as EntryOf}
 use Rattle.fio_message.specs.Blocks.{Block}
 use Rattle.fio_message.specs.Status.{says_lost, says_more}
-use Rattle.fio_input.specs.Widening.{widened}
-use Rattle.fio_cpu.specs.Record.{item_of, recorded}
+use Rattle.fio_input.specs.Widening.{wide_time_of}
+use Rattle.fio_cpu.specs.Record.{item_of, items_of_block}
 use Rattle.fio_cpu.specs.declared.record.Item.{Item}
 use Rattle.fio_cpu.specs.declared.record.Item.TheVariants.{Entry, Gap}
 use Rattle.fio_check.specs.ContentAbove.{ContentFacts, content_at, content_with}
@@ -138,7 +138,7 @@ entries_broken (entry ∷ entries) stamp line index above facts items whole is l
     let further = entries_broken entries stamp line (suc index) above (content_with facts (Recorded (item_of stamp entry))) (items ++ (item_of stamp entry ∷ [])) whole
     (ap (λ known. known ++ (item_of stamp entry ∷ [])) is ∙ sym cut.2 ∙ ap (λ n. take n whole) next)
     (ap (λ n. drop n whole) (sym next) ∙ cut.1) in
-    entry-broken (first_content_broken facts entry.input (record { level = entry.level; wide = widened stamp entry.stamp })) line entry.input index above items whole _ _ is further
+    entry-broken (first_content_broken facts entry.input (record { level = entry.level; wide = wide_time_of stamp entry.stamp })) line entry.input index above items whole _ _ is further
 
 broken_among-end : (facts : ContentFacts) (items : List Item) (line : ℕ) (events : List ContentEvent) (more : Bool)
     → broken_among facts items line (events ++ (Ended more ∷ [])) ≡ broken_among facts items line events
@@ -171,9 +171,9 @@ block-entries facts items whole line above stamp false entries is counts =
 
 -- the breach of a block, by the items above its entries and those below the block
 pub block_broken : (facts : ContentFacts) (items whole : List Item) (line above : ℕ) (block : Block)
-    → whole ≡ items ++ recorded block → above + length block.entries ≡ length whole
+    → whole ≡ items ++ items_of_block block → above + length block.entries ≡ length whole
     → broken_among facts items line (events_of_block block) ≡ option_map (broken_at line whole above) (breach_among facts 0 (events_of_block block))
 block_broken facts items whole line above block is counts =
-    broken_among-end facts items line (map Recorded (recorded block)) (says_more block.status)
+    broken_among-end facts items line (map Recorded (items_of_block block)) (says_more block.status)
     ∙ block-entries facts items whole line above block.stamp (says_lost block.status) block.entries is counts
-    ∙ ap (option_map (broken_at line whole above)) (sym (breach_among_end facts 0 (map Recorded (recorded block)) (says_more block.status)))
+    ∙ ap (option_map (broken_at line whole above)) (sym (breach_among_end facts 0 (map Recorded (items_of_block block)) (says_more block.status)))

@@ -10,7 +10,7 @@ use Rattle.fio_message.specs.declared.answers.Answer.TheVariants as answers
 use Rattle.fio_message.specs.declared.commands.Command.{Command}
 use Rattle.fio_message.specs.declared.commands.Command.TheVariants as commands
 use Rattle.fio_message.specs.declared.fields.InputItem.{InputItem}
-use Rattle.fio_cpu.specs.Record.{recorded}
+use Rattle.fio_cpu.specs.Record.{items_of_block}
 use Rattle.fio_cpu.specs.declared.record.Item.{Item}
 use Rattle.fio_check.specs.Lines.{TranscriptLine, command_from, answer_from}
 use Rattle.fio_check.specs.Places.{is_some_and}
@@ -57,7 +57,7 @@ events_of_command number command = []
 
 -- the events of a block that is taken: its items are recorded, and then it has ended
 abbrev pub events_of_block : Block → List ContentEvent
-events_of_block block = map Recorded (recorded block) ++ (Ended (says_more block.status) ∷ [])
+events_of_block block = map Recorded (items_of_block block) ++ (Ended (says_more block.status) ∷ [])
 
 -- the events of an answer
 abbrev pub events_of_answer : Option ℕ → Answer → List ContentEvent

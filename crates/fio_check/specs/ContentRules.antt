@@ -3,7 +3,7 @@
 -- Each rule is stated once, by what stands above an entry and what the entry says.
 use Rattle.std.specs.Prelude.{ℕ, ◌+◌, ◌-◌, ◌%◌, ◌^◌, Bool, true, false, ◌&&◌, List, [], ◌∷◌, Option, Some, None, codes, find, length, nat_le, nat_lt, not, option_map, option_and_then, slice_get, take, if◌then◌else◌}
 use Rattle.std.specs.Bool.{beq}
-use Rattle.fio_input.specs.FilterRule.{in_force}
+use Rattle.fio_input.specs.FilterRule.{filter_in_force}
 use Rattle.fio_cpu.specs.declared.record.Item.{Item}
 use Rattle.fio_cpu.specs.declared.record.Item.TheVariants.{Entry}
 use Rattle.fio_check.specs.ContentAbove.{ContentFacts, FilterPair, LatestEntry, TimedState, content_at}
@@ -23,7 +23,7 @@ is_before time other = nat_le (2 ^ 31) (milliseconds_between other time)
 
 -- the filter that is in force for a change to this state
 abbrev pub filter_towards : Bool → FilterPair → ℕ
-filter_towards level filters = in_force (if level then filters.trailing else filters.leading)
+filter_towards level filters = filter_in_force (if level then filters.trailing else filters.leading)
 
 -- an entry is nearer to an earlier one of its input than the filter for the change
 abbrev pub is_too_near : TimedState → ℕ → FilterPair → Bool

@@ -9,8 +9,8 @@ use Rattle.fio_message.specs.Blocks.{Block, block_answer}
 use Rattle.fio_message.specs.Decoding.{answer_in, answered_block, decoded_answer, block_in, fault_in}
 use Rattle.fio_cpu.specs.declared.record.Item.{Item}
 use Rattle.fio_cpu.specs.declared.poller.Heard.TheVariants as heards
-use Rattle.fio_cpu.specs.Record.{recorded}
-use Rattle.fio_cpu.specs.Hearing.{added, heard_as}
+use Rattle.fio_cpu.specs.Record.{items_of_block}
+use Rattle.fio_cpu.specs.Hearing.{new_items, heard_as}
 use Rattle.fio_message.proofs.Decoded.{message_read}
 
 -- the block that octets spell is the one that their answer is
@@ -20,10 +20,10 @@ block_in-decoded octets answer is =
     ap answered_block (message_read (answer_in octets) (fault_in (answer_length octets) octets) answer is)
 
 -- the block that octets spell adds what is recorded of it, where it has the number
-pub added-taken : (octets : List ℕ) (number : ℕ) (block : Block) (items : List Item)
-    → decoded_answer octets ≡ Ok (block_answer block) → block.number ≡ number → items ≡ recorded block
-    → added number (block_in octets) ≡ items
-added-taken octets number block items is same all =
+pub new_items-taken : (octets : List ℕ) (number : ℕ) (block : Block) (items : List Item)
+    → decoded_answer octets ≡ Ok (block_answer block) → block.number ≡ number → items ≡ items_of_block block
+    → new_items number (block_in octets) ≡ items
+new_items-taken octets number block items is same all =
     rw (block_in-decoded octets (block_answer block) is, same) (search (rules, all))
 
 -- octets that are heard as unreadable are refused for that reason

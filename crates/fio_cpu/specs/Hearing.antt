@@ -12,7 +12,7 @@ use Rattle.fio_cpu.specs.declared.poller.Heard.{Heard}
 use Rattle.fio_cpu.specs.declared.poller.Heard.TheVariants.{Unreadable, Other, Stale, Block}
 use Rattle.fio_cpu.specs.Poller.{Polling}
 use Rattle.fio_cpu.specs.declared.record.Item.{Item}
-use Rattle.fio_cpu.specs.Record.{recorded}
+use Rattle.fio_cpu.specs.Record.{items_of_block}
 
 -- a block answer is taken if it has the CPU's number, and is stale otherwise; any other answer is
 -- only named
@@ -31,7 +31,7 @@ heard_as number (Ok answer) = heard_answer number answer
 abbrev pub after_block : Polling → BlockOf → Polling
 after_block cpu block =
     if block.number == cpu.number
-    then record { number = (cpu.number + 1) % 256; items = cpu.items ++ recorded block }
+    then record { number = (cpu.number + 1) % 256; items = cpu.items ++ items_of_block block }
     else cpu
 
 -- the CPU after octets that spell this block, or none: whatever is no block answer changes nothing
@@ -50,9 +50,9 @@ HasFewEntries (Block entries status) = entries ≤ BLOCK_ENTRIES
 HasFewEntries other = ⊤
 
 -- what hearing octets that spell this block, or none, adds to the record of a CPU with this number
-abbrev pub added : ℕ → Option BlockOf → List Item
-added number None = []
-added number (Some block) = if block.number == number then recorded block else []
+abbrev pub new_items : ℕ → Option BlockOf → List Item
+new_items number None = []
+new_items number (Some block) = if block.number == number then items_of_block block else []
 
 -- the number of that CPU afterwards
 abbrev pub next_number : ℕ → Option BlockOf → ℕ
@@ -62,4 +62,4 @@ next_number number (Some block) = if block.number == number then (number + 1) % 
 -- hearing octets that spell this block, or none, adds to the record
 abbrev pub AddsItems : Polling → Option BlockOf → Type 0
 AddsItems cpu None = ⊥
-AddsItems cpu (Some block) = (block.number ≡ cpu.number) × (recorded block ≢ [])
+AddsItems cpu (Some block) = (block.number ≡ cpu.number) × (items_of_block block ≢ [])

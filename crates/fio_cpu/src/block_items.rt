@@ -1,7 +1,7 @@
 //! What a block adds to the record: a view of these items, and an iterator over them.
 ghost use Rattle.std.specs.Prelude.{◌≡◌, ◌≤◌, ◌==◌, ℕ, length};
 ghost use Rattle.fio_message.specs.Views.{entries_of};
-ghost use Rattle.fio_cpu.specs.Record.{item_of, recorded};
+ghost use Rattle.fio_cpu.specs.Record.{item_of, items_of_block};
 
 use crate::record::Item;
 use fio_input::widen;
@@ -31,7 +31,7 @@ impl<'a> Model for BlockItems<'a> {
 impl<'a> BlockItems<'a> {
     /// What a block with these entries, this status and this stamp adds.
     pub(crate) fn new(entries: EntriesView<'a>, status: u8, stamp: u32) -> BlockItems<'a>
-        ensures { (number : ℕ) → result ≡ recorded (record {
+        ensures { (number : ℕ) → result ≡ items_of_block (record {
           number = number;
           entries = entries_of entries.entry;
           status = status;

@@ -1,7 +1,7 @@
 //! Hearing: what a CPU makes of octets, wherever its record is kept.
 ghost use Rattle.std.specs.Prelude.{◌≡◌, [], OnOk, OnErr, IfOk, IfErr};
 ghost use Rattle.fio_message.specs.Decoding.{decoded_answer, block_in};
-ghost use Rattle.fio_cpu.specs.Hearing.{added, heard_as, next_number, HasFewEntries};
+ghost use Rattle.fio_cpu.specs.Hearing.{new_items, heard_as, next_number, HasFewEntries};
 
 use crate::block_items::BlockItems;
 use crate::poller::Heard;
@@ -26,11 +26,11 @@ pub fn hear_frame<R: Record>(
     ensures few { IfOk result HasFewEntries }
     ensures next { OnOk result (number.new ≡ next_number number.old (block_in octets.now)) }
     ensures gained { OnOk result
-        (R.Gains items.old (added number.old (block_in octets.now)) items.new) }
+        (R.Gains items.old (new_items number.old (block_in octets.now)) items.new) }
     ensures kept { OnErr result (number.new ≡ number.old) }
     ensures unchanged { OnErr result (R.Gains items.old [] items.new) }
     ensures room { IfErr result (λ reason.
-        R.LacksRoom items.old (added number.old (block_in octets.now)) reason) }
+        R.LacksRoom items.old (new_items number.old (block_in octets.now)) reason) }
 {
     match read_answer(octets) {
         Ok(

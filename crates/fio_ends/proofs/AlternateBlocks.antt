@@ -16,13 +16,13 @@ use Rattle.fio_check.specs.ContentEvents.{ContentEvent, Recorded}
 use Rattle.fio_check.specs.ContentRules.{breaks_content}
 use Rattle.fio_check.specs.Places.{is_some_and}
 use Rattle.fio_check.specs.declared.content_rules.ContentRule.TheVariants.{Alternate}
-use Rattle.fio_world.specs.Link.{Sent}
+use Rattle.fio_world.specs.Link.{SentFrame}
 use Rattle.fio_ends.proofs.ContentLines.{EntriesKeep}
 use Rattle.fio_ends.proofs.QuietSince.{IsQuietSince, quiet-further}
 
 -- The latest entry of an input, of a record that has come to a place of the log, is the input's latest transition
 -- before the place. Where it says so, no configuration was applied since it.
-pub record HasLatest (life : Life) (frames : List Sent) (last upto input : ℕ) (entry : LatestEntry) : Type 0 where
+pub record HasLatest (life : Life) (frames : List SentFrame) (last upto input : ℕ) (entry : LatestEntry) : Type 0 where
   pub place : ℕ
   pub transition : Transition
   pub at : slice_get (log_of life) place ≡ Some transition
@@ -33,7 +33,7 @@ pub record HasLatest (life : Life) (frames : List Sent) (last upto input : ℕ) 
   pub quiet : entry.quiet ≡ true → IsQuietSince life frames last place
 
 -- what is known of content, of such a record
-pub record HasContent (life : Life) (frames : List Sent) (last upto : ℕ) (facts : ContentFacts) : Type 0 where
+pub record HasContent (life : Life) (frames : List SentFrame) (last upto : ℕ) (facts : ContentFacts) : Type 0 where
   pub clear : facts.clear_quiet ≡ true → IsQuietSince life frames last upto
   pub latest : (input : ℕ) (entry : LatestEntry) → facts.latest input ≡ Some entry → HasLatest life frames last upto input entry
 
@@ -47,7 +47,7 @@ not_same true false is = refl
 not_same false true is = refl
 not_same false false is = absurd (cc is)
 
-module _ (life : Life) (frames : List Sent) (last : ℕ) where
+module _ (life : Life) (frames : List SentFrame) (last : ℕ) where
   -- the next transition alternates with the latest of its input
   alternates : (upto : ℕ) (t : Transition) (older : LatestEntry) → slice_get (log_of life) upto ≡ Some t
       → HasLatest life frames last upto t.input older → older.quiet ≡ true → beq t.level older.level ≡ false

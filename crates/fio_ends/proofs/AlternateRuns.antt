@@ -27,7 +27,7 @@ use Rattle.fio_cpu.specs.Record.{gap_if, item_of}
 use Rattle.fio_check.specs.ContentAbove.{ContentFacts, LatestEntry, content_with, no_content, unquiet}
 use Rattle.fio_check.specs.ContentEvents.{Configured, ContentEvent, Ended, Polled, Recorded, events_of_block, events_of_command}
 use Rattle.fio_check.specs.declared.content_rules.ContentRule.TheVariants.{Alternate}
-use Rattle.fio_world.specs.Link.{Sent, Machine, start, number_of, sending_refusal, sent, happened, received}
+use Rattle.fio_world.specs.Link.{SentFrame, Machine, start, number_of, sending_refusal, after_sending, after_module_event, after_delivery_to_module}
 use Rattle.fio_world.specs.Frames.{HasPoll}
 use Rattle.fio_world.specs.Rounds.{next_round}
 use Rattle.fio_world.proofs.HeardRows.{after_taken}
@@ -49,7 +49,7 @@ abbrev pub end_at : Settings → Life → ℕ → ℕ
 end_at settings life round = end_of_blocks (take round (blocks_of settings life))
 
 -- what a prompt run keeps of its machine and of what is known of content
-pub record KeepsAlternate (settings : Settings) (life : Life) (frames : List Sent) (last round : ℕ) (facts : ContentFacts) : Type 0 where
+pub record KeepsAlternate (settings : Settings) (life : Life) (frames : List SentFrame) (last round : ℕ) (facts : ContentFacts) : Type 0 where
   pub unasked : facts.asking ≡ false → IsUnasked settings life frames round
   pub asked : facts.asking ≡ true → facts.asked_quiet ≡ true → IsAskedQuietly settings life frames last round
   pub content : HasContent life frames last (end_at settings life round) facts
@@ -86,7 +86,7 @@ part_at log per_block before (suc k) (first ∷ blocks) block follow at =
 
 -- ---- the log grows, and what is quiet stays so
 
-content-later : (life later : Life) (frames more_frames : List Sent) (last last_then upto : ℕ) (facts : ContentFacts)
+content-later : (life later : Life) (frames more_frames : List SentFrame) (last last_then upto : ℕ) (facts : ContentFacts)
     → upto ≤ length (log_of life) → (more : List Transition) → log_of later ≡ log_of life ++ more
     → ((place : ℕ) → IsQuietSince life frames last place → IsQuietSince later more_frames last_then place)
     → HasContent life frames last upto facts → HasContent later more_frames last_then upto facts
@@ -108,7 +108,7 @@ content-later life later frames more_frames last last_then upto facts within mor
           });
     }
 
-module _ (settings : Settings) (life : Life) (frames : List Sent) (last round : ℕ) (facts : ContentFacts)
+module _ (settings : Settings) (life : Life) (frames : List SentFrame) (last round : ℕ) (facts : ContentFacts)
     (h : KeepsAlternate settings life frames last round facts) where
   -- something happens past the bus
   holds-happens : (occurrence : Occurrence) → NoneIsApplied (filter_events (occurrence ∷ []))
@@ -131,7 +131,7 @@ module _ (settings : Settings) (life : Life) (frames : List Sent) (last round : 
       }
 
   -- the content below a frame that is sent, and is no configuration
-  content-sent : (f : Sent) → IsNoConfiguration f
+  content-sent : (f : SentFrame) → IsNoConfiguration f
       → HasContent life (frames ++ f ∷ []) last (end_at settings life round) facts
   content-sent f none =
       content-later life life frames (frames ++ f ∷ []) last last (end_at settings life round) facts
@@ -139,7 +139,7 @@ module _ (settings : Settings) (life : Life) (frames : List Sent) (last round : 
       (λ place q. quiet-sent life frames last place f none q) h.content
 
   -- no poll is sent
-  unasked-sent : (f : Sent) → poll_in f.octets ≡ None → IsUnasked settings life frames round
+  unasked-sent : (f : SentFrame) → poll_in f.octets ≡ None → IsUnasked settings life frames round
       → IsUnasked settings life (frames ++ f ∷ []) round
   unasked-sent f none u =
       record {
@@ -148,7 +148,7 @@ module _ (settings : Settings) (life : Life) (frames : List Sent) (last round : 
       }
 
   -- a command is sent that is neither
-  holds-sent : (f : Sent) → IsNoConfiguration f → poll_in f.octets ≡ None
+  holds-sent : (f : SentFrame) → IsNoConfiguration f → poll_in f.octets ≡ None
       → KeepsAlternate settings life (frames ++ f ∷ []) last round facts
   holds-sent f none no_number =
       record {
@@ -158,7 +158,7 @@ module _ (settings : Settings) (life : Life) (frames : List Sent) (last round : 
       }
 
   -- a configuration is sent
-  holds-configured : (f : Sent) (items : List InputItem) → poll_in f.octets ≡ None
+  holds-configured : (f : SentFrame) (items : List InputItem) → poll_in f.octets ≡ None
       → KeepsAlternate settings life (frames ++ f ∷ []) last round (content_with facts (Configured items))
   holds-configured f items no_number =
       record {
@@ -187,7 +187,7 @@ module _ (settings : Settings) (life : Life) (frames : List Sent) (last round : 
           })
 
   -- a poll is sent
-  holds-polled : (f : Sent) → IsNoConfiguration f
+  holds-polled : (f : SentFrame) → IsNoConfiguration f
       → KeepsAlternate settings life (frames ++ f ∷ []) last round (content_with facts Polled)
   holds-polled f none =
       let c = content-sent f none in
@@ -205,7 +205,7 @@ module _ (settings : Settings) (life : Life) (frames : List Sent) (last round : 
       by_asking false is quiet = asked-first settings life frames last round f none (h.unasked is)
 
   -- the module receives a frame
-  holds-received : (place : ℕ) (frame : Sent) → last ≤ place → slice_get frames place ≡ Some frame
+  holds-received : (place : ℕ) (frame : SentFrame) → last ≤ place → slice_get frames place ≡ Some frame
       → IsOfNext settings life frame → round ≤ length (blocks_of settings life)
       → KeepsAlternate settings (life_after_command (command_in frame.octets) life) frames (place + 1) round facts
   holds-received place frame new at next few =
@@ -317,10 +317,10 @@ module _ (settings : Settings) (first : ℕ) where
     abbrev life_now : Life
     life_now = life_of machine.history
 
-    abbrev frame_of : Command → Sent
+    abbrev frame_of : Command → SentFrame
     frame_of command = record { octets = command_octets command; round = machine.round }
 
-    happens-past : (event : module_events.Event) → IsPastBus event → AlternateHolds settings first (happened machine event) facts
+    happens-past : (event : module_events.Event) → IsPastBus event → AlternateHolds settings first (after_module_event machine event) facts
     happens-past (module_events.Scan raw) past =
         holds-happens settings life_now machine.to_module machine.last_to_module machine.round facts p (Scanned raw) (tt, tt) refl
     happens-past module_events.LineSync past =
@@ -330,7 +330,7 @@ module _ (settings : Settings) (first : ℕ) where
     happens-past (module_events.Received octets) past = absurd past
     happens-past module_events.Restart past = absurd past
 
-    polls-next : AlternateHolds settings first (sent machine (commands.Poll (number_of first machine.round))) (content_with facts Polled)
+    polls-next : AlternateHolds settings first (after_sending machine (commands.Poll (number_of first machine.round))) (content_with facts Polled)
     polls-next =
         let number = number_of first machine.round in
         let fits : number < 256 = omega (arith, number_of-fits first machine.round) in
@@ -339,7 +339,7 @@ module _ (settings : Settings) (first : ℕ) where
         (λ items is. absurd (cc (reads, is)))
 
     sends-command : (command : Command) → sending_refusal command ≡ None → IsCommand command
-        → AlternateHolds settings first (sent machine command) (fold content_with facts (events_of_command None command))
+        → AlternateHolds settings first (after_sending machine command) (fold content_with facts (events_of_command None command))
     sends-command (commands.Poll number) fine within = absurd (cc fine)
     sends-command (commands.LoadCounter load) fine within =
         let reads = read_back (commands.LoadCounter load) within in
@@ -354,7 +354,7 @@ module _ (settings : Settings) (first : ℕ) where
         (λ items is. absurd (cc (read_back other within, is))) (ap polled_number (read_back other within))
 
     -- a new poll is of the round of the next block
-    of_next : IsKept settings first machine → (place : ℕ) (frame : Sent) → machine.last_to_module ≤ place + 1
+    of_next : IsKept settings first machine → (place : ℕ) (frame : SentFrame) → machine.last_to_module ≤ place + 1
         → slice_get machine.to_module place ≡ Some frame → IsOfNext settings life_now frame
     of_next k place frame le at number is new =
         let poll : HasPoll machine.to_module place number frame.round =
@@ -367,9 +367,9 @@ module _ (settings : Settings) (first : ℕ) where
         (ap (λ latest. is_new latest number) (sym k.one_life.in_life.polled) ∙ new) in
         next.0 ∙ k.one_life.in_life.made
 
-    receives-frame : IsKept settings first machine → (place : ℕ) (frame : Sent) → machine.last_to_module < place + 1
+    receives-frame : IsKept settings first machine → (place : ℕ) (frame : SentFrame) → machine.last_to_module < place + 1
         → slice_get machine.to_module place ≡ Some frame
-        → AlternateHolds settings first (received settings machine (place + 1) (Some frame)) facts
+        → AlternateHolds settings first (after_delivery_to_module settings machine (place + 1) (Some frame)) facts
     receives-frame k place frame new at =
         let upto : machine.round ≤ next_round machine.polls = k.always.answers.behind in
         let made : next_round machine.polls ≡ length (blocks_of settings life_now) = k.one_life.in_life.made in

@@ -8,8 +8,8 @@ use Rattle.std.proofs.lemmas.Bool.Decides.{nat_tests}
 use Rattle.std.proofs.lemmas.Option.{slice_get_within}
 use Rattle.fio_input.specs.Delivery.{filter_to}
 use Rattle.fio_input.specs.FilterHistory.{input_setting}
-use Rattle.fio_input.specs.FilterRule.{Setting, in_force}
-use Rattle.fio_input.specs.Widening.{widened}
+use Rattle.fio_input.specs.FilterRule.{Setting, filter_in_force}
+use Rattle.fio_input.specs.Widening.{wide_time_of}
 use Rattle.fio_input.proofs.Apart.{carried}
 use Rattle.fio_input.proofs.FewReports.{leaves_each}
 use Rattle.fio_module.specs.Alternation.{AreSuccessive}
@@ -28,7 +28,7 @@ use Rattle.fio_check.specs.ContentRules.{breaks_content, filter_towards, is_near
 use Rattle.fio_check.specs.Places.{is_some_and}
 use Rattle.fio_check.specs.declared.content_rules.ContentRule.TheVariants.{Apart}
 use Rattle.fio_world.specs.Claims.{Source, From}
-use Rattle.fio_world.specs.Link.{Sent}
+use Rattle.fio_world.specs.Link.{SentFrame}
 use Rattle.fio_ends.specs.ContentRuns.{IsOfAnother, NextOfInputIsNear}
 use Rattle.fio_ends.proofs.AlternateBlocks.{HasContent, HasLatest, content_entry}
 use Rattle.fio_ends.proofs.Clocks.{IsClocked}
@@ -54,10 +54,10 @@ not_nearer older newer filter apart near =
 -- the filter of a pair is that of the setting
 same_filter : (setting : Setting) (pair : FilterPair) (level : Bool) → setting.leading ≡ pair.leading → setting.trailing ≡ pair.trailing
     → filter_to setting level ≡ filter_towards level pair
-same_filter setting pair true leading trailing = ap in_force trailing
-same_filter setting pair false leading trailing = ap in_force leading
+same_filter setting pair true leading trailing = ap filter_in_force trailing
+same_filter setting pair false leading trailing = ap filter_in_force leading
 
-module _ (life : Life) (frames : List Sent) (last : ℕ) where
+module _ (life : Life) (frames : List SentFrame) (last : ℕ) where
   abbrev log : List Transition
   log = log_of life
 
@@ -200,7 +200,7 @@ module _ (life : Life) (frames : List Sent) (last : ℕ) where
   apart_entries block stamp (t ∷ ts) upto sources facts there c knows known clocked near =
       let first : upto + 0 ≡ upto = omega arith in
       let at : slice_get log upto ≡ Some t = ap (slice_get log) (sym first) ∙ there 0 t refl in
-      let wide = widened stamp (t.counter % 2 ^ 16) in
+      let wide = wide_time_of stamp (t.counter % 2 ^ 16) in
       let entry : Item = Entry t.input t.level (t.counter % 2 ^ 16) wide in
       let below = content_with facts (Recorded entry) in
       let more = map (λ u. From u block) ts in

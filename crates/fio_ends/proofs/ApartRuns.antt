@@ -23,17 +23,17 @@ use Rattle.fio_module.proofs.LifeLaws.{log_of-with_command}
 use Rattle.fio_module.proofs.ListParts.{each-back}
 use Rattle.fio_cpu.specs.declared.record.Item.{Item}
 use Rattle.fio_cpu.specs.declared.record.Item.TheVariants.{Entry, Gap}
-use Rattle.fio_cpu.specs.Record.{item_of, recorded}
+use Rattle.fio_cpu.specs.Record.{item_of, items_of_block}
 use Rattle.fio_check.specs.ContentAbove.{ContentFacts, content_with, no_content}
 use Rattle.fio_check.specs.ContentEvents.{Ended, Polled, Recorded, events_of_block, events_of_command}
 use Rattle.fio_check.specs.ContentRules.{is_nearer}
 use Rattle.fio_check.specs.Places.{is_some_and}
 use Rattle.fio_check.specs.declared.content_rules.ContentRule.TheVariants.{Apart}
-use Rattle.fio_world.specs.Link.{Sent, Machine, happened, number_of, received, sent}
+use Rattle.fio_world.specs.Link.{SentFrame, Machine, after_module_event, number_of, after_delivery_to_module, after_sending}
 use Rattle.fio_world.specs.Claims.{Source, Loss, From, blocks_in, sources_of}
 use Rattle.fio_world.proofs.HeardRows.{after_taken}
 use Rattle.fio_world.proofs.MadeBlocks.{each-at}
-use Rattle.fio_world.proofs.OneLife.{recorded-carried, recorded_of}
+use Rattle.fio_world.proofs.OneLife.{items_of_block-carried, recorded_of}
 use Rattle.fio_world.proofs.OneLifeRows.{IsKept}
 use Rattle.fio_world.proofs.Places.{get_part, take_one_more}
 use Rattle.fio_world.proofs.RoundNumbers.{number_of-fits}
@@ -90,7 +90,7 @@ unmarked false items sources zip = zip
 
 module _ (settings : Settings) (range : AreInRange settings) (first : ℕ) where
   latest-past : (machine : Machine) (facts : ContentFacts) (event : module_events.Event) → IsPastBus event
-      → LatestHold settings machine facts → LatestHold settings (happened machine event) facts
+      → LatestHold settings machine facts → LatestHold settings (after_module_event machine event) facts
   latest-past machine facts (module_events.Scan raw) past l is =
       let life = life_of machine.history in
       latest-later (log_of life) (transitions_below 64 raw life) (end_at settings life machine.round) (sources_taken settings machine) facts
@@ -100,8 +100,8 @@ module _ (settings : Settings) (range : AreInRange settings) (first : ℕ) where
   latest-past machine facts (module_events.Received octets) past l is = absurd past
   latest-past machine facts module_events.Restart past l is = absurd past
 
-  latest-received : (machine : Machine) (facts : ContentFacts) (place : ℕ) (frame : Sent) → IsKept settings first machine
-      → LatestHold settings machine facts → LatestHold settings (received settings machine (place + 1) (Some frame)) facts
+  latest-received : (machine : Machine) (facts : ContentFacts) (place : ℕ) (frame : SentFrame) → IsKept settings first machine
+      → LatestHold settings machine facts → LatestHold settings (after_delivery_to_module settings machine (place + 1) (Some frame)) facts
   latest-received machine facts place frame k l is =
       let life = life_of machine.history in
       let command = command_in frame.octets in
@@ -185,10 +185,10 @@ module _ (settings : Settings) (range : AreInRange settings) (first : ℕ) where
           knows = subst (λ n. KnowsLatest (log_of life) n (taken ++ own) (fold content_with facts (map Recorded entries))) count left.knows;
         }
 
-    block_leaves : LeavesTimes life machine.to_module machine.last_to_module facts (recorded answer) block.end (taken ++ sources_of block)
+    block_leaves : LeavesTimes life machine.to_module machine.last_to_module facts (items_of_block answer) block.end (taken ++ sources_of block)
     block_leaves =
         subst (λ items. LeavesTimes life machine.to_module machine.last_to_module facts items block.end (taken ++ sources_of block))
-        (sym (recorded-carried answer block t.carried)) (by_loss block.lost refl times.1)
+        (sym (items_of_block-carried answer block t.carried)) (by_loss block.lost refl times.1)
 
     -- below its end
     latest-taken : KnowsLatest (log_of life) (end_at settings life (machine.round + 1)) (sources_taken settings (after_taken machine place answer))
@@ -197,7 +197,7 @@ module _ (settings : Settings) (range : AreInRange settings) (first : ℕ) where
         let end : block.end ≡ end_at settings life (machine.round + 1) =
         sym (ap end_of_blocks (take_one_more (blocks_of settings life) machine.round block t.made)
         ∙ last_end-append 0 (take machine.round (blocks_of settings life)) block) in
-        let events = map Recorded (recorded answer) in
+        let events = map Recorded (items_of_block answer) in
         let below = fold content_with facts events in
         let last = fold-append content_with facts events (Ended (says_more answer.status) ∷ []) in
         let ended : KnowsLatest (log_of life) block.end (taken ++ sources_of block) (content_with below (Ended (says_more answer.status))) =
@@ -209,12 +209,12 @@ module _ (settings : Settings) (range : AreInRange settings) (first : ℕ) where
 
   apart-keeps : (machine : Machine) (facts : ContentFacts) (place : ℕ) (answer : Block) (block : MadeBlock)
       → Takes settings machine place answer block → HaveTimesFor Apart (sources_taken settings machine ++ sources_of block)
-      → ApartHolds settings first machine facts → (loaded : Bool) → facts.loaded ≡ loaded → EntriesKeep Apart facts (map Recorded (recorded answer))
-  apart-keeps machine facts place answer block t times h true loaded = loaded_keep facts (recorded answer) loaded
+      → ApartHolds settings first machine facts → (loaded : Bool) → facts.loaded ≡ loaded → EntriesKeep Apart facts (map Recorded (items_of_block answer))
+  apart-keeps machine facts place answer block t times h true loaded = loaded_keep facts (items_of_block answer) loaded
   apart-keeps machine facts place answer block t times h false loaded = (block_leaves machine facts place answer block t times h loaded).keep
 
   polls_filters : (machine : Machine) (facts : ContentFacts) → FiltersHold machine facts
-      → FiltersHold (sent machine (commands.Poll (number_of first machine.round))) (content_with facts Polled)
+      → FiltersHold (after_sending machine (commands.Poll (number_of first machine.round))) (content_with facts Polled)
   polls_filters machine facts h =
       let number = number_of first machine.round in
       let fits : number < 256 = omega (arith, number_of-fits first machine.round) in
@@ -277,7 +277,7 @@ module _ (settings : Settings) (range : AreInRange settings) (first : ℕ) where
         };
         takes = λ machine facts place answer block k t asking times h.
             (let s = filters-block facts answer in (
-              entries_keep Apart facts (map Recorded (recorded answer)) (Ended (says_more answer.status) ∷ [])
+              entries_keep Apart facts (map Recorded (items_of_block answer)) (Ended (says_more answer.status) ∷ [])
                   (apart-keeps machine facts place answer block t times h facts.loaded refl) (tt, tt),
               record {
                 alternate = (i.takes machine facts place answer block k t asking tt h.alternate).1;

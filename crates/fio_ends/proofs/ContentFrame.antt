@@ -19,7 +19,7 @@ use Rattle.fio_check.specs.Observations.{answer_type_to, names_absent}
 use Rattle.fio_check.specs.declared.content_rules.ContentRule.{ContentRule}
 use Rattle.fio_check.specs.declared.facts.Facts.{Facts}
 use Rattle.fio_check.specs.declared.observation.Observation.{Observation}
-use Rattle.fio_world.specs.Link.{Sent, Machine, start, number_of, sending_refusal, sent}
+use Rattle.fio_world.specs.Link.{SentFrame, Machine, start, number_of, sending_refusal, after_sending}
 use Rattle.fio_world.proofs.Places.{get_push}
 use Rattle.fio_ends.specs.Transcripts.{CpuFrame}
 use Rattle.fio_ends.proofs.GoodLines.{said_by}
@@ -30,7 +30,7 @@ use Rattle.fio_ends.proofs.ContentSteps.{IsSentLast}
 -- ---- what else is kept
 
 -- the latest line is the command sent last
-pub record IsAwaited (frames : List Sent) (facts : Facts) (type : ℕ) : Type 0 where
+pub record IsAwaited (frames : List SentFrame) (facts : Facts) (type : ℕ) : Type 0 where
   pub command : Command
   pub sent_last : IsSentLast frames command
   pub of_type : answer_type_to command ≡ type
@@ -141,9 +141,9 @@ is_other rule kept (commands.Other other_commands.ControllerId body) fine =
 
 -- the frame of a command is the one sent last
 pub now_sent : (machine : Machine) (command : Command) → command_in (command_octets command) ≡ Some command
-    → IsSentLast (sent machine command).to_module command
+    → IsSentLast (after_sending machine command).to_module command
 now_sent machine command reads =
-    let f : Sent = record { octets = command_octets command; round = machine.round } in
+    let f : SentFrame = record { octets = command_octets command; round = machine.round } in
     record {
       place = length machine.to_module;
       frame = f;

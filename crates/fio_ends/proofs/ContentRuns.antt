@@ -27,7 +27,7 @@ use Rattle.fio_check.specs.declared.facts.Facts.{Facts}
 use Rattle.fio_check.specs.declared.observation.Observation.TheVariants as seen
 use Rattle.fio_world.specs.declared.event.Event.{Event}
 use Rattle.fio_world.specs.declared.event.Event.TheVariants as events
-use Rattle.fio_world.specs.Link.{Sent, Machine, start, number_of, sending_refusal, sent, happened, received, heard_block, heard, refusal, after, Leads}
+use Rattle.fio_world.specs.Link.{SentFrame, Machine, start, number_of, sending_refusal, after_sending, after_module_event, after_delivery_to_module, after_delivered_block, after_delivery_to_cpu, refusal, after, Leads}
 use Rattle.fio_world.specs.Frames.{HasBlock}
 use Rattle.fio_world.specs.Headline.{IsNotRestart, HaveNoRestart}
 use Rattle.fio_world.specs.Claims.{blocks_in}
@@ -81,7 +81,7 @@ all_there (item ∷ items) none =
     ap₂ (λ there others. there && others) low (all_there items parts.1)
 
 -- the command with an answer of this type is a configuration
-configured : (frames : List Sent) (command : Command) → answer_type_to command ≡ 179 → IsSentLast frames command → names_absent command ≡ false
+configured : (frames : List SentFrame) (command : Command) → answer_type_to command ≡ 179 → IsSentLast frames command → names_absent command ≡ false
     → (items : ArrayVec InputItem) × IsSentLast frames (commands.ConfigureInputs items) × (all_present items.items ≡ true)
 configured frames (commands.ConfigureInputs items) is last none = (items, last, all_there items.items none)
 configured frames (commands.Other other_commands.TrackInputs body) is last none = absurd (omega (arith, is))
@@ -106,14 +106,14 @@ module _ (settings : Settings) (range : AreInRange settings) (first : ℕ) (rule
 
     content-poll : let number = number_of first machine.round in
         KeepsContent rule P first facts kept (record { from_cpu = true; octets = command_octets (commands.Poll number) } ∷ [])
-        (sent machine (commands.Poll number))
+        (after_sending machine (commands.Poll number))
     content-poll =
         let number = number_of first machine.round in
         let command : Command = commands.Poll number in
         let fits : number < 256 = omega (arith, number_of-fits first machine.round) in
         let reads = read_back command fits in
         let own = own_poll kept.number number (numbered facts.polled refl) in
-        one_frame rule P first facts kept (record { from_cpu = true; octets = command_octets command }) (sent machine command)
+        one_frame rule P first facts kept (record { from_cpu = true; octets = command_octets command }) (after_sending machine command)
         (seen.Poll number) (Some number) (Polled ∷ []) (said_of command fits)
         (ap (λ read. number_with kept.number read None) reads ∙ own.1)
         (ap (λ read. events_of kept.number read None) reads ∙ own.0)
@@ -126,11 +126,11 @@ module _ (settings : Settings) (range : AreInRange settings) (first : ℕ) (rule
         })
 
     content-send : (command : Command) → sending_refusal command ≡ None → IsCommand command
-        → KeepsContent rule P first facts kept (record { from_cpu = true; octets = command_octets command } ∷ []) (sent machine command)
+        → KeepsContent rule P first facts kept (record { from_cpu = true; octets = command_octets command } ∷ []) (after_sending machine command)
     content-send command fine within =
         let reads = read_back command within in
         let o = is_other rule kept command fine in
-        one_frame rule P first facts kept (record { from_cpu = true; octets = command_octets command }) (sent machine command)
+        one_frame rule P first facts kept (record { from_cpu = true; octets = command_octets command }) (after_sending machine command)
         (seen.Command (answer_type_to command) (names_absent command)) kept.number (events_of_command None command)
         (said_of command within ∙ other_said command fine)
         (ap (λ read. number_with kept.number read None) reads ∙ o.number)
@@ -151,13 +151,13 @@ module _ (settings : Settings) (range : AreInRange settings) (first : ℕ) (rule
     hears_other : (command : Command) (place : ℕ) (octets : List ℕ)
         → IsReceived first facts machine.to_module machine.to_cpu machine.last_to_module machine.round due command
         → IsHeardAs command octets
-        → Hears octets (heard_block first (record machine { last_to_cpu = place + 1 }) (block_in octets))
+        → Hears octets (after_delivered_block first (record machine { last_to_cpu = place + 1 }) (block_in octets))
     hears_other command place octets r h =
         let later = record machine { last_to_cpu = place + 1 } in
         let type = answer_type_to command in
         let none : block_in octets ≡ None = no_block_said (answer_in octets) type h.accepted h.heard in
         let found = heard_events kept.number (answer_in octets) type h.accepted h.heard in
-        subst (λ found. Hears octets (heard_block first later found)) (sym none) (λ times.
+        subst (λ found. Hears octets (after_delivered_block first later found)) (sym none) (λ times.
         elim found.1 as (λ _. KeepsContent rule P first facts kept (record { from_cpu = false; octets = octets } ∷ []) later) [
           | inl quiet ↦
               one_frame rule P first facts kept (record { from_cpu = false; octets = octets }) later (seen.Answer type h.accepted)
@@ -173,10 +173,10 @@ module _ (settings : Settings) (range : AreInRange settings) (first : ℕ) (rule
               (record { number = a.number; unpolled = a.unpolled; asking = λ is. absurd (cc is); awaited = λ type is. absurd (cc is) })
         ])
 
-    hears_block : (number : ℕ) (place : ℕ) (frame : Sent) → slice_get machine.to_cpu place ≡ Some frame → machine.last_to_cpu ≤ place + 1
+    hears_block : (number : ℕ) (place : ℕ) (frame : SentFrame) → slice_get machine.to_cpu place ≡ Some frame → machine.last_to_cpu ≤ place + 1
         → IsReceived first facts machine.to_module machine.to_cpu machine.last_to_module machine.round due (commands.Poll number)
         → IsBlockFor facts number frame.octets
-        → Hears frame.octets (heard_block first (record machine { last_to_cpu = place + 1 }) (block_in frame.octets))
+        → Hears frame.octets (after_delivered_block first (record machine { last_to_cpu = place + 1 }) (block_in frame.octets))
     hears_block number place frame at le r h =
         let b = h.block in
         let own = number_of first machine.round in
@@ -189,8 +189,8 @@ module _ (settings : Settings) (range : AreInRange settings) (first : ℕ) (rule
         let c : CarriesBlockOf first blocks b machine.round =
         subst (CarriesBlockOf first blocks b) same (carries_own settings range first machine k.always k.one_life place b frame.round has) in
         let met : (b.number == own) ≡ true = grind (arith, nat_tests) in
-        let taken : heard_block first (record machine { last_to_cpu = place + 1 }) (block_in frame.octets) ≡ after_taken machine place b =
-        ap (heard_block first (record machine { last_to_cpu = place + 1 })) h.spells
+        let taken : after_delivered_block first (record machine { last_to_cpu = place + 1 }) (block_in frame.octets) ≡ after_taken machine place b =
+        ap (after_delivered_block first (record machine { last_to_cpu = place + 1 })) h.spells
         ∙ ap (λ is. if is then after_taken machine place b else record machine { last_to_cpu = place + 1 }) met in
         let known : kept.number ≡ Some own = a.number number polled.0 in
         let found = block_events own (answer_in frame.octets) b h.spells alike in
@@ -212,16 +212,16 @@ module _ (settings : Settings) (range : AreInRange settings) (first : ℕ) (rule
           awaited = λ type is. absurd (cc is);
         })))
 
-    hears : (command : Command) (place : ℕ) (frame : Sent) → slice_get machine.to_cpu place ≡ Some frame → machine.last_to_cpu ≤ place + 1
+    hears : (command : Command) (place : ℕ) (frame : SentFrame) → slice_get machine.to_cpu place ≡ Some frame → machine.last_to_cpu ≤ place + 1
         → IsReceived first facts machine.to_module machine.to_cpu machine.last_to_module machine.round due command
         → Answers facts command frame.octets
-        → Hears frame.octets (heard first machine (place + 1) (Some frame))
+        → Hears frame.octets (after_delivery_to_cpu first machine (place + 1) (Some frame))
     hears (commands.Poll number) place frame at le r h = hears_block number place frame at le r h
     hears other place frame at le r h = hears_other other place frame.octets r h
 
-    hears_due : (place : ℕ) (frame : Sent) → slice_get machine.to_cpu place ≡ Some frame
+    hears_due : (place : ℕ) (frame : SentFrame) → slice_get machine.to_cpu place ≡ Some frame
         → machine.last_to_cpu < place + 1 → place + 1 ≡ due → Stage first facts machine due
-        → Hears frame.octets (heard first machine (place + 1) (Some frame))
+        → Hears frame.octets (after_delivery_to_cpu first machine (place + 1) (Some frame))
     hears_due place frame at new is (inl quiet) = absurd (omega (arith, quiet.past))
     hears_due place frame at new is (inr (inl u)) = absurd (omega (arith, u.1.none_due))
     hears_due place frame at new is (inr (inr (command, r))) =
@@ -233,22 +233,22 @@ module _ (settings : Settings) (range : AreInRange settings) (first : ℕ) (rule
         → HaveTimesFor rule (sources_taken settings (after settings first machine event))
         → KeepsContent rule P first facts kept (frames_at first machine event) (after settings first machine event)
     content-event (events.Scan raw) fine none within prompt times =
-        no_frame (happened machine (module_events.Scan raw)) refl refl (i.happens machine kept.facts (module_events.Scan raw) k tt p)
+        no_frame (after_module_event machine (module_events.Scan raw)) refl refl (i.happens machine kept.facts (module_events.Scan raw) k tt p)
     content-event events.LineSync fine none within prompt times =
-        no_frame (happened machine module_events.LineSync) refl refl (i.happens machine kept.facts module_events.LineSync k tt p)
+        no_frame (after_module_event machine module_events.LineSync) refl refl (i.happens machine kept.facts module_events.LineSync k tt p)
     content-event (events.Raise mask) fine none within prompt times =
-        no_frame (happened machine (module_events.Raise mask)) refl refl (i.happens machine kept.facts (module_events.Raise mask) k tt p)
+        no_frame (after_module_event machine (module_events.Raise mask)) refl refl (i.happens machine kept.facts (module_events.Raise mask) k tt p)
     content-event events.Restart fine none within prompt times = absurd none
     content-event events.Poll fine none within prompt times = content-poll
     content-event (events.Send command) fine none within prompt times = content-send command fine within
     content-event (events.ToModule index) fine none within prompt times =
-        after_delivery (λ n found. machine.last_to_module < n → KeepsContent rule P first facts kept [] (received settings machine n found))
+        after_delivery (λ n found. machine.last_to_module < n → KeepsContent rule P first facts kept [] (after_delivery_to_module settings machine n found))
         machine.to_module machine.last_to_module index fine
-        (λ place frame le at new. no_frame (received settings machine (place + 1) (Some frame)) refl refl
+        (λ place frame le at new. no_frame (after_delivery_to_module settings machine (place + 1) (Some frame)) refl refl
         (i.receives machine kept.facts place frame k new at p)) prompt
     content-event (events.ToCpu index) fine none within prompt times =
-        after_delivery (λ n found. machine.last_to_cpu < n → n ≡ due → HaveTimesFor rule (sources_taken settings (heard first machine n found))
-        → KeepsContent rule P first facts kept (frame_heard found) (heard first machine n found))
+        after_delivery (λ n found. machine.last_to_cpu < n → n ≡ due → HaveTimesFor rule (sources_taken settings (after_delivery_to_cpu first machine n found))
+        → KeepsContent rule P first facts kept (frame_heard found) (after_delivery_to_cpu first machine n found))
         machine.to_cpu machine.last_to_cpu index fine
         (λ place frame le at new is. hears_due place frame at new is f.stage) prompt.0 prompt.1 times
 

@@ -15,7 +15,7 @@ use Rattle.fio_module.specs.Life as module_events
 use Rattle.fio_check.specs.ContentAbove.{ContentFacts, content_with, no_content}
 use Rattle.fio_check.specs.ContentEvents.{Accepted, Polled, events_of_block, events_of_command}
 use Rattle.fio_check.specs.declared.content_rules.ContentRule.{ContentRule}
-use Rattle.fio_world.specs.Link.{Sent, Machine, start, number_of, happened, sending_refusal, sent, received}
+use Rattle.fio_world.specs.Link.{SentFrame, Machine, start, number_of, after_module_event, sending_refusal, after_sending, after_delivery_to_module}
 use Rattle.fio_world.specs.Frames.{HasBlock}
 use Rattle.fio_world.specs.Claims.{blocks_in, sources_of}
 use Rattle.fio_world.specs.Rounds.{CarriesBlock}
@@ -32,9 +32,9 @@ IsPastBus (module_events.Raise mask) = Unit {0}
 IsPastBus other = ⊥
 
 -- the frame sent last spells this command
-pub record IsSentLast (frames : List Sent) (command : Command) : Type 0 where
+pub record IsSentLast (frames : List SentFrame) (command : Command) : Type 0 where
   pub place : ℕ
-  pub frame : Sent
+  pub frame : SentFrame
   pub last : length frames ≡ place + 1
   pub at_place : slice_get frames place ≡ Some frame
   pub spells : command_in frame.octets ≡ Some command
@@ -57,18 +57,18 @@ pub record IsInvariant (settings : Settings) (first : ℕ) (rule : ContentRule) 
   pub starts : P start no_content
   -- a scan, a line sync or raised flags
   pub happens : (machine : Machine) (facts : ContentFacts) (event : module_events.Event) → IsKept settings first machine
-      → IsPastBus event → P machine facts → P (happened machine event) facts
+      → IsPastBus event → P machine facts → P (after_module_event machine event) facts
   -- a poll is sent
   pub polls : (machine : Machine) (facts : ContentFacts) → IsKept settings first machine → P machine facts
-      → P (sent machine (commands.Poll (number_of first machine.round))) (content_with facts Polled)
+      → P (after_sending machine (commands.Poll (number_of first machine.round))) (content_with facts Polled)
   -- another command is sent
   pub sends : (machine : Machine) (facts : ContentFacts) (command : Command) → IsKept settings first machine
       → sending_refusal command ≡ None → IsCommand command → P machine facts
-      → P (sent machine command) (fold content_with facts (events_of_command None command))
+      → P (after_sending machine command) (fold content_with facts (events_of_command None command))
   -- the module receives a frame
-  pub receives : (machine : Machine) (facts : ContentFacts) (place : ℕ) (frame : Sent) → IsKept settings first machine
+  pub receives : (machine : Machine) (facts : ContentFacts) (place : ℕ) (frame : SentFrame) → IsKept settings first machine
       → machine.last_to_module < place + 1 → slice_get machine.to_module place ≡ Some frame → P machine facts
-      → P (received settings machine (place + 1) (Some frame)) facts
+      → P (after_delivery_to_module settings machine (place + 1) (Some frame)) facts
   -- the CPU hears an answer that is no event of content
   pub passes : (machine : Machine) (facts : ContentFacts) (index : ℕ) → IsKept settings first machine
       → P machine facts → P (record machine { last_to_cpu = index }) facts

@@ -15,10 +15,10 @@ use Rattle.fio_module.specs.Life.{Life, Commanded, filter_events, life_of, life_
 use Rattle.fio_module.specs.Life as module_events
 use Rattle.fio_cpu.specs.declared.record.Item.{Item}
 use Rattle.fio_cpu.specs.declared.record.Item.TheVariants.{Entry, Gap}
-use Rattle.fio_cpu.specs.Record.{recorded}
+use Rattle.fio_cpu.specs.Record.{items_of_block}
 use Rattle.fio_check.specs.ContentAbove.{ContentFacts, FilterPair, content_with, filters_of}
 use Rattle.fio_check.specs.ContentEvents.{Accepted, Ended, Recorded, events_of_block, events_of_command}
-use Rattle.fio_world.specs.Link.{Sent, Machine}
+use Rattle.fio_world.specs.Link.{SentFrame, Machine}
 use Rattle.fio_world.proofs.Places.{get_after_push, get_push}
 use Rattle.fio_ends.proofs.ContentSteps.{HasTaken, IsPastBus, IsSentLast}
 use Rattle.fio_ends.proofs.QuietSince.{IsNoConfiguration, NoneConfigures}
@@ -34,17 +34,17 @@ IsSetBy life items = (input : ℕ) (item : InputItem) → last_item_of input ite
 
 -- a configuration that is the frame sent last has the filters that are known, and where the module has received it
 -- and takes it, they are in force
-pub record IsKnown (life : Life) (frames : List Sent) (last : ℕ) (facts : ContentFacts) (items : ArrayVec InputItem) : Type 0 where
+pub record IsKnown (life : Life) (frames : List SentFrame) (last : ℕ) (facts : ContentFacts) (items : ArrayVec InputItem) : Type 0 where
   pub filters : (input : ℕ) → facts.filters input ≡ option_map filters_of (last_item_of input items.items)
   pub taken : last ≡ length frames → all_present items.items ≡ true → IsSetBy life items.items
 
 -- what is known of a configuration that was taken
-pub record AreKnown (life : Life) (frames : List Sent) (last : ℕ) (facts : ContentFacts) : Type 0 where
+pub record AreKnown (life : Life) (frames : List SentFrame) (last : ℕ) (facts : ContentFacts) : Type 0 where
   pub in_force : (input : ℕ) (pair : FilterPair) → facts.filters input ≡ Some pair → AreInForce life input pair
   pub none_coming : NoneConfigures frames last
 
 -- what is kept of filters
-pub record KnowsFilters (life : Life) (frames : List Sent) (last : ℕ) (facts : ContentFacts) : Type 0 where
+pub record KnowsFilters (life : Life) (frames : List SentFrame) (last : ℕ) (facts : ContentFacts) : Type 0 where
   pub within : last ≤ length frames
   pub sent_last : (items : ArrayVec InputItem) → IsSentLast frames (commands.ConfigureInputs items) → IsKnown life frames last facts items
   pub accepted : facts.accepted ≡ true → AreKnown life frames last facts
@@ -60,7 +60,7 @@ FiltersHold machine facts =
 abbrev Keep : Life → Life → Type 0
 Keep life later = (input : ℕ) (pair : FilterPair) → AreInForce life input pair → AreInForce later input pair
 
-filters-later : (life later : Life) (frames : List Sent) (last : ℕ) (facts : ContentFacts) → Keep life later
+filters-later : (life later : Life) (frames : List SentFrame) (last : ℕ) (facts : ContentFacts) → Keep life later
     → KnowsFilters life frames last facts → KnowsFilters later frames last facts
 filters-later life later frames last facts keep h =
     record {
@@ -73,7 +73,7 @@ filters-later life later frames last facts keep h =
           record { in_force = λ input pair at. keep input pair (a.in_force input pair at); none_coming = a.none_coming });
     }
 
-pub filters-happens : (history : module_events.History) (event : module_events.Event) (frames : List Sent) (last : ℕ)
+pub filters-happens : (history : module_events.History) (event : module_events.Event) (frames : List SentFrame) (last : ℕ)
     (facts : ContentFacts) → IsPastBus event → KnowsFilters (life_of history) frames last facts
     → KnowsFilters (life_of (event ∷ history)) frames last facts
 filters-happens history (module_events.Scan raw) frames last facts past h =
@@ -91,16 +91,16 @@ filters-happens history module_events.Restart frames last facts past h = absurd 
 -- ---- a frame is sent
 
 -- the frame that was pushed is the one sent last
-last_of : (frames : List Sent) (f : Sent) (command : Command) → IsSentLast (frames ++ f ∷ []) command → command_in f.octets ≡ Some command
+last_of : (frames : List SentFrame) (f : SentFrame) (command : Command) → IsSentLast (frames ++ f ∷ []) command → command_in f.octets ≡ Some command
 last_of frames f command s =
     let long : length (frames ++ f ∷ []) ≡ length frames + 1 = length-append frames (f ∷ []) in
     let last : length (frames ++ f ∷ []) ≡ s.place + 1 = s.last in
     let here : s.place ≡ length frames = omega arith in
     let is : s.frame ≡ f = same_Some _ _ (sym s.at_place ∙ ap (slice_get (frames ++ f ∷ [])) here ∙ get_push frames f) in
-    ap (λ (g : Sent). command_in g.octets) (sym is) ∙ s.spells
+    ap (λ (g : SentFrame). command_in g.octets) (sym is) ∙ s.spells
 
 -- a frame that is no configuration
-pub filters-sent : (life : Life) (frames : List Sent) (last : ℕ) (facts below : ContentFacts) (f : Sent) → IsNoConfiguration f
+pub filters-sent : (life : Life) (frames : List SentFrame) (last : ℕ) (facts below : ContentFacts) (f : SentFrame) → IsNoConfiguration f
     → (below.accepted ≡ true → facts.accepted ≡ true) → ((input : ℕ) → below.filters input ≡ facts.filters input)
     → KnowsFilters life frames last facts → KnowsFilters life (frames ++ f ∷ []) last below
 filters-sent life frames last facts below f none same alike h =
@@ -124,7 +124,7 @@ same_configuration : (items other : ArrayVec InputItem)
 same_configuration items other is = let same : commands.ConfigureInputs items ≡ commands.ConfigureInputs other = same_Some _ _ is in cc same
 
 -- a configuration
-pub filters-configured : (life : Life) (frames : List Sent) (last : ℕ) (facts below : ContentFacts) (f : Sent) (items : ArrayVec InputItem)
+pub filters-configured : (life : Life) (frames : List SentFrame) (last : ℕ) (facts below : ContentFacts) (f : SentFrame) (items : ArrayVec InputItem)
     → command_in f.octets ≡ Some (commands.ConfigureInputs items) → below.accepted ≡ false
     → ((input : ℕ) → below.filters input ≡ option_map filters_of (last_item_of input items.items))
     → KnowsFilters life frames last facts → KnowsFilters life (frames ++ f ∷ []) last below
@@ -141,7 +141,7 @@ filters-configured life frames last facts below f items spells not_yet filters h
       accepted = λ is. absurd (cc (not_yet, is));
     }
 
-pub filters-sends : (life : Life) (frames : List Sent) (last : ℕ) (facts : ContentFacts) (f : Sent) (command : Command)
+pub filters-sends : (life : Life) (frames : List SentFrame) (last : ℕ) (facts : ContentFacts) (f : SentFrame) (command : Command)
     → command_in f.octets ≡ Some command → KnowsFilters life frames last facts
     → KnowsFilters life (frames ++ f ∷ []) last (fold content_with facts (events_of_command None command))
 filters-sends life frames last facts f (commands.ConfigureInputs items) spells h =
@@ -175,7 +175,7 @@ set_now life items present input item is =
     ∙ ap (λ named. setting_by named (input_setting input (filter_events life))) is in
     record { leading = ap (λ s. s.leading) set; trailing = ap (λ s. s.trailing) set }
 
-pub filters-received : (life : Life) (frames : List Sent) (last place : ℕ) (frame : Sent) (facts : ContentFacts) → last ≤ place
+pub filters-received : (life : Life) (frames : List SentFrame) (last place : ℕ) (frame : SentFrame) (facts : ContentFacts) → last ≤ place
     → slice_get frames place ≡ Some frame → KnowsFilters life frames last facts
     → KnowsFilters (life_after_command (command_in frame.octets) life) frames (place + 1) facts
 filters-received life frames last place frame facts new at h =
@@ -189,7 +189,7 @@ filters-received life frames last place frame facts new at h =
                 (let last_place : length frames ≡ sent.place + 1 = sent.last in
                 let here : sent.place ≡ place = omega (arith, all) in
                 let is : sent.frame ≡ frame = same_Some _ _ (sym sent.at_place ∙ ap (slice_get frames) here ∙ at) in
-                let spells : command_in frame.octets ≡ Some (commands.ConfigureInputs items) = ap (λ (g : Sent). command_in g.octets) (sym is) ∙ sent.spells in
+                let spells : command_in frame.octets ≡ Some (commands.ConfigureInputs items) = ap (λ (g : SentFrame). command_in g.octets) (sym is) ∙ sent.spells in
                 subst (λ command. IsSetBy (life_after_command command life) items.items) (sym spells) (set_now life items present));
           });
       accepted = λ is.
@@ -240,15 +240,15 @@ filters-items facts (Entry input level stamp wide ∷ items) =
 
 pub filters-block : (facts : ContentFacts) (answer : Block) → SaysTheSame facts (fold content_with facts (events_of_block answer))
 filters-block facts answer =
-    let s = filters-items facts (recorded answer) in
-    let last = fold-append content_with facts (map Recorded (recorded answer)) (Ended (says_more answer.status) ∷ []) in
+    let s = filters-items facts (items_of_block answer) in
+    let last = fold-append content_with facts (map Recorded (items_of_block answer)) (Ended (says_more answer.status) ∷ []) in
     record {
       accepted = ap (λ (f : ContentFacts). f.accepted) last ∙ s.accepted;
       filters = λ input. ap (λ (f : ContentFacts). f.filters input) last ∙ s.filters input;
       loaded = ap (λ (f : ContentFacts). f.loaded) last ∙ s.loaded;
     }
 
-pub filters-same : (life : Life) (frames : List Sent) (last : ℕ) (facts below : ContentFacts) → SaysTheSame facts below
+pub filters-same : (life : Life) (frames : List SentFrame) (last : ℕ) (facts below : ContentFacts) → SaysTheSame facts below
     → KnowsFilters life frames last facts → KnowsFilters life frames last below
 filters-same life frames last facts below s h =
     record {

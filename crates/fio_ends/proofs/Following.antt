@@ -12,7 +12,7 @@ use Rattle.fio_module.specs.Blocks.{MadeBlock, blocks_of}
 use Rattle.fio_check.specs.Facts.{facts_with, no_facts, number_due}
 use Rattle.fio_check.specs.Observations.{answer_type_to, names_absent}
 use Rattle.fio_check.specs.declared.facts.Facts.{Facts}
-use Rattle.fio_world.specs.Link.{Sent, Machine, start, number_of}
+use Rattle.fio_world.specs.Link.{SentFrame, Machine, start, number_of}
 use Rattle.fio_world.specs.Frames.{HasPoll}
 use Rattle.fio_world.specs.Rounds.{next_round}
 use Rattle.fio_ends.specs.Transcripts.{CpuFrame}
@@ -20,7 +20,7 @@ use Rattle.fio_ends.proofs.GoodLines.{KeepRules, said_by}
 use Rattle.fio_ends.proofs.Heard.{IsHeardAs}
 
 -- the polls sent below a place, and all polls received, are of rounds before this one
-pub record AreBefore (frames : List Sent) (polls : List ℕ) (round below : ℕ) : Type 0 where
+pub record AreBefore (frames : List SentFrame) (polls : List ℕ) (round below : ℕ) : Type 0 where
   pub sent : (place n r : ℕ) → place < below → HasPoll frames place n r → r < round
   pub received : next_round polls ≤ round
 
@@ -32,11 +32,11 @@ pub record IsAsked (first : ℕ) (facts : Facts) (round : ℕ) (command : Comman
       → (facts.polled ≡ Some number) × (number ≡ number_of first round)
 
 -- the command sent last, the latest line, is under way
-pub record IsUnderWay (first : ℕ) (facts : Facts) (frames : List Sent) (last : ℕ) (polls : List ℕ)
+pub record IsUnderWay (first : ℕ) (facts : Facts) (frames : List SentFrame) (last : ℕ) (polls : List ℕ)
     (round due : ℕ) (command : Command) : Type 0 where
   pub asked : IsAsked first facts round command
   pub place : ℕ
-  pub frame : Sent
+  pub frame : SentFrame
   pub sent_last : length frames ≡ place + 1
   pub at_place : slice_get frames place ≡ Some frame
   pub spells : command_in frame.octets ≡ Some command
@@ -58,16 +58,16 @@ Answers facts (commands.Poll number) octets = IsBlockFor facts number octets
 Answers facts other octets = IsHeardAs other octets
 
 -- the module has received the command sent last, the latest line; its answer is due, if there is one
-pub record IsReceived (first : ℕ) (facts : Facts) (frames answers : List Sent) (last round due : ℕ)
+pub record IsReceived (first : ℕ) (facts : Facts) (frames answers : List SentFrame) (last round due : ℕ)
     (command : Command) : Type 0 where
   pub asked : IsAsked first facts round command
   pub all : last ≡ length frames
   pub place : ℕ
   pub due_is : due ≡ place + 1
-  pub answer : (frame : Sent) → slice_get answers place ≡ Some frame → Answers facts command frame.octets
+  pub answer : (frame : SentFrame) → slice_get answers place ≡ Some frame → Answers facts command frame.octets
 
 -- nothing is under way, and no answer is due
-pub record IsQuiet (frames : List Sent) (last last_to_cpu due : ℕ) : Type 0 where
+pub record IsQuiet (frames : List SentFrame) (last last_to_cpu due : ℕ) : Type 0 where
   pub all : last ≡ length frames
   pub past : due ≤ last_to_cpu
 

@@ -23,7 +23,7 @@ use Rattle.fio_check.specs.Rules.{first_broken, is_overfull}
 use Rattle.fio_check.specs.declared.facts.Facts.{Facts}
 use Rattle.fio_check.specs.declared.observation.Observation.TheVariants as seen
 use Rattle.fio_world.specs.declared.event.Event.TheVariants.{ToCpu}
-use Rattle.fio_world.specs.Link.{Sent, Machine, number_of, heard_block, heard, refusal, after, item_numbered}
+use Rattle.fio_world.specs.Link.{SentFrame, Machine, number_of, after_delivered_block, after_delivery_to_cpu, refusal, after, item_numbered}
 use Rattle.fio_world.specs.Frames.{HasBlock}
 use Rattle.fio_world.specs.Rounds.{next_round, CarriesBlockOf}
 use Rattle.fio_world.proofs.RoundNumbers.{number_of-next}
@@ -119,7 +119,7 @@ module _ (settings : Settings) (range : AreInRange settings) (first : ℕ) (mach
       → due ≤ place + 1
       → IsHeardAs command octets
       → Keeps settings first facts (record { from_cpu = false; octets = octets } ∷ [])
-      (heard_block first (record machine { last_to_cpu = place + 1 }) (block_in octets)) due
+      (after_delivered_block first (record machine { last_to_cpu = place + 1 }) (block_in octets)) due
   keeps_answer command place octets r past h =
       let code = answer_type_to command in
       let none : block_in octets ≡ None = no_block_said (answer_in octets) code h.accepted h.heard in
@@ -144,7 +144,7 @@ module _ (settings : Settings) (range : AreInRange settings) (first : ℕ) (mach
       } in
       record {
         rules = λ full. (ap (first_broken facts) h.heard ∙ kept, tt);
-        follows = subst (λ found. Follows settings first (heard_block first (record machine { last_to_cpu = place + 1 }) found) due (facts_with facts (observation_in false octets))) (sym none)
+        follows = subst (λ found. Follows settings first (after_delivered_block first (record machine { last_to_cpu = place + 1 }) found) due (facts_with facts (observation_in false octets))) (sym none)
             (subst (λ o. Follows settings first (record machine { last_to_cpu = place + 1 }) due (facts_with facts o)) (sym h.heard) follows);
       }
 
@@ -209,13 +209,13 @@ module _ (settings : Settings) (range : AreInRange settings) (first : ℕ) (mach
         stage = inl (record { all = r.all; past = past });
       }
 
-  keeps_block : (number : ℕ) (place : ℕ) (frame : Sent) → slice_get machine.to_cpu place ≡ Some frame
+  keeps_block : (number : ℕ) (place : ℕ) (frame : SentFrame) → slice_get machine.to_cpu place ≡ Some frame
       → machine.last_to_cpu ≤ place + 1
       → IsReceived first facts machine.to_module machine.to_cpu machine.last_to_module machine.round due (commands.Poll number)
       → due ≤ place + 1
       → IsBlockFor facts number frame.octets
       → Keeps settings first facts (record { from_cpu = false; octets = frame.octets } ∷ [])
-      (heard_block first (record machine { last_to_cpu = place + 1 }) (block_in frame.octets)) due
+      (after_delivered_block first (record machine { last_to_cpu = place + 1 }) (block_in frame.octets)) due
   keeps_block number place frame at le r past h =
       let b = h.block in
       let has : HasBlock machine.to_cpu place b frame.round =
@@ -229,8 +229,8 @@ module _ (settings : Settings) (range : AreInRange settings) (first : ℕ) (mach
       let said : observation_in false frame.octets ≡ seen.Block b.number b.status entries absent =
       block_said (answer_in frame.octets) b h.spells in
       let met : (b.number == number_of first machine.round) ≡ true = grind (arith, nat_tests) in
-      let taken : heard_block first (record machine { last_to_cpu = place + 1 }) (block_in frame.octets) ≡ after_taken machine place b =
-      ap (heard_block first (record machine { last_to_cpu = place + 1 })) h.spells
+      let taken : after_delivered_block first (record machine { last_to_cpu = place + 1 }) (block_in frame.octets) ≡ after_taken machine place b =
+      ap (after_delivered_block first (record machine { last_to_cpu = place + 1 })) h.spells
       ∙ ap (λ is. if is then after_taken machine place b else record machine { last_to_cpu = place + 1 }) met in
       record {
         rules = λ full. (
@@ -246,20 +246,20 @@ module _ (settings : Settings) (range : AreInRange settings) (first : ℕ) (mach
 
   -- ---- any answer
 
-  keeps_received : (command : Command) (place : ℕ) (frame : Sent) → slice_get machine.to_cpu place ≡ Some frame
+  keeps_received : (command : Command) (place : ℕ) (frame : SentFrame) → slice_get machine.to_cpu place ≡ Some frame
       → machine.last_to_cpu ≤ place + 1
       → IsReceived first facts machine.to_module machine.to_cpu machine.last_to_module machine.round due command
       → due ≤ place + 1
       → Answers facts command frame.octets
       → Keeps settings first facts (record { from_cpu = false; octets = frame.octets } ∷ [])
-      (heard first machine (place + 1) (Some frame)) due
+      (after_delivery_to_cpu first machine (place + 1) (Some frame)) due
   keeps_received (commands.Poll number) place frame at le r past h = keeps_block number place frame at le r past h
   keeps_received other place frame at le r past h = keeps_answer other place frame.octets r past h
 
-  keeps_stage : (place : ℕ) (frame : Sent) → slice_get machine.to_cpu place ≡ Some frame
+  keeps_stage : (place : ℕ) (frame : SentFrame) → slice_get machine.to_cpu place ≡ Some frame
       → machine.last_to_cpu < place + 1 → place + 1 ≡ due → Stage first facts machine due
       → Keeps settings first facts (record { from_cpu = false; octets = frame.octets } ∷ [])
-      (heard first machine (place + 1) (Some frame)) due
+      (after_delivery_to_cpu first machine (place + 1) (Some frame)) due
   keeps_stage place frame at new is (inl quiet) = absurd (omega (arith, quiet.past))
   keeps_stage place frame at new is (inr (inl u)) = absurd (omega (arith, u.1.none_due))
   keeps_stage place frame at new is (inr (inr (command, r))) =
@@ -273,6 +273,6 @@ module _ (settings : Settings) (range : AreInRange settings) (first : ℕ) (mach
       (after settings first machine (ToCpu index)) due
   keeps-to_cpu index fine new is =
       after_delivery (λ n found. machine.last_to_cpu < n → n ≡ due
-      → Keeps settings first facts (frame_heard found) (heard first machine n found) due)
+      → Keeps settings first facts (frame_heard found) (after_delivery_to_cpu first machine n found) due)
       machine.to_cpu machine.last_to_cpu index fine
       (λ place frame le at new is. keeps_stage place frame at new is f.stage) new is

@@ -13,7 +13,7 @@ use Rattle.fio_module.specs.Blocks.{MadeBlock}
 use Rattle.fio_module.proofs.ListParts.{each-back, each-front}
 use Rattle.fio_cpu.specs.declared.record.Item.{Item}
 use Rattle.fio_cpu.specs.declared.record.Item.TheVariants.{Entry, Gap}
-use Rattle.fio_cpu.specs.Record.{recorded}
+use Rattle.fio_cpu.specs.Record.{items_of_block}
 use Rattle.fio_check.specs.ContentAbove.{ContentFacts, content_with, no_content}
 use Rattle.fio_check.specs.ContentEvents.{Ended, Recorded, events_of_block}
 use Rattle.fio_check.specs.ContentRules.{is_before}
@@ -21,7 +21,7 @@ use Rattle.fio_check.specs.declared.content_rules.ContentRule.TheVariants.{Order
 use Rattle.fio_world.specs.Link.{Machine}
 use Rattle.fio_world.specs.Claims.{Source, Loss, From, blocks_in, sources_of}
 use Rattle.fio_world.proofs.MadeBlocks.{each-at, each-take}
-use Rattle.fio_world.proofs.OneLife.{record_of, recorded-carried, recorded_of}
+use Rattle.fio_world.proofs.OneLife.{record_of, items_of_block-carried, recorded_of}
 use Rattle.fio_world.proofs.OneLifeRows.{IsKept}
 use Rattle.fio_ends.specs.ContentRuns.{ContentNeverAccuses, HaveTimesFor, NextIsNear, WaitsBriefly, sources_taken}
 use Rattle.fio_ends.proofs.SourcesTaken.{sources_with}
@@ -125,10 +125,10 @@ below-items facts (Entry input level stamp wide ∷ items) =
     let b = below-items (content_with facts (Recorded (Entry input level stamp wide))) items in
     record { before = b.before; loaded = b.loaded }
 
-below-block : (facts : ContentFacts) (answer : Block) → IsBelow facts (fold content_with facts (events_of_block answer)) (recorded answer)
+below-block : (facts : ContentFacts) (answer : Block) → IsBelow facts (fold content_with facts (events_of_block answer)) (items_of_block answer)
 below-block facts answer =
-    let events = map Recorded (recorded answer) in
-    let b = below-items facts (recorded answer) in
+    let events = map Recorded (items_of_block answer) in
+    let b = below-items facts (items_of_block answer) in
     let last = fold-append content_with facts events (Ended (says_more answer.status) ∷ []) in
     record {
       before = ap (λ (f : ContentFacts). f.before) last ∙ b.before;
@@ -146,8 +146,8 @@ module _ (settings : Settings) (range : AreInRange settings) (first : ℕ) where
   order-takes : (machine : Machine) (facts : ContentFacts) (place : ℕ) (answer : Block) (block : MadeBlock) → IsKept settings first machine
       → Takes settings machine place answer block
       → HaveTimesFor Order (sources_taken settings machine ++ sources_of block) → KnowsTimes machine facts
-      → (loaded : Bool) → facts.loaded ≡ loaded → EntriesKeep Order facts (map Recorded (recorded answer))
-  order-takes machine facts place answer block k t times p true loaded = loaded_keep facts (recorded answer) loaded
+      → (loaded : Bool) → facts.loaded ≡ loaded → EntriesKeep Order facts (map Recorded (items_of_block answer))
+  order-takes machine facts place answer block k t times p true loaded = loaded_keep facts (items_of_block answer) loaded
   order-takes machine facts place answer block k t times p false loaded =
       let life = life_of machine.history in
       let blocks = blocks_in settings machine in
@@ -163,10 +163,10 @@ module _ (settings : Settings) (range : AreInRange settings) (first : ℕ) where
       let one = blocks_clocked (block ∷ []) (each-at _ blocks machine.round block clocks t.made, tt) brief in
       let own_zip = subst (λ sources. AllZip IsClocked (recorded_of block) sources) (append-nil own)
       (subst (λ is. AllZip IsClocked is (own ++ [])) (append-nil (recorded_of block)) one) in
-      let zip = subst (λ is. AllZip IsClocked is own) (sym (recorded-carried answer block t.carried)) own_zip in
+      let zip = subst (λ is. AllZip IsClocked is own) (sym (items_of_block-carried answer block t.carried)) own_zip in
       let all = sources_with settings machine place answer block t.made in
       let near = subst (AreNear None) all (blocks_near settings life (machine.round + 1) (subst NextIsNear (sym all) times.1)) in
-      near_keep facts (last_scans None taken) (recorded answer) own before zip (near_back None taken own near)
+      near_keep facts (last_scans None taken) (items_of_block answer) own before zip (near_back None taken own near)
 
   order_is_invariant : IsInvariant settings first Order KnowsTimes
   order_is_invariant =
@@ -185,11 +185,11 @@ module _ (settings : Settings) (range : AreInRange settings) (first : ℕ) where
         accepts = λ machine facts index items k taken p. record { before = p.before; unloaded = p.unloaded };
         takes = λ machine facts place answer block k t asking times p.
             (let b = below-block facts answer in (
-              entries_keep Order facts (map Recorded (recorded answer)) (Ended (says_more answer.status) ∷ [])
+              entries_keep Order facts (map Recorded (items_of_block answer)) (Ended (says_more answer.status) ∷ [])
                   (order-takes machine facts place answer block k t times p facts.loaded refl) (tt, tt),
               record {
-                before = b.before ∙ ap (λ above. before_below above (recorded answer)) p.before
-                    ∙ sym (below-append None machine.items (recorded answer));
+                before = b.before ∙ ap (λ above. before_below above (items_of_block answer)) p.before
+                    ∙ sym (below-append None machine.items (items_of_block answer));
                 unloaded = λ is. p.unloaded (sym b.loaded ∙ is);
               },
             ));

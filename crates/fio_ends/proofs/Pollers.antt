@@ -15,7 +15,7 @@ use Rattle.fio_message.specs.Decoding.{answer_in, answered_block, block_in, comm
 use Rattle.fio_cpu.specs.declared.poller.Heard.TheVariants.{Stale}
 use Rattle.fio_cpu.specs.Hearing.{after_hearing, heard_as}
 use Rattle.fio_cpu.specs.Poller.{Polling}
-use Rattle.fio_cpu.specs.Record.{recorded}
+use Rattle.fio_cpu.specs.Record.{items_of_block}
 use Rattle.fio_check.specs.Facts.{facts_at, facts_with, number_due, number_polled}
 use Rattle.fio_check.specs.Lines.{TranscriptLine}
 use Rattle.fio_check.specs.Observations.{observation_in, observation_of, observation_on}
@@ -116,10 +116,10 @@ module _ (facts : Facts) (poller : Option Polling) (agrees : Agrees facts poller
   -- ---- a block answer
 
   taken_by : (p : Polling) (number : ℕ) (b : BlockOf) → b.number ≡ number → p.number ≡ number
-      → after_hearing p (Some b) ≡ (record { number = (p.number + 1) % 256; items = p.items ++ recorded b })
+      → after_hearing p (Some b) ≡ (record { number = (p.number + 1) % 256; items = p.items ++ items_of_block b })
   taken_by p number b of_block of_poller =
       let same : (b.number == p.number) ≡ true = grind (arith, nat_tests) in
-      ap (λ met. if met then (record { number = (p.number + 1) % 256; items = p.items ++ recorded b }) else p) same
+      ap (λ met. if met then (record { number = (p.number + 1) % 256; items = p.items ++ items_of_block b }) else p) same
 
   goes-block : (number status entries : ℕ) (absent : Bool) (b : BlockOf) → b.number ≡ number
       → KeepsRules facts (Block number status entries absent)
@@ -134,7 +134,7 @@ module _ (facts : Facts) (poller : Option Polling) (agrees : Agrees facts poller
       let p = found.0 in
       let of_poller : p.number ≡ number = found.2 ∙ sym met in
       let after = taken_by p number b of_block of_poller in
-      let below : poller_by poller None (Some b) ≡ Some (record { number = (p.number + 1) % 256; items = p.items ++ recorded b }) =
+      let below : poller_by poller None (Some b) ≡ Some (record { number = (p.number + 1) % 256; items = p.items ++ items_of_block b }) =
       ap (λ above. poller_by above None (Some b)) found.1 ∙ ap Some after in
       record {
         agrees = record {

@@ -12,24 +12,24 @@ use Rattle.fio_module.specs.Life.{Life, Occurrence, Commanded, filter_events, li
 use Rattle.fio_module.specs.Log.{log_of}
 use Rattle.fio_module.specs.Blocks.{MadeBlock, latest_poll, is_new, blocks_of, next_block}
 use Rattle.fio_module.proofs.Growth.{filter_events-append}
-use Rattle.fio_world.specs.Link.{Sent}
+use Rattle.fio_world.specs.Link.{SentFrame}
 use Rattle.fio_world.specs.Frames.{HasPoll}
 use Rattle.fio_world.proofs.MadeBlocks.{each-append}
 use Rattle.fio_world.proofs.Places.{get_after_push}
 
 -- a frame is no configuration
-abbrev pub IsNoConfiguration : Sent → Type 0
+abbrev pub IsNoConfiguration : SentFrame → Type 0
 IsNoConfiguration frame = (items : ArrayVec InputItem)
     → command_in frame.octets ≡ Some (commands.ConfigureInputs items) → ⊥
 
 -- no frame from a place on is one
-abbrev pub NoneConfigures : List Sent → ℕ → Type 0
-NoneConfigures frames since = (place : ℕ) (frame : Sent) → since ≤ place → slice_get frames place ≡ Some frame
+abbrev pub NoneConfigures : List SentFrame → ℕ → Type 0
+NoneConfigures frames since = (place : ℕ) (frame : SentFrame) → since ≤ place → slice_get frames place ≡ Some frame
     → IsNoConfiguration frame
 
 -- Since a time at which the log ended at or before this place, no configuration was applied, and of the frames
 -- that are not delivered none is one.
-pub record IsQuietSince (life : Life) (frames : List Sent) (last place : ℕ) : Type 0 where
+pub record IsQuietSince (life : Life) (frames : List SentFrame) (last place : ℕ) : Type 0 where
   pub later : Life
   pub earlier : Life
   pub at : life ≡ later ++ earlier
@@ -47,7 +47,7 @@ pub record IsMadeQuietly (settings : Settings) (life : Life) (block : MadeBlock)
   pub is : block ≡ next_block settings earlier
   pub passed : since ≤ last
 
-pub record IsAskedQuietly (settings : Settings) (life : Life) (frames : List Sent) (last round : ℕ) : Type 0 where
+pub record IsAskedQuietly (settings : Settings) (life : Life) (frames : List SentFrame) (last round : ℕ) : Type 0 where
   pub since : ℕ
   pub within : since ≤ length frames
   pub none_sent : NoneConfigures frames since
@@ -56,13 +56,13 @@ pub record IsAskedQuietly (settings : Settings) (life : Life) (frames : List Sen
       → IsMadeQuietly settings life block since last
 
 -- no poll of this round was sent, and no block of it was made
-pub record IsUnasked (settings : Settings) (life : Life) (frames : List Sent) (round : ℕ) : Type 0 where
+pub record IsUnasked (settings : Settings) (life : Life) (frames : List SentFrame) (round : ℕ) : Type 0 where
   pub sent : (place number r : ℕ) → HasPoll frames place number r → r < round
   pub made : length (blocks_of settings life) ≤ round
 
 -- ---- a place further on
 
-pub quiet-further : (life : Life) (frames : List Sent) (last place further : ℕ) → place ≤ further
+pub quiet-further : (life : Life) (frames : List SentFrame) (last place further : ℕ) → place ≤ further
     → IsQuietSince life frames last place → IsQuietSince life frames last further
 quiet-further life frames last place further le q =
     record {
@@ -82,7 +82,7 @@ none_more occurrence later one rest =
     subst NoneIsApplied (sym (filter_events-append (occurrence ∷ []) later))
     (each-append IsNotApplied (filter_events (occurrence ∷ [])) (filter_events later) one rest)
 
-pub quiet-happens : (life : Life) (frames : List Sent) (last place : ℕ) (occurrence : Occurrence)
+pub quiet-happens : (life : Life) (frames : List SentFrame) (last place : ℕ) (occurrence : Occurrence)
     → NoneIsApplied (filter_events (occurrence ∷ [])) → IsQuietSince life frames last place
     → IsQuietSince (occurrence ∷ life) frames last place
 quiet-happens life frames last place occurrence one q =
@@ -95,7 +95,7 @@ quiet-happens life frames last place occurrence one q =
       none_coming = q.none_coming;
     }
 
-pub asked-happens : (settings : Settings) (life : Life) (frames : List Sent) (last round : ℕ) (occurrence : Occurrence)
+pub asked-happens : (settings : Settings) (life : Life) (frames : List SentFrame) (last round : ℕ) (occurrence : Occurrence)
     → NoneIsApplied (filter_events (occurrence ∷ [])) → blocks_of settings (occurrence ∷ life) ≡ blocks_of settings life
     → IsAskedQuietly settings life frames last round → IsAskedQuietly settings (occurrence ∷ life) frames last round
 asked-happens settings life frames last round occurrence one same a =
@@ -118,7 +118,7 @@ asked-happens settings life frames last round occurrence one same a =
 
 -- ---- the CPU sends a frame that is no configuration
 
-none-sent : (frames : List Sent) (f : Sent) (since : ℕ) → IsNoConfiguration f → NoneConfigures frames since
+none-sent : (frames : List SentFrame) (f : SentFrame) (since : ℕ) → IsNoConfiguration f → NoneConfigures frames since
     → NoneConfigures (frames ++ f ∷ []) since
 none-sent frames f since not_one none place frame low at =
     elim (get_after_push frames f place frame at) as (λ _. IsNoConfiguration frame) [
@@ -127,7 +127,7 @@ none-sent frames f since not_one none place frame low at =
     ]
 
 -- a poll among frames and one more
-poll_after : (frames : List Sent) (f : Sent) (place number round : ℕ) → HasPoll (frames ++ f ∷ []) place number round
+poll_after : (frames : List SentFrame) (f : SentFrame) (place number round : ℕ) → HasPoll (frames ++ f ∷ []) place number round
     → HasPoll frames place number round ⊎ (place ≡ length frames)
 poll_after frames f place number round h =
     elim (get_after_push frames f place h.frame h.at_place) as (λ _. HasPoll frames place number round ⊎ (place ≡ length frames)) [
@@ -135,7 +135,7 @@ poll_after frames f place number round h =
       | inr new ↦ inr new.0
     ]
 
-pub quiet-sent : (life : Life) (frames : List Sent) (last place : ℕ) (f : Sent) → IsNoConfiguration f
+pub quiet-sent : (life : Life) (frames : List SentFrame) (last place : ℕ) (f : SentFrame) → IsNoConfiguration f
     → IsQuietSince life frames last place → IsQuietSince life (frames ++ f ∷ []) last place
 quiet-sent life frames last place f not_one q =
     record {
@@ -147,7 +147,7 @@ quiet-sent life frames last place f not_one q =
       none_coming = none-sent frames f last not_one q.none_coming;
     }
 
-pub asked-sent : (settings : Settings) (life : Life) (frames : List Sent) (last round : ℕ) (f : Sent) → IsNoConfiguration f
+pub asked-sent : (settings : Settings) (life : Life) (frames : List SentFrame) (last round : ℕ) (f : SentFrame) → IsNoConfiguration f
     → IsAskedQuietly settings life frames last round → IsAskedQuietly settings life (frames ++ f ∷ []) last round
 asked-sent settings life frames last round f not_one a =
     record {
@@ -163,7 +163,7 @@ asked-sent settings life frames last round f not_one a =
     }
 
 -- the first poll of a round
-pub asked-first : (settings : Settings) (life : Life) (frames : List Sent) (last round : ℕ) (f : Sent) → IsNoConfiguration f
+pub asked-first : (settings : Settings) (life : Life) (frames : List SentFrame) (last round : ℕ) (f : SentFrame) → IsNoConfiguration f
     → IsUnasked settings life frames round → IsAskedQuietly settings life (frames ++ f ∷ []) last round
 asked-first settings life frames last round f not_one u =
     record {
@@ -222,11 +222,11 @@ made_or_now settings life (Some (commands.Poll number)) k block at = by_new (is_
 made_or_now settings life (Some other) k block at = inl at
 
 -- a new poll is of the round after the blocks that were made
-abbrev pub IsOfNext : Settings → Life → Sent → Type 0
+abbrev pub IsOfNext : Settings → Life → SentFrame → Type 0
 IsOfNext settings life frame = (number : ℕ) → command_in frame.octets ≡ Some (commands.Poll number)
     → is_new (latest_poll life) number ≡ true → frame.round ≡ length (blocks_of settings life)
 
-module _ (settings : Settings) (life : Life) (frames : List Sent) (last place : ℕ) (frame : Sent)
+module _ (settings : Settings) (life : Life) (frames : List SentFrame) (last place : ℕ) (frame : SentFrame)
     (new : last ≤ place) (there : slice_get frames place ≡ Some frame) where
   abbrev command : Option Command
   command = command_in frame.octets

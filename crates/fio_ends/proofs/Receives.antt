@@ -11,11 +11,11 @@ use Rattle.fio_message.specs.Decoding.{command_in, poll_in}
 use Rattle.fio_module.specs.Settings.{Settings, AreInRange}
 use Rattle.fio_module.specs.Life.{Life, life_of}
 use Rattle.fio_module.specs.Blocks.{latest_poll, is_new}
-use Rattle.fio_module.specs.Sendings.{Sending, answer_of, first_sending, sent_again}
+use Rattle.fio_module.specs.Sendings.{Sending, answer_of, first_sending, repeat_of}
 use Rattle.fio_module.specs.Replies.{answer_to, answer_if, reply_to}
 use Rattle.fio_check.specs.declared.facts.Facts.{Facts}
 use Rattle.fio_world.specs.declared.event.Event.TheVariants.{ToModule}
-use Rattle.fio_world.specs.Link.{Sent, Machine, number_of, answer_frames, polls_with, received, refusal, after}
+use Rattle.fio_world.specs.Link.{SentFrame, Machine, number_of, answer_frames, polls_with, after_delivery_to_module, refusal, after}
 use Rattle.fio_world.specs.Rounds.{next_round}
 use Rattle.fio_world.proofs.Places.{get_push}
 use Rattle.fio_world.proofs.RoundNumbers.{number_of-fits}
@@ -32,7 +32,7 @@ use Rattle.fio_ends.proofs.Heard.{heard_as}
 use Rattle.fio_ends.proofs.Following.{AreBefore, IsBlockFor, Answers, Stage, Follows}
 
 -- the polls received with one of a round before are of rounds before
-before_received : (frames : List Sent) (polls : List ℕ) (round below place : ℕ) (frame : Sent) (polled : Option ℕ)
+before_received : (frames : List SentFrame) (polls : List ℕ) (round below place : ℕ) (frame : SentFrame) (polled : Option ℕ)
     → slice_get frames place ≡ Some frame → poll_in frame.octets ≡ polled → place < below
     → AreBefore frames polls round below → AreBefore frames (polls_with polled frame.round polls) round below
 before_received frames polls round below place frame None at is low b = b
@@ -43,16 +43,16 @@ before_received frames polls round below place frame (Some number) at is low b =
     }
 
 -- the frame in which a reply is sent
-reply_frame : (frames : List Sent) (reply : Option Answer) (round : ℕ) (frame : Sent)
+reply_frame : (frames : List SentFrame) (reply : Option Answer) (round : ℕ) (frame : SentFrame)
     → slice_get (frames ++ answer_frames reply round) (length frames) ≡ Some frame
     → (answer : Answer) × (reply ≡ Some answer) × (answer_octets answer ≡ frame.octets)
 reply_frame frames None round frame at =
     let none : slice_get frames (length frames) ≡ Some frame = ap (λ all. slice_get all (length frames)) (sym (append-nil frames)) ∙ at in
     absurd (omega (arith, slice_get_within frames (length frames) frame none))
 reply_frame frames (Some answer) round frame at =
-    let pushed : Sent = record { octets = answer_octets answer; round = round } in
+    let pushed : SentFrame = record { octets = answer_octets answer; round = round } in
     let same : pushed ≡ frame = same_Some _ _ (sym (get_push frames pushed) ∙ at) in
-    (answer, refl, ap (λ (s : Sent). s.octets) same)
+    (answer, refl, ap (λ (s : SentFrame). s.octets) same)
 
 module _ (settings : Settings) (range : AreInRange settings) (first : ℕ) (machine : Machine)
     (k : IsKept settings first machine) (facts : Facts) where
@@ -78,7 +78,7 @@ module _ (settings : Settings) (range : AreInRange settings) (first : ℕ) (mach
   block_for number place false answer is named before spelled =
       let found = latest_sent settings life number (same_number (latest_poll life) number is) in
       let l = found.1 in
-      let again = sent_again found.0 in
+      let again = repeat_of found.0 in
       let sent_number : again.number ≡ number = l.number in
       let fits : number ≤ 255 = omega (arith, number_of-fits first machine.round) in
       let upto : machine.round ≤ next_round machine.polls = k.always.answers.behind in
@@ -86,7 +86,7 @@ module _ (settings : Settings) (range : AreInRange settings) (first : ℕ) (mach
       let met = continues first machine.round number machine.polls false named upto high
       (ap (λ latest. is_new latest number) (sym k.one_life.in_life.polled) ∙ is) in
       let spells : Some (answer_of again) ≡ Some answer =
-      ap (λ (latest : Option Sending). option_map answer_of (option_map sent_again latest)) (sym l.is) ∙ spelled in
+      ap (λ (latest : Option Sending). option_map answer_of (option_map repeat_of latest)) (sym l.is) ∙ spelled in
       subst (λ a. IsBlockFor facts number (answer_octets a)) (same_Some _ _ spells)
       (record {
         block = said again;
@@ -113,21 +113,21 @@ module _ (settings : Settings) (range : AreInRange settings) (first : ℕ) (mach
     due_then place = if (place + 1) == length machine.to_module then length machine.to_cpu + 1 else due
 
     -- the stage after the module has received the frame at a place
-    stage_received : (place : ℕ) (frame : Sent) → slice_get machine.to_module place ≡ Some frame
+    stage_received : (place : ℕ) (frame : SentFrame) → slice_get machine.to_module place ≡ Some frame
         → machine.last_to_module < place + 1 → Stage first facts machine due
-        → Stage first facts (received settings machine (place + 1) (Some frame)) (due_then place)
+        → Stage first facts (after_delivery_to_module settings machine (place + 1) (Some frame)) (due_then place)
     stage_received place frame at new (inl quiet) =
         absurd (omega (arith, slice_get_within machine.to_module place frame at, quiet.all))
     stage_received place frame at new (inr (inr done)) =
         absurd (omega (arith, slice_get_within machine.to_module place frame at, done.1.all))
     stage_received place frame at new (inr (inl (command, u))) =
         let within = slice_get_within machine.to_module place frame at in
-        elim (eqb_tells place u.place) as (λ _. Stage first facts (received settings machine (place + 1) (Some frame)) (due_then place)) [
+        elim (eqb_tells place u.place) as (λ _. Stage first facts (after_delivery_to_module settings machine (place + 1) (Some frame)) (due_then place)) [
           | inl same ↦
               let here : place ≡ u.place = same.1 in
               let last : ((place + 1) == length machine.to_module) ≡ true = (let e : length machine.to_module ≡ u.place + 1 = u.sent_last in grind (arith, nat_tests)) in
               let frame_is : u.frame ≡ frame = same_Some _ _ (sym u.at_place ∙ ap (slice_get machine.to_module) (sym here) ∙ at) in
-              let spells : command_in frame.octets ≡ Some command = ap (λ (s : Sent). command_in s.octets) (sym frame_is) ∙ u.spells in
+              let spells : command_in frame.octets ≡ Some command = ap (λ (s : SentFrame). command_in s.octets) (sym frame_is) ∙ u.spells in
               inr (inr (
                 command,
                 record {
@@ -164,9 +164,9 @@ module _ (settings : Settings) (range : AreInRange settings) (first : ℕ) (mach
               ))
         ]
 
-    follows_received : (place : ℕ) (frame : Sent) → slice_get machine.to_module place ≡ Some frame
+    follows_received : (place : ℕ) (frame : SentFrame) → slice_get machine.to_module place ≡ Some frame
         → machine.last_to_module < place + 1
-        → Follows settings first (received settings machine (place + 1) (Some frame)) (due_then place) facts
+        → Follows settings first (after_delivery_to_module settings machine (place + 1) (Some frame)) (due_then place) facts
     follows_received place frame at new =
         record {
           number = f.number;
@@ -189,6 +189,6 @@ module _ (settings : Settings) (range : AreInRange settings) (first : ℕ) (mach
         → Follows settings first (after settings first machine (ToModule index)) (due_after machine due (ToModule index)) facts
     follows-to_module index fine new =
         after_delivery (λ n found. machine.last_to_module < n
-        → Follows settings first (received settings machine n found) (due_after machine due (ToModule n)) facts)
+        → Follows settings first (after_delivery_to_module settings machine n found) (due_after machine due (ToModule n)) facts)
         machine.to_module machine.last_to_module index fine
         (λ place frame le at new. follows_received place frame at new) new

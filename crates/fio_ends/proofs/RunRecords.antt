@@ -11,7 +11,7 @@ use Rattle.fio_message.specs.Decoding.{answer_in, block_in}
 use Rattle.fio_module.specs.Settings.{Settings, AreInRange}
 use Rattle.fio_cpu.specs.Hearing.{after_hearing}
 use Rattle.fio_cpu.specs.Poller.{Polling}
-use Rattle.fio_cpu.specs.Record.{recorded}
+use Rattle.fio_cpu.specs.Record.{items_of_block}
 use Rattle.fio_check.specs.Facts.{facts_with, no_facts, number_polled}
 use Rattle.fio_check.specs.Lines.{TranscriptLine}
 use Rattle.fio_check.specs.Observations.{answer_type_to, names_absent, observation_in, observation_on}
@@ -20,7 +20,7 @@ use Rattle.fio_check.specs.declared.observation.Observation.{Observation}
 use Rattle.fio_check.specs.declared.observation.Observation.TheVariants as seen
 use Rattle.fio_world.specs.declared.event.Event.{Event}
 use Rattle.fio_world.specs.declared.event.Event.TheVariants as events
-use Rattle.fio_world.specs.Link.{Machine, Sent, start, number_of, item_numbered, heard_block, heard, received, refusal, sending_refusal, sent, after, Leads}
+use Rattle.fio_world.specs.Link.{Machine, SentFrame, start, number_of, item_numbered, after_delivered_block, after_delivery_to_cpu, after_delivery_to_module, refusal, sending_refusal, after_sending, after, Leads}
 use Rattle.fio_world.specs.Headline.{IsNotRestart, HaveNoRestart}
 use Rattle.fio_world.specs.Worlds.{polling_of}
 use Rattle.fio_world.proofs.RoundNumbers.{number_of-fits, number_of-next}
@@ -71,18 +71,18 @@ IsRunsPoller first machine facts poller =
 -- a poller hears as the machine does
 hears_as : (first index : ℕ) (machine : Machine) (found : Option BlockOf)
     → after_hearing (polling_of first machine) found
-    ≡ polling_of first (heard_block first (record machine { last_to_cpu = index }) found)
+    ≡ polling_of first (after_delivered_block first (record machine { last_to_cpu = index }) found)
 hears_as first index machine None = refl
 hears_as first index machine (Some block) = by_number (block.number == number_of first machine.round)
   where
     by_number : (same : Bool)
-        → (if same then (record { number = (number_of first machine.round + 1) % 256; items = machine.items ++ recorded block })
+        → (if same then (record { number = (number_of first machine.round + 1) % 256; items = machine.items ++ items_of_block block })
         else polling_of first machine)
         ≡ polling_of first (if same
-        then (record machine { last_to_cpu = index; round = machine.round + 1; items = machine.items ++ recorded block })
+        then (record machine { last_to_cpu = index; round = machine.round + 1; items = machine.items ++ items_of_block block })
         else (record machine { last_to_cpu = index }))
     by_number true =
-        ap (λ n. record { number = n; items = machine.items ++ recorded block }) (sym (number_of-next first machine.round))
+        ap (λ n. record { number = n; items = machine.items ++ items_of_block block }) (sym (number_of-next first machine.round))
     by_number false = refl
 
 module _ (settings : Settings) (range : AreInRange settings) (first : ℕ) where
@@ -90,7 +90,7 @@ module _ (settings : Settings) (range : AreInRange settings) (first : ℕ) where
   polls : (machine : Machine) (facts : Facts) (poller : Option Polling) (o : Observation)
       → o ≡ seen.Poll (number_of first machine.round)
       → IsRunsPoller first machine facts poller
-      → IsRunsPoller first (sent machine (commands.Poll (number_of first machine.round))) (facts_with facts o)
+      → IsRunsPoller first (after_sending machine (commands.Poll (number_of first machine.round))) (facts_with facts o)
       (poller_by poller (number_polled o) None)
   polls machine facts poller o said (inl none) =
       inr (ap (λ p. poller_by p (number_polled o) None) none.0
@@ -123,24 +123,24 @@ module _ (settings : Settings) (range : AreInRange settings) (first : ℕ) where
         by (inl unpolled) = inl (unpolled.0, unpolled.1, ap (λ (p : Polling). p.items) at ∙ unpolled.2)
         by (inr is) = inr (is ∙ ap Some (sym at))
 
-    as_received : (index : ℕ) (found : Option Sent)
-        → polling_of first (received settings machine index found) ≡ polling_of first machine
+    as_received : (index : ℕ) (found : Option SentFrame)
+        → polling_of first (after_delivery_to_module settings machine index found) ≡ polling_of first machine
     as_received index None = refl
     as_received index (Some frame) = refl
 
     sends : (command : Command) → sending_refusal command ≡ None → IsCommand command
-        → IsRunsPoller first (sent machine command) (facts_with facts (observation_in true (command_octets command)))
+        → IsRunsPoller first (after_sending machine command) (facts_with facts (observation_in true (command_octets command)))
         (poller_by poller (number_polled (observation_in true (command_octets command))) None)
     sends command fine within =
         let said = said_of command within ∙ other_said command fine in
         let o : Observation = seen.Command (answer_type_to command) (names_absent command) in
-        subst (λ q. IsRunsPoller first (sent machine command) (facts_with facts q) (poller_by poller (number_polled q) None)) (sym said)
-        (passes machine (sent machine command) facts poller o refl refl refl r)
+        subst (λ q. IsRunsPoller first (after_sending machine command) (facts_with facts q) (poller_by poller (number_polled q) None)) (sym said)
+        (passes machine (after_sending machine command) facts poller o refl refl refl r)
 
     -- the CPU hears the answer that is due, where there is a poller
     hears_some : (place : ℕ) (octets : List ℕ) → poller ≡ Some (polling_of first machine)
         → poller_by poller (number_polled (observation_in false octets)) (block_in octets)
-        ≡ Some (polling_of first (heard_block first (record machine { last_to_cpu = place + 1 }) (block_in octets)))
+        ≡ Some (polling_of first (after_delivered_block first (record machine { last_to_cpu = place + 1 }) (block_in octets)))
     hears_some place octets is =
         ap (λ p. poller_by p (number_polled (observation_in false octets)) (block_in octets)) is
         ∙ ap Some (hears_as first (place + 1) machine (block_in octets))
@@ -149,7 +149,7 @@ module _ (settings : Settings) (range : AreInRange settings) (first : ℕ) where
     hears_none : (command : Command) (place : ℕ) (octets : List ℕ)
         → IsReceived first facts machine.to_module machine.to_cpu machine.last_to_module machine.round due command
         → Answers facts command octets → (poller ≡ None) × (facts.polled ≡ None) × (machine.items ≡ [])
-        → IsRunsPoller first (heard_block first (record machine { last_to_cpu = place + 1 }) (block_in octets))
+        → IsRunsPoller first (after_delivered_block first (record machine { last_to_cpu = place + 1 }) (block_in octets))
         (facts_with facts (observation_in false octets))
         (poller_by poller (number_polled (observation_in false octets)) (block_in octets))
     hears_none (commands.Poll number) place octets done h unpolled =
@@ -157,21 +157,21 @@ module _ (settings : Settings) (range : AreInRange settings) (first : ℕ) where
     hears_none other place octets done h unpolled = hears_other other place octets h
       where
         hears_other : (command : Command) (place : ℕ) (octets : List ℕ) → IsHeardAs command octets
-            → IsRunsPoller first (heard_block first (record machine { last_to_cpu = place + 1 }) (block_in octets))
+            → IsRunsPoller first (after_delivered_block first (record machine { last_to_cpu = place + 1 }) (block_in octets))
             (facts_with facts (observation_in false octets))
             (poller_by poller (number_polled (observation_in false octets)) (block_in octets))
         hears_other command place octets h =
             let later = record machine { last_to_cpu = place + 1 } in
             let none : block_in octets ≡ None = no_block_said (answer_in octets) (answer_type_to command) h.accepted h.heard in
-            subst (λ found. IsRunsPoller first (heard_block first later found) (facts_with facts (observation_in false octets))
+            subst (λ found. IsRunsPoller first (after_delivered_block first later found) (facts_with facts (observation_in false octets))
             (poller_by poller (number_polled (observation_in false octets)) found)) (sym none)
             (subst (λ o. IsRunsPoller first later (facts_with facts o) (poller_by poller (number_polled o) None)) (sym h.heard)
             (passes machine later facts poller (seen.Answer (answer_type_to command) h.accepted) refl refl refl r))
 
-    hears : (place : ℕ) (frame : Sent) → slice_get machine.to_cpu place ≡ Some frame
+    hears : (place : ℕ) (frame : SentFrame) → slice_get machine.to_cpu place ≡ Some frame
         → machine.last_to_cpu < place + 1 → place + 1 ≡ due → Stage first facts machine due
         → IsRunsPoller first machine facts poller
-        → IsRunsPoller first (heard first machine (place + 1) (Some frame)) (facts_with facts (observation_in false frame.octets))
+        → IsRunsPoller first (after_delivery_to_cpu first machine (place + 1) (Some frame)) (facts_with facts (observation_in false frame.octets))
         (poller_by poller (number_polled (observation_in false frame.octets)) (block_in frame.octets))
     hears place frame at new is stage (inr there) = inr (hears_some place frame.octets there)
     hears place frame at new is (inl quiet) (inl unpolled) = absurd (omega (arith, quiet.past))
@@ -200,7 +200,7 @@ module _ (settings : Settings) (range : AreInRange settings) (first : ℕ) where
     runs_poller (events.ToModule index) fine none within prompt = stays_by (after settings first machine (events.ToModule index)) (as_received index (item_numbered machine.to_module index))
     runs_poller (events.ToCpu index) fine none within prompt =
         after_delivery (λ n found. machine.last_to_cpu < n → n ≡ due
-        → IsRunsPoller first (heard first machine n found) (facts_below facts (frame_heard found)) (poller_by_frames poller (frame_heard found)))
+        → IsRunsPoller first (after_delivery_to_cpu first machine n found) (facts_below facts (frame_heard found)) (poller_by_frames poller (frame_heard found)))
         machine.to_cpu machine.last_to_cpu index fine
         (λ place frame le at new is. hears place frame at new is f.stage r) (omega arith) (omega arith)
 

@@ -16,7 +16,7 @@ use Rattle.fio_check.specs.Rules.{first_broken}
 use Rattle.fio_check.specs.declared.facts.Facts.{Facts}
 use Rattle.fio_check.specs.declared.observation.Observation.{Observation}
 use Rattle.fio_check.specs.declared.observation.Observation.TheVariants as seen
-use Rattle.fio_world.specs.Link.{Sent, Machine, number_of, sending_refusal, sent}
+use Rattle.fio_world.specs.Link.{SentFrame, Machine, number_of, sending_refusal, after_sending}
 use Rattle.fio_world.proofs.Places.{get_after_push, get_push}
 use Rattle.fio_world.proofs.RoundNumbers.{number_of-fits}
 use Rattle.fio_world.proofs.SentMessages.{none_more}
@@ -35,7 +35,7 @@ pub said_of : (command : Command) → IsCommand command
 said_of command within = ap (λ read. observation_of read None) (read_back command within)
 
 -- polls sent before one more frame, below its place
-before_more : (frames : List Sent) (f : Sent) (polls : List ℕ) (round : ℕ)
+before_more : (frames : List SentFrame) (f : SentFrame) (polls : List ℕ) (round : ℕ)
     → AreBefore frames polls round (length frames) → AreBefore (frames ++ f ∷ []) polls round (length frames)
 before_more frames f polls round b =
     record {
@@ -48,7 +48,7 @@ before_more frames f polls round b =
     }
 
 -- and all of them, where that frame is no poll
-before_other : (frames : List Sent) (f : Sent) (polls : List ℕ) (round : ℕ) → poll_in f.octets ≡ None
+before_other : (frames : List SentFrame) (f : SentFrame) (polls : List ℕ) (round : ℕ) → poll_in f.octets ≡ None
     → AreBefore frames polls round (length frames)
     → AreBefore (frames ++ f ∷ []) polls round (length (frames ++ f ∷ []))
 before_other frames f polls round none b =
@@ -88,7 +88,7 @@ other_said other fine = refl
 module _ (settings : Settings) (first : ℕ) (machine : Machine) (due : ℕ) (facts : Facts)
     (f : Follows settings first machine due facts) where
   -- the frame of a command
-  abbrev frame_of : Command → Sent
+  abbrev frame_of : Command → SentFrame
   frame_of command = record { octets = command_octets command; round = machine.round }
 
   -- the stage below a command
@@ -96,7 +96,7 @@ module _ (settings : Settings) (first : ℕ) (machine : Machine) (due : ℕ) (fa
       → IsAsked first (facts_with facts said) machine.round command
       → ((number : ℕ) → command ≡ commands.Poll number → (facts_with facts said).advanced ≡ true
       → AreBefore (machine.to_module ++ frame_of command ∷ []) machine.polls machine.round (length machine.to_module))
-      → Stage first (facts_with facts said) (sent machine command) 0
+      → Stage first (facts_with facts said) (after_sending machine command) 0
   under_way command said within asked before =
       let frames = machine.to_module in
       inr (inl (
@@ -116,7 +116,7 @@ module _ (settings : Settings) (first : ℕ) (machine : Machine) (due : ℕ) (fa
 
   -- the machine's own poll
   follows-poll : let number = number_of first machine.round in
-      Follows settings first (sent machine (commands.Poll number)) 0 (facts_with facts (seen.Poll number))
+      Follows settings first (after_sending machine (commands.Poll number)) 0 (facts_with facts (seen.Poll number))
   follows-poll =
       let number = number_of first machine.round in
       let fits : number < 256 = omega (arith, number_of-fits first machine.round) in
@@ -138,7 +138,7 @@ module _ (settings : Settings) (first : ℕ) (machine : Machine) (due : ℕ) (fa
 
   pub sends-poll : let number = number_of first machine.round in
       let frame : CpuFrame = record { from_cpu = true; octets = command_octets (commands.Poll number) } in
-      Keeps settings first facts (frame ∷ []) (sent machine (commands.Poll number)) 0
+      Keeps settings first facts (frame ∷ []) (after_sending machine (commands.Poll number)) 0
   sends-poll =
       let number = number_of first machine.round in
       let fits : number < 256 = omega (arith, number_of-fits first machine.round) in
@@ -157,12 +157,12 @@ module _ (settings : Settings) (first : ℕ) (machine : Machine) (due : ℕ) (fa
       }) in
       record {
         rules = λ full. (ap (first_broken facts) said ∙ kept, tt);
-        follows = subst (λ o. Follows settings first (sent machine (commands.Poll number)) 0 (facts_with facts o)) (sym said) follows-poll;
+        follows = subst (λ o. Follows settings first (after_sending machine (commands.Poll number)) 0 (facts_with facts o)) (sym said) follows-poll;
       }
 
   -- another command
   follows-other : (command : Command) → sending_refusal command ≡ None → IsCommand command
-      → Follows settings first (sent machine command) 0
+      → Follows settings first (after_sending machine command) 0
       (facts_with facts (seen.Command (answer_type_to command) (names_absent command)))
   follows-other command fine within =
       let none = no_poll_in command fine in
@@ -180,11 +180,11 @@ module _ (settings : Settings) (first : ℕ) (machine : Machine) (due : ℕ) (fa
       }
 
   pub sends-other : (command : Command) → sending_refusal command ≡ None → IsCommand command
-      → Keeps settings first facts (record { from_cpu = true; octets = command_octets command } ∷ []) (sent machine command) 0
+      → Keeps settings first facts (record { from_cpu = true; octets = command_octets command } ∷ []) (after_sending machine command) 0
   sends-other command fine within =
       let said = said_of command within ∙ other_said command fine in
       record {
         rules = λ full. (ap (first_broken facts) said ∙ refl, tt);
-        follows = subst (λ o. Follows settings first (sent machine command) 0 (facts_with facts o)) (sym said)
+        follows = subst (λ o. Follows settings first (after_sending machine command) 0 (facts_with facts o)) (sym said)
             (follows-other command fine within);
       }

@@ -15,7 +15,7 @@ use Rattle.fio_check.specs.declared.content_rules.ContentRule.{ContentRule}
 use Rattle.fio_check.specs.declared.content_rules.ContentRule.TheVariants.{Order, Alternate, Apart}
 use Rattle.fio_world.specs.declared.event.Event.{Event}
 use Rattle.fio_world.specs.declared.event.Event.TheVariants as events
-use Rattle.fio_world.specs.Link.{Sent, Machine, received, heard, refusal, after, Leads}
+use Rattle.fio_world.specs.Link.{SentFrame, Machine, after_delivery_to_module, after_delivery_to_cpu, refusal, after, Leads}
 use Rattle.fio_world.specs.Frames.{HasBlock}
 use Rattle.fio_world.specs.Headline.{IsNotRestart, HaveNoRestart}
 use Rattle.fio_world.specs.Claims.{Source, blocks_in, sources_of}
@@ -88,11 +88,11 @@ module _ (settings : Settings) (range : AreInRange settings) (first : ℕ) where
       → Adds settings machine later
   none_added machine later same = ([], same ∙ sym (append-nil (sources_taken settings machine)))
 
-  adds-received : (machine : Machine) → IsKept settings first machine → (place : ℕ) (frame : Sent)
-      → Adds settings machine (received settings machine (place + 1) (Some frame))
+  adds-received : (machine : Machine) → IsKept settings first machine → (place : ℕ) (frame : SentFrame)
+      → Adds settings machine (after_delivery_to_module settings machine (place + 1) (Some frame))
   adds-received machine k place frame =
       let few : machine.round ≤ length (blocks_in settings machine) = omega (arith, k.always.answers.behind, k.one_life.in_life.made) in
-      none_added machine (received settings machine (place + 1) (Some frame))
+      none_added machine (after_delivery_to_module settings machine (place + 1) (Some frame))
       (ap (flat_map sources_of) (blocks_grow settings (life_of machine.history) (command_in frame.octets) machine.round few))
 
   adds-taken : (machine : Machine) → IsKept settings first machine → (place : ℕ) (answer : Block)
@@ -110,10 +110,10 @@ module _ (settings : Settings) (range : AreInRange settings) (first : ℕ) where
   adds-event machine k events.Poll fine none = none_added machine (after settings first machine events.Poll) refl
   adds-event machine k (events.Send command) fine none = none_added machine (after settings first machine (events.Send command)) refl
   adds-event machine k (events.ToModule index) fine none =
-      after_delivery (λ n found. Adds settings machine (received settings machine n found))
+      after_delivery (λ n found. Adds settings machine (after_delivery_to_module settings machine n found))
       machine.to_module machine.last_to_module index fine (λ place frame le at. adds-received machine k place frame)
   adds-event machine k (events.ToCpu index) fine none =
-      after_delivery (λ n found. Adds settings machine (heard first machine n found))
+      after_delivery (λ n found. Adds settings machine (after_delivery_to_cpu first machine n found))
       machine.to_cpu machine.last_to_cpu index fine
       (λ place frame le at. after_heard settings range first machine k.always (Adds settings machine) place frame le at
       (none_added machine (record machine { last_to_cpu = place + 1 }) refl) (adds-taken machine k place))

@@ -11,7 +11,7 @@ use Rattle.fio_module.specs.Life.{Life, life_of, life_after_command, counter_eve
 use Rattle.fio_module.specs.Life as module_events
 use Rattle.fio_check.specs.ContentAbove.{ContentFacts, content_with}
 use Rattle.fio_check.specs.ContentEvents.{Polled, events_of_command}
-use Rattle.fio_world.specs.Link.{Sent, Machine, start, happened, number_of, received, sent}
+use Rattle.fio_world.specs.Link.{SentFrame, Machine, start, after_module_event, number_of, after_delivery_to_module, after_sending}
 use Rattle.fio_world.proofs.Places.{get_after_push}
 use Rattle.fio_world.proofs.RoundNumbers.{number_of-fits}
 use Rattle.fio_ends.proofs.Sends.{read_back}
@@ -23,31 +23,31 @@ IsNoLoad (Some (commands.LoadCounter load)) = ⊥
 IsNoLoad other = Unit {0}
 
 -- no load was sent, so none has taken effect
-pub record IsUnloaded (frames : List Sent) (life : Life) : Type 0 where
-  pub none_sent : (place : ℕ) (frame : Sent) → slice_get frames place ≡ Some frame → IsNoLoad (command_in frame.octets)
+pub record IsUnloaded (frames : List SentFrame) (life : Life) : Type 0 where
+  pub none_sent : (place : ℕ) (frame : SentFrame) → slice_get frames place ≡ Some frame → IsNoLoad (command_in frame.octets)
   pub none_asked : asked_number (counter_events life) ≡ None
   pub none_loaded : loads_of life ≡ 0
 
-unloaded-sent : (frames : List Sent) (life : Life) (frame : Sent) → IsNoLoad (command_in frame.octets) → IsUnloaded frames life
+unloaded-sent : (frames : List SentFrame) (life : Life) (frame : SentFrame) → IsNoLoad (command_in frame.octets) → IsUnloaded frames life
     → IsUnloaded (frames ++ frame ∷ []) life
 unloaded-sent frames life frame none u =
     record {
       none_sent = λ place found at. elim (get_after_push frames frame place found at) as (λ _. IsNoLoad (command_in found.octets)) [
         | inl old ↦ u.none_sent place found old
-        | inr new ↦ subst (λ (f : Sent). IsNoLoad (command_in f.octets)) (sym new.1) none
+        | inr new ↦ subst (λ (f : SentFrame). IsNoLoad (command_in f.octets)) (sym new.1) none
       ];
       none_asked = u.none_asked;
       none_loaded = u.none_loaded;
     }
 
-unloaded-received : (frames : List Sent) (life : Life) (command : Option Command) → IsNoLoad command → IsUnloaded frames life
+unloaded-received : (frames : List SentFrame) (life : Life) (command : Option Command) → IsNoLoad command → IsUnloaded frames life
     → IsUnloaded frames (life_after_command command life)
 unloaded-received frames life None none u = u
 unloaded-received frames life (Some (commands.LoadCounter load)) none u = absurd none
 unloaded-received frames life (Some other) none u =
     record { none_sent = u.none_sent; none_asked = u.none_asked; none_loaded = u.none_loaded }
 
-unloaded-happens : (frames : List Sent) (history : module_events.History) (event : module_events.Event) → IsPastBus event
+unloaded-happens : (frames : List SentFrame) (history : module_events.History) (event : module_events.Event) → IsPastBus event
     → IsUnloaded frames (life_of history) → IsUnloaded frames (life_of (event ∷ history))
 unloaded-happens frames history (module_events.Scan raw) past u =
     record { none_sent = u.none_sent; none_asked = u.none_asked; none_loaded = u.none_loaded }
@@ -81,11 +81,11 @@ pub unloaded-start : (facts : ContentFacts) → NoneIsLoaded start facts
 unloaded-start facts is = record { none_sent = λ place frame at. absurd (cc at); none_asked = refl; none_loaded = refl }
 
 pub unloaded-past : (machine : Machine) (facts : ContentFacts) (event : module_events.Event) → IsPastBus event
-    → NoneIsLoaded machine facts → NoneIsLoaded (happened machine event) facts
+    → NoneIsLoaded machine facts → NoneIsLoaded (after_module_event machine event) facts
 unloaded-past machine facts event past none is = unloaded-happens machine.to_module machine.history event past (none is)
 
 pub unloaded-polls : (first : ℕ) (machine : Machine) (facts : ContentFacts) → NoneIsLoaded machine facts
-    → NoneIsLoaded (sent machine (commands.Poll (number_of first machine.round))) (content_with facts Polled)
+    → NoneIsLoaded (after_sending machine (commands.Poll (number_of first machine.round))) (content_with facts Polled)
 unloaded-polls first machine facts none is =
     let number = number_of first machine.round in
     let fits : number < 256 = omega (arith, number_of-fits first machine.round) in
@@ -94,16 +94,16 @@ unloaded-polls first machine facts none is =
     (subst IsNoLoad (sym (read_back (commands.Poll number) fits)) tt) (none is)
 
 pub unloaded-sends : (machine : Machine) (facts : ContentFacts) (command : Command) → IsCommand command → NoneIsLoaded machine facts
-    → NoneIsLoaded (sent machine command) (fold content_with facts (events_of_command None command))
+    → NoneIsLoaded (after_sending machine command) (fold content_with facts (events_of_command None command))
 unloaded-sends machine facts command within none is =
     let no_load = (sends_no_load facts command).1 is in
     unloaded-sent machine.to_module (life_of machine.history)
     (record { octets = command_octets command; round = machine.round })
     (subst IsNoLoad (sym (read_back command within)) no_load.1) (none no_load.0)
 
-pub unloaded-receives : (settings : Settings) (machine : Machine) (facts : ContentFacts) (place : ℕ) (frame : Sent)
+pub unloaded-receives : (settings : Settings) (machine : Machine) (facts : ContentFacts) (place : ℕ) (frame : SentFrame)
     → slice_get machine.to_module place ≡ Some frame → NoneIsLoaded machine facts
-    → NoneIsLoaded (received settings machine (place + 1) (Some frame)) facts
+    → NoneIsLoaded (after_delivery_to_module settings machine (place + 1) (Some frame)) facts
 unloaded-receives settings machine facts place frame at none is =
     let u = none is in
     unloaded-received machine.to_module (life_of machine.history) (command_in frame.octets) (u.none_sent place frame at) u

@@ -5,7 +5,7 @@ use Rattle.fio_message.specs.Decoding.{decoded_answer}
 use Rattle.fio_cpu.specs.declared.poller.Heard.TheVariants.{Stale}
 use Rattle.fio_cpu.specs.Hearing.{heard_as}
 use Rattle.fio_cpu.specs.Poller.{Polling}
-use Rattle.fio_cpu.specs.Record.{recorded}
+use Rattle.fio_cpu.specs.Record.{items_of_block}
 use Rattle.fio_check.specs.Facts.{number_polled}
 use Rattle.fio_check.specs.Lines.{TranscriptLine}
 use Rattle.fio_check.specs.Observations.{observation_on}
@@ -27,7 +27,7 @@ pub record IsTaken (before after : Option Polling) (block : Block) : Type 0 wher
   pub there : before ≡ Some poller
   pub same_number : block.number ≡ poller.number
   pub taken : after
-      ≡ Some (record { number = (poller.number + 1) % 256; items = poller.items ++ recorded block })
+      ≡ Some (record { number = (poller.number + 1) % 256; items = poller.items ++ items_of_block block })
 
 -- A transcript is that of its poller: each poll has its number, each block answer heard is taken, and
 -- none is stale.

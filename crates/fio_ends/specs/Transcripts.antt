@@ -6,7 +6,7 @@ use Rattle.fio_module.specs.Settings.{Settings}
 use Rattle.fio_check.specs.Lines.{TranscriptLine}
 use Rattle.fio_world.specs.declared.event.Event.{Event}
 use Rattle.fio_world.specs.declared.event.Event.TheVariants.{Poll, Send, ToCpu}
-use Rattle.fio_world.specs.Link.{Machine, Sent, start, number_of, item_numbered, after}
+use Rattle.fio_world.specs.Link.{Machine, SentFrame, start, number_of, item_numbered, after}
 
 -- a frame that the CPU's end sends or hears
 pub record CpuFrame : Type 0 where
@@ -14,7 +14,7 @@ pub record CpuFrame : Type 0 where
   pub octets : List ℕ
 
 -- the frame that is heard, where there is one
-abbrev pub frame_heard : Option Sent → List CpuFrame
+abbrev pub frame_heard : Option SentFrame → List CpuFrame
 frame_heard None = []
 frame_heard (Some frame) = record { from_cpu = false; octets = frame.octets } ∷ []
 

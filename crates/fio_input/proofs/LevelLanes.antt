@@ -3,7 +3,7 @@ use Rattle.std.proofs.Common.{◌≡◌, ℕ, ◌+◌, ◌/◌, ◌^◌, ◌<◌
 use Rattle.std.specs.Int.Bits.{bit_and}
 use Rattle.fio_message.specs.Bits.{is_set, bit_of}
 use Rattle.fio_message.proofs.Bits.{is_set_masked, is_set-low, is_set-shr}
-use Rattle.fio_input.specs.FilterRule.{in_force}
+use Rattle.fio_input.specs.FilterRule.{filter_in_force}
 use Rattle.fio_input.specs.Runs.{next_length, meets_filter}
 use lib.Lanes.{top}
 
@@ -42,6 +42,6 @@ module _ (level_lane sample_lane : ℕ) (level sample : Bool)
 
   -- whether a run meets its filter, where the sample is a lane
   pub meets_in_lanes : (leading trailing length : ℕ)
-      → leb (in_force (if sample_lane == 1 then trailing else leading)) length ≡ meets_filter leading trailing sample length
+      → leb (filter_in_force (if sample_lane == 1 then trailing else leading)) length ≡ meets_filter leading trailing sample length
   meets_in_lanes leading trailing length =
-      ap (λ one. leb (in_force (if one then trailing else leading)) length) (ap (λ lane. lane == 1) sample_is ∙ one_lane sample)
+      ap (λ one. leb (filter_in_force (if one then trailing else leading)) length) (ap (λ lane. lane == 1) sample_is ∙ one_lane sample)

@@ -4,7 +4,7 @@ use Rattle.std.specs.Bool.{beq}
 use Rattle.std.specs.List.{AllByRecursion}
 use Rattle.std.proofs.Math.Bool.{or-true}
 use Rattle.fio_message.specs.Bits.{is_set}
-use Rattle.fio_input.specs.FilterRule.{Setting, in_force, latest_are, ends_run, filtered_state}
+use Rattle.fio_input.specs.FilterRule.{Setting, filter_in_force, latest_are, ends_run, filtered_state}
 use Rattle.fio_input.specs.FilterHistory.{FilterEvent, Configure, Scan, input_setting, input_samples, state_at_configuration, input_state}
 use Rattle.fio_input.specs.Delivery.{NoneIsAppliedTo, scans_in, filter_to}
 use Rattle.fio_input.specs.NewLevels.{HasLevel, HasNewLevel, IsReportedIn, NewLevelsAreReported}
@@ -43,9 +43,9 @@ row_of input level (Configure items ∷ events) older row = row_of input level e
 row_ends : (s : Setting) (level : Bool) (samples : List Bool) → latest_are (filter_to s level) level samples ≡ true
     → ends_run s samples ≡ true
 row_ends s true samples run =
-    ap (λ ones. latest_are (in_force s.leading) false samples || ones) run
-    ∙ or-true (latest_are (in_force s.leading) false samples)
-row_ends s false samples run = ap (λ zeros. zeros || latest_are (in_force s.trailing) true samples) run
+    ap (λ ones. latest_are (filter_in_force s.leading) false samples || ones) run
+    ∙ or-true (latest_are (filter_in_force s.leading) false samples)
+row_ends s false samples run = ap (λ zeros. zeros || latest_are (filter_in_force s.trailing) true samples) run
 
 row_state : (s : Setting) (b level : Bool) (n : ℕ) (samples : List Bool) → 1 ≤ n → n ≡ filter_to s level
     → latest_are n level samples ≡ true → filtered_state s b samples ≡ level

@@ -1,11 +1,11 @@
 -- The 32-bit time of a stamp and 16 low bits.
 use Rattle.std.proofs.Common.{◌≡◌, ℕ, ◌+◌, ◌-◌, ◌%◌, ◌^◌, ◌<◌, arith}
-use Rattle.fio_input.specs.Widening.{Widened, widened}
+use Rattle.fio_input.specs.Widening.{IsWideTime, wide_time_of}
 
 -- the function gives such a time
-pub Widened-widened : (stamp low : ℕ) → stamp < 2 ^ 32 → low < 2 ^ 16 → Widened stamp low (widened stamp low)
-unfolding widened
-Widened-widened stamp low stamp_fits low_fits =
+pub IsWideTime-wide_time_of : (stamp low : ℕ) → stamp < 2 ^ 32 → low < 2 ^ 16 → IsWideTime stamp low (wide_time_of stamp low)
+unfolding wide_time_of
+IsWideTime-wide_time_of stamp low stamp_fits low_fits =
     record {
       in_range = omega arith;
       same_low = omega arith;
@@ -15,9 +15,9 @@ Widened-widened stamp low stamp_fits low_fits =
     }
 
 -- and there is no other
-pub widened_only : (stamp low wide : ℕ) → stamp < 2 ^ 32 → low < 2 ^ 16 → Widened stamp low wide → wide ≡ widened stamp low
-unfolding widened
-widened_only stamp low wide stamp_fits low_fits w =
+pub wide_time_of_only : (stamp low wide : ℕ) → stamp < 2 ^ 32 → low < 2 ^ 16 → IsWideTime stamp low wide → wide ≡ wide_time_of stamp low
+unfolding wide_time_of
+wide_time_of_only stamp low wide stamp_fits low_fits w =
     let in_range = w.in_range in
     let same_low = w.same_low in
     let is_recent = w.is_recent in

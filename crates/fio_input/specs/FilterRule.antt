@@ -11,8 +11,8 @@ pub record Setting : Type 0 where
   pub trailing : ℕ
 
 -- a filter of 0 acts as 1
-abbrev pub in_force : ℕ → ℕ
-in_force filter = max filter 1
+abbrev pub filter_in_force : ℕ → ℕ
+filter_in_force filter = max filter 1
 
 -- there are n samples, and the latest n are all of this level
 abbrev pub latest_are : ℕ → Bool → List Bool → Bool
@@ -24,8 +24,8 @@ latest_are (suc n) level (sample ∷ older) = beq sample level && latest_are n l
 -- trailing one
 abbrev pub ends_run : Setting → List Bool → Bool
 ends_run setting samples =
-    latest_are (in_force setting.leading) false samples
-    || latest_are (in_force setting.trailing) true samples
+    latest_are (filter_in_force setting.leading) false samples
+    || latest_are (filter_in_force setting.trailing) true samples
 
 -- the latest sample that ends such a run, sought from the newest sample on, and the base where
 -- there is none

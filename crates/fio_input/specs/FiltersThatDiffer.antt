@@ -2,13 +2,13 @@
 use Rattle.std.specs.Prelude.{ℕ, ◌+◌, ◌-◌, ◌*◌, ◌/◌, ◌≤◌, min, not, List}
 use Rattle.fio_message.specs.Bits.{bit_of}
 use Rattle.fio_message.specs.declared.limits.TheConstants.{INPUTS}
-use Rattle.fio_input.specs.FilterRule.{Setting, in_force}
+use Rattle.fio_input.specs.FilterRule.{Setting, filter_in_force}
 use Rattle.fio_input.specs.FilterHistory.{FilterEvent, input_setting}
 use Rattle.fio_input.specs.Delivery.{scans_in, sum_below, all_reports_in, NoneIsApplied}
 
 -- the smaller of both filters in force
 abbrev pub least_filter : Setting → ℕ
-least_filter setting = min (in_force setting.leading) (in_force setting.trailing)
+least_filter setting = min (filter_in_force setting.leading) (filter_in_force setting.trailing)
 
 -- the most changes that so many scans can report: 1 + (n - 1) / f for each open input, with its own f
 abbrev pub most_reports : List FilterEvent → ℕ → ℕ

@@ -2,7 +2,7 @@
 ghost use Rattle.std.specs.Prelude.{◌≡◌, ◌≢◌, ◌<◌, ◌≤◌, ℕ, ◌+◌, ◌^◌, ◌==◌, min, length, slice_index, if◌then◌else◌, nat_le};
 ghost use Rattle.fio_message.specs.Bits.{is_set, bit_of};
 ghost use Rattle.fio_message.specs.declared.limits.TheConstants.{INPUTS};
-ghost use Rattle.fio_input.specs.FilterRule.{in_force};
+ghost use Rattle.fio_input.specs.FilterRule.{filter_in_force};
 ghost use Rattle.fio_input.specs.Runs.{next_length, meets_filter};
 ghost use Rattle.fio_input.specs.declared.lanes.TheConstants.{LANES};
 
@@ -76,7 +76,7 @@ fn next_lengths(lengths: u8x16, levels: u8x16, samples: u8x16) -> u8x16
 fn filters_in_force(leading: u8x16, trailing: u8x16, samples: u8x16) -> u8x16
     ensures { (lane : ℕ) → lane < LANES
         → slice_index result lane
-        ≡ in_force (if slice_index samples lane == 1
+        ≡ filter_in_force (if slice_index samples lane == 1
         then slice_index trailing lane else slice_index leading lane) }
 {
     let one = u8x16::splat(1);

@@ -10,7 +10,7 @@ use Rattle.fio_message.specs.Octets.{entry_octets}
 use Rattle.fio_message.specs.Status.{again_status}
 use Rattle.fio_message.specs.Answers.{answer_octets}
 use Rattle.fio_message.specs.Blocks.{Block, block_answer, SpellsBlock}
-use Rattle.fio_message.specs.KeptBlock.{sent_again, marked_octets}
+use Rattle.fio_message.specs.KeptBlock.{block_sent_again, marked_octets}
 use Rattle.fio_message.specs.Laws.{KeepsBlockAnswers}
 use Rattle.fio_message.proofs.Parts.{length-parts}
 use Rattle.fio_message.proofs.PartKinds.{entry_is_part}
@@ -42,7 +42,7 @@ marked-behind a b c body tail status place is =
     ∙ set-behind body tail status (again_status status)))
 
 -- marking the octets of a block gives those of it sent again
-marked-answer : (block : Block) → marked_octets (answer_octets (block_answer block)) ≡ answer_octets (block_answer (sent_again block))
+marked-answer : (block : Block) → marked_octets (answer_octets (block_answer block)) ≡ answer_octets (block_answer (block_sent_again block))
 marked-answer block =
     let body = flat_map entry_octets block.entries in
     let tail = to_be_bytes w32 block.stamp in
@@ -52,7 +52,7 @@ marked-answer block =
 
 -- the marked octets of a block spell it sent again
 pub spells-marked : (block : Block) (octets : List ℕ) → SpellsBlock block octets
-    → SpellsBlock (sent_again block) (marked_octets octets)
+    → SpellsBlock (block_sent_again block) (marked_octets octets)
 spells-marked block octets spells = record {
   within = (
     spells.within.0,

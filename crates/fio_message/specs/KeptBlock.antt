@@ -23,8 +23,8 @@ block_octets number entries status stamp =
     ∷ (flat_map (λ entry. entry) entries ++ (status ∷ to_be_bytes w32 stamp))
 
 -- a block as it is sent again: with E set and G clear, all else as it was
-abbrev pub sent_again : Block → Block
-sent_again block = record {
+abbrev pub block_sent_again : Block → Block
+block_sent_again block = record {
   number = block.number;
   entries = block.entries;
   status = again_status block.status;

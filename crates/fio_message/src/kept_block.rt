@@ -1,7 +1,7 @@
 //! The octets of a block answer that are kept, so that they can be sent again.
 ghost use Rattle.std.specs.Prelude.{◌≡◌, ◌≤◌, ◌+◌, ◌++◌, [], length, take, Some, None};
 ghost use Rattle.fio_message.specs.Blocks.{Block, SpellsBlock};
-ghost use Rattle.fio_message.specs.KeptBlock.{kept_octets, no_block, block_octets, sent_again, marked_octets};
+ghost use Rattle.fio_message.specs.KeptBlock.{kept_octets, no_block, block_octets, block_sent_again, marked_octets};
 
 use crate::fields::EntryOctets;
 use crate::frames::Frame;
@@ -104,7 +104,7 @@ impl KeptBlock {
     pub fn mark_again(&mut self)
         ensures block { (block : Block)
             → SpellsBlock block (kept_octets self.old)
-            → SpellsBlock (sent_again block) (kept_octets self.new) }
+            → SpellsBlock (block_sent_again block) (kept_octets self.new) }
         ensures none { kept_octets self.old ≡ [] → kept_octets self.new ≡ [] }
     {
         let length = usize::from(self.length).min(FRAME_OCTETS);

@@ -6,14 +6,14 @@ use Rattle.fio_message.specs.declared.commands.Command.TheVariants.{Poll}
 use Rattle.fio_module.specs.Settings.{Settings}
 use Rattle.fio_module.specs.Life.{Life, Commanded}
 use Rattle.fio_module.specs.Blocks.{MadeBlock, latest_poll, is_new, blocks_of, next_block}
-use Rattle.fio_module.specs.Sendings.{Sending, latest_sending, first_sending, sent_again}
+use Rattle.fio_module.specs.Sendings.{Sending, latest_sending, first_sending, repeat_of}
 use Rattle.fio_module.specs.Laws.{Carries, SendingsCarry, SendingsAnswerPolls}
 
 carries-if : (new : Bool) (made : List MadeBlock) (block : MadeBlock) (fresh : Sending) (latest : Option Sending) (sending : Sending)
     → Carries fresh block
     → ((sending : Sending) → latest ≡ Some sending
     → (earlier : List MadeBlock) × (newest : MadeBlock) × (made ≡ earlier ++ newest ∷ []) × Carries sending newest)
-    → (if new then Some fresh else option_map sent_again latest) ≡ Some sending
+    → (if new then Some fresh else option_map repeat_of latest) ≡ Some sending
     → (earlier : List MadeBlock) × (newest : MadeBlock)
     × ((if new then made ++ block ∷ [] else made) ≡ earlier ++ newest ∷ []) × Carries sending newest
 carries-if true made block fresh latest sending carried known is =
@@ -23,7 +23,7 @@ carries-if true made block fresh latest sending carried known is =
 carries-if false made block fresh None sending carried known is = absurd (cc is)
 carries-if false made block fresh (Some before) sending carried known is =
     let old = known before refl in
-    let same : sent_again before ≡ sending = cc in
+    let same : repeat_of before ≡ sending = cc in
     let P : Sending → Type 0 = λ s. Carries s old.1 in (
       old.0,
       old.1,
@@ -47,7 +47,7 @@ sent_number latest = option_map (λ sending. sending.number) latest
 
 number-if : (latest : Option Sending) (fresh : Sending) (number : ℕ) → fresh.number ≡ number
     → Some number
-    ≡ sent_number (if is_new (sent_number latest) number then Some fresh else option_map sent_again latest)
+    ≡ sent_number (if is_new (sent_number latest) number then Some fresh else option_map repeat_of latest)
 number-if None fresh number is = ap Some (sym is)
 number-if (Some sending) fresh number is =
     elim (eqb_tells sending.number number) [
@@ -57,7 +57,7 @@ number-if (Some sending) fresh number is =
 
 number-after : (polled : Option ℕ) (latest : Option Sending) (fresh : Sending) (number : ℕ)
     → polled ≡ sent_number latest → fresh.number ≡ number
-    → Some number ≡ sent_number (if is_new polled number then Some fresh else option_map sent_again latest)
+    → Some number ≡ sent_number (if is_new polled number then Some fresh else option_map repeat_of latest)
 number-after polled latest fresh number same is = rw same (number-if latest fresh number is)
 
 -- the latest sending has the number of the latest poll

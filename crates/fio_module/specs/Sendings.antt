@@ -54,8 +54,8 @@ first_sending settings life number =
     sending_of (next_block settings life) number (is_out_of_sequence (latest_poll life) number)
 
 -- the same sent again: with E set and G clear, all else as it was
-abbrev pub sent_again : Sending → Sending
-sent_again sending =
+abbrev pub repeat_of : Sending → Sending
+repeat_of sending =
     record {
       number = sending.number;
       entries = sending.entries;
@@ -72,5 +72,5 @@ latest_sending settings [] = None
 latest_sending settings (Commanded (Poll number) ∷ life) =
     if is_new (latest_poll life) number
     then Some (first_sending settings life number)
-    else option_map sent_again (latest_sending settings life)
+    else option_map repeat_of (latest_sending settings life)
 latest_sending settings (other ∷ life) = latest_sending settings life

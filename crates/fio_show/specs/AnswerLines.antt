@@ -6,7 +6,7 @@ use Rattle.fio_message.specs.Answers.{other_answer_code}
 use Rattle.fio_message.specs.declared.fields.Entry.{Entry}
 use Rattle.fio_message.specs.declared.answers.Answer.{Answer}
 use Rattle.fio_message.specs.declared.answers.Answer.TheVariants.{Status, LoadCounter, ConfigureInputs, RawInputs, FilteredInputs, Block, Watchdog, Other}
-use Rattle.fio_input.specs.Widening.{widened}
+use Rattle.fio_input.specs.Widening.{wide_time_of}
 use Rattle.fio_show.specs.Digits.{digits_of, octet_digits}
 use Rattle.fio_show.specs.EntryLines.{entry_line}
 use Rattle.fio_show.specs.CommandLines.{other_text}
@@ -38,7 +38,7 @@ levels_text name inputs stamp =
 abbrev pub entry_text : ℕ → Entry → List ℕ
 entry_text stamp entry =
     codes "  "
-    ++ entry_line entry.input entry.level entry.stamp (widened stamp entry.stamp)
+    ++ entry_line entry.input entry.level entry.stamp (wide_time_of stamp entry.stamp)
 
 -- the first line for a block answer
 abbrev pub block_head_text : ℕ → ℕ → ℕ → ℕ → List ℕ

@@ -8,17 +8,17 @@ use Rattle.fio_show.specs.AnswerLines.{answer_text}
 use Rattle.fio_show.specs.CommandLines.{command_text}
 
 -- the lines for a message, or the words of the fault of its octets
-abbrev pub shown : {M : Type 0} → (M → List ℕ) → Result M DecodeError → Result (List ℕ) (List ℕ)
-shown text (Ok message) = Ok (text message)
-shown text (Err fault) = Err (fault_text fault)
+abbrev pub text_or_fault : {M : Type 0} → (M → List ℕ) → Result M DecodeError → Result (List ℕ) (List ℕ)
+text_or_fault text (Ok message) = Ok (text message)
+text_or_fault text (Err fault) = Err (fault_text fault)
 
 -- the lines of the command that octets spell, or the words of their fault
 abbrev pub shown_command : List ℕ → Result (List ℕ) (List ℕ)
-shown_command octets = shown command_text (decoded_command octets)
+shown_command octets = text_or_fault command_text (decoded_command octets)
 
 -- the lines of the answer that octets spell, or the words of their fault
 abbrev pub shown_answer : List ℕ → Result (List ℕ) (List ℕ)
-shown_answer octets = shown answer_text (decoded_answer octets)
+shown_answer octets = text_or_fault answer_text (decoded_answer octets)
 
 -- the lines for a frame: an answer where its first octet is 128 or more, else a command
 abbrev pub shown_frame : List ℕ → Result (List ℕ) (List ℕ)

@@ -17,7 +17,7 @@ use Rattle.fio_message.specs.declared.commands.Command.{Command}
 use Rattle.fio_message.specs.declared.commands.Command.TheVariants as commands
 use Rattle.fio_cpu.specs.Hearing.{after_hearing, heard_as}
 use Rattle.fio_cpu.specs.Poller.{Polling}
-use Rattle.fio_cpu.specs.Record.{item_of, recorded}
+use Rattle.fio_cpu.specs.Record.{item_of, items_of_block}
 use Rattle.fio_cpu.specs.declared.poller.Heard.TheVariants as Heard
 use Rattle.fio_cpu.specs.declared.record.Item.{Item}
 use Rattle.fio_cpu.specs.declared.record.Item.TheVariants.{Gap}
@@ -155,21 +155,21 @@ same-breach line above entries items None counts = refl
 same-breach line above entries items (Some breach) counts =
     ap (λ known. Some (record { line = line; input = breach.input; rule = breach.rule; above = known })) (take-same items above entries breach.entry counts)
 
-length-recorded : (lost : Bool) (stamp : ℕ) (entries : List EntryOf) → length entries ≤ length ((if lost then Gap ∷ [] else []) ++ map (item_of stamp) entries)
-length-recorded true stamp entries = omega (arith, length-map entries (item_of stamp))
-length-recorded false stamp entries = omega (arith, length-map entries (item_of stamp))
+length-items_of_block : (lost : Bool) (stamp : ℕ) (entries : List EntryOf) → length entries ≤ length ((if lost then Gap ∷ [] else []) ++ map (item_of stamp) entries)
+length-items_of_block true stamp entries = omega (arith, length-map entries (item_of stamp))
+length-items_of_block false stamp entries = omega (arith, length-map entries (item_of stamp))
 
 -- a block that is taken
 taken-step : (cpu : Polling) (line : ℕ) (block : Block)
-    → FrameStep (Some cpu) (Some (record { number = (cpu.number + 1) % 256; items = cpu.items ++ recorded block })) (Some ((cpu.number + 1) % 256)) line (length block.entries) (events_of_block block)
+    → FrameStep (Some cpu) (Some (record { number = (cpu.number + 1) % 256; items = cpu.items ++ items_of_block block })) (Some ((cpu.number + 1) % 256)) line (length block.entries) (events_of_block block)
 taken-step cpu line block =
-    let whole = cpu.items ++ recorded block in
-    let long = length-append cpu.items (recorded block) in
-    let few = length-recorded (says_lost block.status) block.stamp block.entries in
+    let whole = cpu.items ++ items_of_block block in
+    let long = length-append cpu.items (items_of_block block) in
+    let few = length-items_of_block (says_lost block.status) block.stamp block.entries in
     let counts : (length whole - length block.entries) + length block.entries ≡ length whole = omega (arith, long, few) in
     record {
       numbers = refl;
-      items = ap (λ more. cpu.items ++ more) (recorded-items (recorded block) (says_more block.status));
+      items = ap (λ more. cpu.items ++ more) (recorded-items (items_of_block block) (says_more block.status));
       broken = λ facts.
           block_broken facts cpu.items whole line (length whole - length block.entries) block refl counts
           ∙ same-breach line (length whole - length block.entries) (length block.entries) whole (breach_among facts 0 (events_of_block block)) counts;
@@ -177,7 +177,7 @@ taken-step cpu line block =
 
 -- the same of any block, by whether it is taken
 block-step : (cpu : Polling) (line : ℕ) (block : Block) (taken : Bool) → (taken ≡ true → block.number ≡ cpu.number)
-    → FrameStep (Some cpu) (Some (if taken then record { number = (cpu.number + 1) % 256; items = cpu.items ++ recorded block } else cpu))
+    → FrameStep (Some cpu) (Some (if taken then record { number = (cpu.number + 1) % 256; items = cpu.items ++ items_of_block block } else cpu))
     (if taken then Some ((block.number + 1) % 256) else Some cpu.number) line (entries_heard (if taken then Heard.Block (length block.entries) block.status else Heard.Stale block.number))
     (if taken then events_of_block block else [])
 block-step cpu line block true same = rw (same refl) (taken-step cpu line block)

@@ -3,7 +3,7 @@ use Rattle.std.proofs.Common.{◌≡◌, ◌≢◌, ◌<◌, ◌≤◌, ◌∙�
 use Rattle.std.specs.Prelude.{option_map, slice_get, unwrap_or, if◌then◌else◌}
 use Rattle.std.proofs.lemmas.Option.{same_Some}
 use Rattle.std.specs.Result.{result_err}
-use Rattle.fio_world.specs.Collected.{collected, with_first}
+use Rattle.fio_world.specs.FirstFaults.{values_or_fault, with_first}
 use Rattle.fio_world.specs.Lines.{lines_of, numbered, with_front, is_skipped}
 use Rattle.fio_check.specs.Facts.{facts_at, facts_with}
 use Rattle.fio_check.specs.Lines.{TranscriptLine}
@@ -68,7 +68,7 @@ dropped-first (first ∷ lines) (suc place) line rest is =
 -- ---- the course of the pass
 
 pub record IsCourse (lines : List TranscriptLine) (frames : ℕ) (left : List (ℕ × List ℕ)) (facts : Facts) (breach : Option Verdict) : Type 0 where
-  pub left_is : collected (map line_in left) ≡ Ok (drop frames lines)
+  pub left_is : values_or_fault (map line_in left) ≡ Ok (drop frames lines)
   pub within : frames ≤ length lines
   pub stands : StandsSoFar lines frames facts breach
 
@@ -113,7 +113,7 @@ pub next_course : (lines : List TranscriptLine) (frames number : ℕ) (text : Li
     → (breach ≡ None → breach' ≡ None → facts' ≡ facts_with facts said)
     → IsCourse lines (frames + 1) left facts' breach'
 next_course lines frames number text left line said facts facts' breach breach' reads numbered says course same broken added =
-    let first = first-left line (collected (map line_in left)) (drop frames lines) (rw reads at course.left_is) in
+    let first = first-left line (values_or_fault (map line_in left)) (drop frames lines) (rw reads at course.left_is) in
     let cut = dropped-first lines frames line first.0 first.2 in
     let broken_by = λ (none : breach ≡ None). broken none ∙ ap (λ s. option_map (Broken number) (first_broken facts s)) says in
     let added_by = λ (none : breach ≡ None) (holds : breach' ≡ None). added none holds ∙ ap (facts_with facts) says in
@@ -123,7 +123,7 @@ next_course lines frames number text left line said facts facts' breach breach' 
       stands = rw add-one (next-stands lines frames line cut.0 facts facts' breach breach' same (rw numbered broken_by) added_by course.stands);
     }
 
-none-left : (lines : List TranscriptLine) (frames : ℕ) → collected (map line_in []) ≡ Ok (drop frames lines) → frames ≤ length lines → frames ≡ length lines
+none-left : (lines : List TranscriptLine) (frames : ℕ) → values_or_fault (map line_in []) ≡ Ok (drop frames lines) → frames ≤ length lines → frames ≡ length lines
 none-left lines frames left within =
     let none : drop frames lines ≡ [] = cc in
     let count = sym (length-drop frames lines) ∙ ap length none in

@@ -8,7 +8,7 @@ use Rattle.fio_message.specs.Commands.{command_length}
 use Rattle.fio_message.specs.Answers.{answer_length}
 use Rattle.fio_message.specs.Reading.{command_at, answer_at}
 use Rattle.fio_cpu.specs.Poller.{Polling}
-use Rattle.fio_world.specs.Collected.{collected}
+use Rattle.fio_world.specs.FirstFaults.{values_or_fault}
 use Rattle.fio_check.specs.Lines.{TranscriptLine}
 use Rattle.fio_check.specs.ContentCheckers.{ContentKept, content_found, kept_with, nothing_kept}
 use Rattle.fio_check.specs.ContentKept.{content_kept}
@@ -67,20 +67,20 @@ long_passed recording number line from_cpu (Some octets) count found framed coun
 
 pub record IsRecordingSoFar (lines : List TranscriptLine) (left : List (ℕ × List ℕ)) (recording : Recording) : Type 0 where
   pub rest : List TranscriptLine
-  pub left_is : collected (map line_in left) ≡ Ok rest
+  pub left_is : values_or_fault (map line_in left) ≡ Ok rest
   pub whole : fold poller_with recording.cpu rest ≡ poller_of lines
   pub course : IsBrokenSoFar lines rest recording.cpu (content_kept recording.checker) recording.broken
 
 -- the first of the lines that are left, and the lines below it
 split-first : (first : Result TranscriptLine TraceError) (more : List (Result TranscriptLine TraceError)) (rest : List TranscriptLine)
-    → collected (first ∷ more) ≡ Ok rest
-    → (line : TranscriptLine) × (below : List TranscriptLine) × (first ≡ Ok line) × (collected more ≡ Ok below) × (rest ≡ line ∷ below)
+    → values_or_fault (first ∷ more) ≡ Ok rest
+    → (line : TranscriptLine) × (below : List TranscriptLine) × (first ≡ Ok line) × (values_or_fault more ≡ Ok below) × (rest ≡ line ∷ below)
 split-first (Ok line) more rest is =
-    let left = first-left line (collected more) rest is in (line, left.0, refl, left.1, left.2)
+    let left = first-left line (values_or_fault more) rest is in (line, left.0, refl, left.1, left.2)
 split-first (Err e) more rest is = absurd (cc)
 
 -- before the first line
-pub recording_first : (lines : List TranscriptLine) (left : List (ℕ × List ℕ)) (recording : Recording) → collected (map line_in left) ≡ Ok lines
+pub recording_first : (lines : List TranscriptLine) (left : List (ℕ × List ℕ)) (recording : Recording) → values_or_fault (map line_in left) ≡ Ok lines
     → recording.cpu ≡ None → content_kept recording.checker ≡ nothing_kept → recording.broken ≡ None → IsRecordingSoFar lines left recording
 recording_first lines left recording reads none nothing unbroken = record {
   rest = lines;

@@ -7,7 +7,7 @@ use Rattle.fio_check.specs.Observations.{observation_in}
 use Rattle.fio_check.specs.declared.observation.Observation.{Observation}
 use Rattle.fio_check.specs.Verdicts.{verdict_on}
 use Rattle.fio_check.specs.declared.verdict.Verdict.{Verdict}
-use Rattle.fio_world.specs.Collected.{collected}
+use Rattle.fio_world.specs.FirstFaults.{values_or_fault}
 use Rattle.fio_world.specs.Hexadecimal.{octets_in}
 use Rattle.fio_world.specs.Lines.{lines_of, numbered}
 use Rattle.fio_world.specs.Words.{after_prefix}
@@ -37,7 +37,7 @@ line_in (number, line) = ok_or
 
 -- the lines of a transcript, or the first line that is no frame
 abbrev pub transcript_in : List ℕ → Result (List TranscriptLine) TraceError
-transcript_in text = collected (map line_in (numbered 1 (lines_of text)))
+transcript_in text = values_or_fault (map line_in (numbered 1 (lines_of text)))
 
 -- some line is a frame, and all lines above it are: it is these that a list of lines asks room for
 pub record HasFrameToKeep (text : List ℕ) : Type 0 where

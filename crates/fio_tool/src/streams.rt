@@ -6,7 +6,7 @@ ghost use Rattle.fio_tool.specs.Streams.{TakesAtMost, TakesInput};
 ghost use Rattle.fio_tool.specs.Program.{ending_of};
 
 use crate::endings::{Ending, ToolFault};
-use crate::text::MAX_INPUT;
+use crate::tool_texts::MAX_INPUT;
 use fio_world::Report;
 use std::alloc::Global;
 use std::io::{Read, Write};

@@ -8,7 +8,7 @@ ghost use Rattle.fio_tool.specs.declared.streams.TheConstants.{MOST_READ};
 use crate::endings::{Ending, ToolFault};
 use crate::help;
 use crate::streams::{read_input, write_report};
-use crate::text::{check_text, record_text, show_text, simulate_text};
+use crate::tool_texts::{check_text, record_text, show_text, simulate_text};
 use fio_message::Memory;
 use fio_world::Report;
 use std::alloc::Global;

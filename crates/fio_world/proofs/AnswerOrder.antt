@@ -2,7 +2,7 @@
 use Rattle.std.proofs.Common.{◌≡◌, ℕ, ◌+◌, ◌<◌, ◌≤◌, List, [], ◌∷◌, ◌++◌, None, arith}
 use Rattle.fio_message.specs.Blocks.{Block}
 use Rattle.fio_message.specs.Decoding.{block_in}
-use Rattle.fio_world.specs.Link.{Sent}
+use Rattle.fio_world.specs.Link.{SentFrame}
 use Rattle.fio_world.specs.Frames.{HasBlock}
 use Rattle.fio_world.specs.Rounds.{BlockAnswersAreInOrder}
 use Rattle.fio_world.proofs.SentMessages.{each_more, none_more, rise_more}
@@ -17,9 +17,9 @@ answers-none next =
       behind = omega arith;
     }
 
-module _ (frames : List Sent) (last round next : ℕ) (o : BlockAnswersAreInOrder frames last round next) where
+module _ (frames : List SentFrame) (last round next : ℕ) (o : BlockAnswersAreInOrder frames last round next) where
   -- one more frame is sent, which is no block answer
-  pub answers-other : (f : Sent) → block_in f.octets ≡ None
+  pub answers-other : (f : SentFrame) → block_in f.octets ≡ None
       → BlockAnswersAreInOrder (frames ++ f ∷ []) last round next
   answers-other f none =
       record {
@@ -32,7 +32,7 @@ module _ (frames : List Sent) (last round next : ℕ) (o : BlockAnswersAreInOrde
 
   -- one more block answer is sent, to a poll that has been received now, whose round is not below
   -- the newest
-  pub answers-more : (f : Sent) (r : ℕ) → f.round ≡ r → next ≤ r + 1
+  pub answers-more : (f : SentFrame) (r : ℕ) → f.round ≡ r → next ≤ r + 1
       → BlockAnswersAreInOrder (frames ++ f ∷ []) last round (r + 1)
   answers-more f r is high =
       let behind : round ≤ next = o.behind in

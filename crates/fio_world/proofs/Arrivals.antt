@@ -26,9 +26,9 @@ use Rattle.fio_cpu.specs.declared.record.Item.TheVariants as items
 use Rattle.fio_cpu.specs.Record.{item_of}
 use Rattle.fio_world.specs.Link.{Machine}
 use Rattle.fio_world.specs.Claims.{blocks_in, IsInTime}
-use Rattle.fio_world.specs.Pieces.{Got, piece_of}
+use Rattle.fio_world.specs.Pieces.{EntryPiece, piece_of}
 use Rattle.fio_world.specs.Headline.{end_taken}
-use Rattle.fio_world.specs.InTime.{timed_item, arrived}
+use Rattle.fio_world.specs.InTime.{timed_item, transitions_arrived}
 use Rattle.fio_world.specs.StartingAnew.{in_blocks_since}
 use Rattle.fio_world.proofs.MadeBlocks.{each-append, each-take, each-map}
 use Rattle.fio_world.proofs.OneLife.{recorded_of}
@@ -125,9 +125,9 @@ timed_entries block limit least (t ∷ ts) few low timely young loads =
 
 -- what a block is in the record, without times
 pub got_entries : (stamp : ℕ) (ts : List Transition)
-    → map piece_of (map (item_of stamp) (map entry_of ts)) ≡ map (λ transition. Got (entry_of transition)) ts
+    → map piece_of (map (item_of stamp) (map entry_of ts)) ≡ map (λ transition. EntryPiece (entry_of transition)) ts
 got_entries stamp [] = refl
-got_entries stamp (t ∷ ts) = ap (λ ps. Got (entry_of t) ∷ ps) (got_entries stamp ts)
+got_entries stamp (t ∷ ts) = ap (λ ps. EntryPiece (entry_of t) ∷ ps) (got_entries stamp ts)
 
 -- a block before which nothing was lost has no gap mark in the record
 no_mark : (block : MadeBlock) → block.lost ≡ false
@@ -137,14 +137,14 @@ no_mark block none =
 
 -- what such blocks are in the record
 got_punctual : (most filter : ℕ) (blocks : List MadeBlock) → AllByRecursion (IsPunctual most filter) blocks
-    → map piece_of (flat_map recorded_of blocks) ≡ map (λ transition. Got (entry_of transition)) (transitions_in blocks)
+    → map piece_of (flat_map recorded_of blocks) ≡ map (λ transition. EntryPiece (entry_of transition)) (transitions_in blocks)
 got_punctual most filter [] all = refl
 got_punctual most filter (block ∷ blocks) all =
     map-append piece_of (recorded_of block) (flat_map recorded_of blocks)
     ∙ ap (λ its. map piece_of its ++ map piece_of (flat_map recorded_of blocks)) (no_mark block all.0.not_lost)
     ∙ ap (λ ps. ps ++ map piece_of (flat_map recorded_of blocks)) (got_entries block.stamp block.transitions)
-    ∙ ap (λ ps. map (λ transition. Got (entry_of transition)) block.transitions ++ ps) (got_punctual most filter blocks all.1)
-    ∙ sym (map-append (λ transition. Got (entry_of transition)) block.transitions (transitions_in blocks))
+    ∙ ap (λ ps. map (λ transition. EntryPiece (entry_of transition)) block.transitions ++ ps) (got_punctual most filter blocks all.1)
+    ∙ sym (map-append (λ transition. EntryPiece (entry_of transition)) block.transitions (transitions_in blocks))
 
 timed_punctual : (most filter least : ℕ) (blocks : List MadeBlock) → most + filter ≤ 65537
     → AllByRecursion (IsPunctual most filter) blocks → AllByRecursion BlockTimely blocks
@@ -209,12 +209,12 @@ module _ (settings : Settings) (range : AreInRange settings) (filter scans most 
   -- where the record has gained what those blocks are, it has gained those transitions
   pub whole_since : last.items ≡ machine.items ++ flat_map recorded_of made_since.made
       → map piece_of last.items
-      ≡ map piece_of machine.items ++ map (λ transition. Got (entry_of transition)) (in_blocks_since settings machine last)
+      ≡ map piece_of machine.items ++ map (λ transition. EntryPiece (entry_of transition)) (in_blocks_since settings machine last)
   whole_since gained =
       ap (map piece_of) gained
       ∙ map-append piece_of machine.items (flat_map recorded_of made_since.made)
       ∙ ap (λ ps. map piece_of machine.items ++ ps) (got_punctual most filter made_since.made made_since.punctual)
-      ∙ ap (λ ts. map piece_of machine.items ++ map (λ transition. Got (entry_of transition)) ts) are_logged
+      ∙ ap (λ ts. map piece_of machine.items ++ map (λ transition. EntryPiece (entry_of transition)) ts) are_logged
 
   -- each of them was logged after as many loads at least as there had been
   logged_loads : AllByRecursion (HasLoadsSince (loads_of life)) (in_blocks_since settings machine last)
@@ -288,7 +288,7 @@ module _ (settings : Settings) (range : AreInRange settings) (first filter scans
   made = made_since settings range filter scans most behind machine last later r.since r.near r.now k
 
   -- what those blocks hold is what arrived
-  are_arrived : in_blocks_since settings machine last ≡ arrived settings machine last
+  are_arrived : in_blocks_since settings machine last ≡ transitions_arrived settings machine last
   are_arrived = ap (λ n. drop (length (log_of then_life)) (take n (log_of last_life))) (sym (taken_end settings last r.all_taken))
 
   -- the record has gained what those blocks are
@@ -300,13 +300,13 @@ module _ (settings : Settings) (range : AreInRange settings) (first filter scans
       ∙ ap (λ its. its ++ flat_map recorded_of made.made) (sym (all_recorded settings first machine b taken))
 
   pub whole : map piece_of last.items
-      ≡ map piece_of machine.items ++ map (λ transition. Got (entry_of transition)) (arrived settings machine last)
+      ≡ map piece_of machine.items ++ map (λ transition. EntryPiece (entry_of transition)) (transitions_arrived settings machine last)
   whole =
       whole_since settings range filter scans most behind machine last later r.since r.near r.now k gained
-      ∙ ap (λ ts. map piece_of machine.items ++ map (λ transition. Got (entry_of transition)) ts) are_arrived
+      ∙ ap (λ ts. map piece_of machine.items ++ map (λ transition. EntryPiece (entry_of transition)) ts) are_arrived
 
   pub times : loads_of last_life ≡ loads_of then_life → most + filter ≤ 65537
-      → last.items ≡ machine.items ++ map timed_item (arrived settings machine last)
+      → last.items ≡ machine.items ++ map timed_item (transitions_arrived settings machine last)
   times none few =
       times_since settings range filter scans most behind machine last later r.since r.near r.now k gained none few
       ∙ ap (λ ts. machine.items ++ map timed_item ts) are_arrived

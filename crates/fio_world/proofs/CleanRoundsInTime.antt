@@ -14,10 +14,10 @@ use Rattle.fio_module.specs.KeepingUp.{scans_behind}
 use Rattle.fio_module.proofs.Stretches.{blocks_old, behind_new, behind_more, behind_each, after_block}
 use Rattle.fio_module.proofs.Ages.{scans_in-append}
 use Rattle.fio_module.proofs.NewLevels.{scans_of-append}
-use Rattle.fio_cpu.specs.Record.{recorded}
+use Rattle.fio_cpu.specs.Record.{items_of_block}
 use Rattle.fio_world.specs.declared.event.Event.{Event}
 use Rattle.fio_world.specs.declared.event.Event.TheVariants as events
-use Rattle.fio_world.specs.Link.{Sent, Machine, number_of, item_numbered, received, heard_block, heard, after, Leads}
+use Rattle.fio_world.specs.Link.{SentFrame, Machine, number_of, item_numbered, after_delivery_to_module, after_delivered_block, after_delivery_to_cpu, after, Leads}
 use Rattle.fio_world.specs.Headline.{IsNotRestart, HaveNoRestart}
 use Rattle.fio_world.specs.Claims.{blocks_in}
 use Rattle.fio_world.specs.Rounds.{next_round}
@@ -47,8 +47,8 @@ grows-command life None = ([], refl, omega arith)
 grows-command life (Some (ConfigureInputs items)) = (Commanded (ConfigureInputs items) ∷ [], refl, omega arith)
 grows-command life (Some command) = (Commanded command ∷ [], refl, omega arith)
 
-grows-received : (settings : Settings) (machine : Machine) (index : ℕ) (found : Option Sent)
-    → Grows machine (received settings machine index found) 0
+grows-received : (settings : Settings) (machine : Machine) (index : ℕ) (found : Option SentFrame)
+    → Grows machine (after_delivery_to_module settings machine index found) 0
 grows-received settings machine index None =
     record { stretch = []; life = refl; few = omega arith; round = omega arith }
 grows-received settings machine index (Some frame) =
@@ -58,21 +58,21 @@ grows-received settings machine index (Some frame) =
 -- a frame that is delivered to the CPU
 grows-taken : (machine before : Machine) (block : Block) (same : Bool) → life_of before.history ≡ life_of machine.history
     → machine.round ≤ before.round
-    → Grows machine (if same then record before { round = before.round + 1; items = before.items ++ recorded block } else before) 0
+    → Grows machine (if same then record before { round = before.round + 1; items = before.items ++ items_of_block block } else before) 0
 grows-taken machine before block true life round =
     record { stretch = []; life = life; few = omega arith; round = omega arith }
 grows-taken machine before block false life round =
     record { stretch = []; life = life; few = omega arith; round = omega arith }
 
 grows-block : (first : ℕ) (machine before : Machine) (found : Option Block) → life_of before.history ≡ life_of machine.history
-    → machine.round ≤ before.round → Grows machine (heard_block first before found) 0
+    → machine.round ≤ before.round → Grows machine (after_delivered_block first before found) 0
 grows-block first machine before None life round =
     record { stretch = []; life = life; few = omega arith; round = omega arith }
 grows-block first machine before (Some block) life round =
     grows-taken machine before block (block.number == number_of first before.round) life round
 
-grows-heard : (first : ℕ) (machine : Machine) (index : ℕ) (found : Option Sent)
-    → Grows machine (heard first machine index found) 0
+grows-heard : (first : ℕ) (machine : Machine) (index : ℕ) (found : Option SentFrame)
+    → Grows machine (after_delivery_to_cpu first machine index found) 0
 grows-heard first machine index None =
     record { stretch = []; life = refl; few = omega arith; round = omega arith }
 grows-heard first machine index (Some frame) =

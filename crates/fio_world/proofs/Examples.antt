@@ -3,7 +3,7 @@ use Rattle.std.proofs.Common.{◌≡◌, ℕ, ◌-◌, ◌^◌, false, true, Lis
 use Rattle.fio_message.specs.declared.commands.Command.TheVariants as commands
 use Rattle.fio_message.specs.Bits.{is_set}
 use Rattle.fio_message.specs.Decoding.{message_in}
-use Rattle.fio_input.specs.Widening.{widened}
+use Rattle.fio_input.specs.Widening.{wide_time_of}
 use Rattle.fio_module.specs.Settings.{Settings, standard_settings}
 use Rattle.fio_module.specs.Log.{transitions_below}
 use Rattle.fio_cpu.specs.declared.record.Item.{Item}
@@ -53,13 +53,13 @@ lost_and_doubled : ending (done (standard_settings 2) 255 start (opened 0 ∷ To
           ∷ (182 ∷ 255 ∷ 1 ∷ 0 ∷ 0 ∷ 1 ∷ 2 ∷ 0 ∷ 0 ∷ 0 ∷ 1 ∷ [])
           ∷ (182 ∷ 0 ∷ 1 ∷ 128 ∷ 0 ∷ 2 ∷ 0 ∷ 0 ∷ 0 ∷ 0 ∷ 2 ∷ []) ∷ [];
     }
-unfolding message_in is_set widened transitions_below
+unfolding message_in is_set wide_time_of transitions_below
 lost_and_doubled = refl
 
 -- a poll lost: no sign of it
 poll_lost : ending (done (standard_settings 2) 0 start (Poll ∷ Poll ∷ ToModule 2 ∷ ToCpu 1 ∷ []))
     ≡ record { round = 1; items = []; answers = (182 ∷ 0 ∷ 0 ∷ 0 ∷ 0 ∷ 0 ∷ 0 ∷ 0 ∷ []) ∷ [] }
-unfolding message_in is_set widened transitions_below
+unfolding message_in is_set wide_time_of transitions_below
 poll_lost = refl
 
 -- two polls of one number in flight: the second answer says so and is stale
@@ -69,14 +69,14 @@ two_polls : ending (done (standard_settings 2) 0 start (Poll ∷ Poll ∷ ToModu
       items = [];
       answers = (182 ∷ 0 ∷ 0 ∷ 0 ∷ 0 ∷ 0 ∷ 0 ∷ 0 ∷ []) ∷ (182 ∷ 0 ∷ 0 ∷ 2 ∷ 0 ∷ 0 ∷ 0 ∷ 0 ∷ []) ∷ [];
     }
-unfolding message_in is_set widened transitions_below
+unfolding message_in is_set wide_time_of transitions_below
 two_polls = refl
 
 -- with one entry a block and two that may wait, four transitions: two are pushed out and one still waits
 pushed_out : (done (record { id = 2; per_block = 1; waiting = 2 }) 0 start (opened 0 ∷ ToModule 1 ∷ Scan zero_low ∷ Scan all_high
     ∷ Scan zero_low ∷ Scan all_high ∷ Poll ∷ ToModule 2 ∷ ToCpu 2 ∷ Poll ∷ ToModule 3 ∷ ToCpu 3 ∷ [])).items
     ≡ Gap ∷ Entry 0 false 3 3 ∷ Entry 0 true 4 4 ∷ []
-unfolding message_in is_set widened transitions_below
+unfolding message_in is_set wide_time_of transitions_below
 pushed_out = refl
 
 -- a restart, after which the same poll is received again: what was under way is taken once
@@ -87,14 +87,14 @@ restarted : ending (done (standard_settings 2) 0 start (opened 0 ∷ ToModule 1 
       items = Entry 0 false 1 1 ∷ [];
       answers = (179 ∷ 0 ∷ []) ∷ (182 ∷ 0 ∷ 1 ∷ 0 ∷ 0 ∷ 1 ∷ 0 ∷ 0 ∷ 0 ∷ 0 ∷ 1 ∷ []) ∷ (182 ∷ 0 ∷ 0 ∷ 0 ∷ 0 ∷ 0 ∷ 0 ∷ 0 ∷ []) ∷ [];
     }
-unfolding message_in is_set widened transitions_below
+unfolding message_in is_set wide_time_of transitions_below
 restarted = refl
 
 -- and where the answer from before the restart is lost, so is its entry, with no gap mark
 lost_over_restart : (done (standard_settings 2) 0 start (opened 0 ∷ ToModule 1 ∷ Scan zero_low ∷ Poll ∷ ToModule 2 ∷ Restart
     ∷ ToModule 2 ∷ ToCpu 3 ∷ [])).items
     ≡ []
-unfolding message_in is_set widened transitions_below
+unfolding message_in is_set wide_time_of transitions_below
 lost_over_restart = refl
 
 -- the refusals

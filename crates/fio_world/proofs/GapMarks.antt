@@ -12,7 +12,7 @@ use Rattle.fio_module.specs.Log.{Transition, entry_of, log_of}
 use Rattle.fio_module.specs.Blocks.{MadeBlock, latest_poll, is_new, blocks_of, next_block, newest_end}
 use Rattle.fio_module.proofs.Stretches.{blocks_new, blocks_old}
 use Rattle.fio_world.specs.Link.{Machine}
-use Rattle.fio_world.specs.Pieces.{Piece, Gap, Got, piece_of, pieces_of, taken}
+use Rattle.fio_world.specs.Pieces.{Piece, Gap, EntryPiece, piece_of, pieces_of, pieces_of_blocks}
 use Rattle.fio_world.specs.Claims.{blocks_in}
 use Rattle.fio_world.specs.Delivery.{GapsNameTimes}
 use Rattle.fio_world.proofs.Places.{get_after_push}
@@ -22,7 +22,7 @@ some_pushed : (before len limit : ℕ) → nat_lt before (max before (len - limi
 some_pushed before len limit lost = grind (arith, nat_tests)
 
 abbrev got : List Transition → List Piece
-got transitions = map (λ transition. Got (entry_of transition)) transitions
+got transitions = map (λ transition. EntryPiece (entry_of transition)) transitions
 
 -- a gap mark stands behind these entries
 record StandsBehind (front back : List Piece) (place : ℕ) : Type 0 where
@@ -36,7 +36,7 @@ behind_entries [] back place is = record { behind = place; there = is; before = 
 behind_entries (t ∷ transitions) back zero is = absurd (cc is)
 behind_entries (t ∷ transitions) back (suc place) is =
     let rest = behind_entries transitions back place is in
-    record { behind = rest.behind; there = rest.there; before = ap (λ ps. Got (entry_of t) ∷ ps) rest.before }
+    record { behind = rest.behind; there = rest.there; before = ap (λ ps. EntryPiece (entry_of t) ∷ ps) rest.before }
 
 -- it is that of a block, or stands behind what the block is in the record
 behind_block : (lost : Bool) (transitions : List Transition) (back : List Piece) (place : ℕ)
@@ -55,21 +55,21 @@ record IsMarkOf (blocks : List MadeBlock) (count place : ℕ) : Type 0 where
   pub block : MadeBlock
   pub there : slice_get blocks number ≡ Some block
   pub said : block.lost ≡ true
-  pub before : take place (taken count blocks) ≡ taken number blocks
+  pub before : take place (pieces_of_blocks count blocks) ≡ pieces_of_blocks number blocks
 
-mark_of : (count : ℕ) (blocks : List MadeBlock) (place : ℕ) → slice_get (taken count blocks) place ≡ Some Gap
+mark_of : (count : ℕ) (blocks : List MadeBlock) (place : ℕ) → slice_get (pieces_of_blocks count blocks) place ≡ Some Gap
     → IsMarkOf blocks count place
 mark_of zero blocks place is = absurd (cc is)
 mark_of (suc count) [] place is = absurd (cc is)
 mark_of (suc count) (block ∷ blocks) place is =
-    elim (behind_block block.lost block.transitions (taken count blocks) place is) as (λ _. IsMarkOf (block ∷ blocks) (suc count) place) [
+    elim (behind_block block.lost block.transitions (pieces_of_blocks count blocks) place is) as (λ _. IsMarkOf (block ∷ blocks) (suc count) place) [
       | inl own ↦
           record {
             number = 0;
             block = block;
             there = refl;
             said = own.1;
-            before = ap (λ n. take n (taken (suc count) (block ∷ blocks))) own.0;
+            before = ap (λ n. take n (pieces_of_blocks (suc count) (block ∷ blocks))) own.0;
           }
       | inr later ↦
           let rest = mark_of count blocks later.behind later.there in
@@ -149,7 +149,7 @@ was_made_by settings (other ∷ life) place block is =
 
 -- each gap mark names its time
 pub gaps_name_times : (settings : Settings) (machine : Machine)
-    → map piece_of machine.items ≡ taken machine.round (blocks_in settings machine) → GapsNameTimes settings machine
+    → map piece_of machine.items ≡ pieces_of_blocks machine.round (blocks_in settings machine) → GapsNameTimes settings machine
 gaps_name_times settings machine items place is =
     let blocks = blocks_in settings machine in
     let mark = slice_get-map piece_of machine.items place ∙ ap (option_map piece_of) is in

@@ -6,8 +6,8 @@ use Rattle.fio_message.specs.Blocks.{Block}
 use Rattle.fio_message.specs.Decoding.{block_in}
 use Rattle.fio_module.specs.Settings.{Settings, AreInRange}
 use Rattle.fio_module.specs.Log.{whole_log}
-use Rattle.fio_cpu.specs.Record.{recorded}
-use Rattle.fio_world.specs.Link.{Sent, Machine, number_of, heard_block, heard}
+use Rattle.fio_cpu.specs.Record.{items_of_block}
+use Rattle.fio_world.specs.Link.{SentFrame, Machine, number_of, after_delivered_block, after_delivery_to_cpu}
 use Rattle.fio_world.specs.Frames.{HasBlock}
 use Rattle.fio_world.specs.Rounds.{next_round}
 use Rattle.fio_world.proofs.RoundNumbers.{rounds_from_numbers}
@@ -21,7 +21,7 @@ use Rattle.fio_world.proofs.Kept.{HasInvariant}
 -- the machine after its CPU has taken the block of a frame at this place
 abbrev pub after_taken : Machine → ℕ → Block → Machine
 after_taken machine place block =
-    record machine { last_to_cpu = place + 1; round = machine.round + 1; items = machine.items ++ recorded block }
+    record machine { last_to_cpu = place + 1; round = machine.round + 1; items = machine.items ++ items_of_block block }
 
 module _ (settings : Settings) (range : AreInRange settings) (first : ℕ) (machine : Machine)
     (i : HasInvariant settings first machine) where
@@ -83,11 +83,11 @@ module _ (settings : Settings) (range : AreInRange settings) (first : ℕ) (mach
 
   -- the CPU hears a frame: what holds of the machine where it takes nothing, and where it takes the
   -- block of its round, holds of the machine after it
-  pub after_heard : (P : Machine → Type 0) (place : ℕ) (frame : Sent) → machine.last_to_cpu ≤ place + 1
+  pub after_heard : (P : Machine → Type 0) (place : ℕ) (frame : SentFrame) → machine.last_to_cpu ≤ place + 1
       → slice_get machine.to_cpu place ≡ Some frame
       → P (record machine { last_to_cpu = place + 1 })
       → ((answer : Block) → HasBlock machine.to_cpu place answer machine.round → P (after_taken machine place answer))
-      → P (heard first machine (place + 1) (Some frame))
+      → P (after_delivery_to_cpu first machine (place + 1) (Some frame))
   after_heard P place frame le at passed taken = of_block (block_in frame.octets) refl
     where
       of_number : (answer : Block) → HasBlock machine.to_cpu place answer frame.round
@@ -100,15 +100,15 @@ module _ (settings : Settings) (range : AreInRange settings) (first : ℕ) (mach
           taken answer (subst (HasBlock machine.to_cpu place answer) same block)
 
       of_block : (found : Option Block) → block_in frame.octets ≡ found
-          → P (heard_block first (record machine { last_to_cpu = place + 1 }) found)
+          → P (after_delivered_block first (record machine { last_to_cpu = place + 1 }) found)
       of_block None spells = passed
       of_block (Some answer) spells =
           of_number answer (record { frame = frame; at_place = at; spells = spells; of_round = refl })
           (answer.number == number_of first machine.round) refl
 
   -- the CPU hears a frame
-  pub keeps_heard : (place : ℕ) (frame : Sent) → machine.last_to_cpu ≤ place + 1
+  pub keeps_heard : (place : ℕ) (frame : SentFrame) → machine.last_to_cpu ≤ place + 1
       → slice_get machine.to_cpu place ≡ Some frame
-      → HasInvariant settings first (heard first machine (place + 1) (Some frame))
+      → HasInvariant settings first (after_delivery_to_cpu first machine (place + 1) (Some frame))
   keeps_heard place frame le at =
       after_heard (HasInvariant settings first) place frame le at (keeps_passed (place + 1) le) (keeps_taken place)

@@ -11,8 +11,8 @@ use Rattle.fio_module.specs.Settings.{Settings}
 use Rattle.fio_module.specs.Life.{History, Received, Life, life_of}
 use Rattle.fio_module.specs.Log.{Transition, whole_log}
 use Rattle.fio_module.specs.Blocks.{MadeBlock, latest_poll, is_new, blocks_of, next_block}
-use Rattle.fio_module.specs.Sendings.{Sending, is_out_of_sequence, first_sending, sent_again, latest_sending}
-use Rattle.fio_world.specs.Link.{Sent, Machine, number_of, answer_frames}
+use Rattle.fio_module.specs.Sendings.{Sending, is_out_of_sequence, first_sending, repeat_of, latest_sending}
+use Rattle.fio_world.specs.Link.{SentFrame, Machine, number_of, answer_frames}
 use Rattle.fio_world.specs.Frames.{HasPoll, received_numbers}
 use Rattle.fio_world.specs.Rounds.{PollsAreInOrder, next_round, PollsOf, BlockAnswersOf}
 use Rattle.fio_world.proofs.RoundNumbers.{number_of-next, rounds_from_numbers}
@@ -113,7 +113,7 @@ keeps_history first log log' blocks limit limit' latest latest' numbers makers m
 
 -- the machine after its module has received a frame at this place that is no poll, and these
 -- answers were sent
-abbrev pub after_other : Machine → ℕ → Sent → List Sent → Machine
+abbrev pub after_other : Machine → ℕ → SentFrame → List SentFrame → Machine
 after_other machine place frame answers =
     record machine {
       last_to_module = place + 1;
@@ -122,7 +122,7 @@ after_other machine place frame answers =
     }
 
 -- the same for a frame that is a poll
-abbrev pub after_poll : Machine → ℕ → Sent → List Sent → Machine
+abbrev pub after_poll : Machine → ℕ → SentFrame → List SentFrame → Machine
 after_poll machine place frame answers =
     record (after_other machine place frame answers) { polls = frame.round ∷ machine.polls }
 
@@ -133,7 +133,7 @@ blocks_if settings life new =
 
 abbrev pub sending_if : Settings → Life → ℕ → Bool → Option Sending
 sending_if settings life number new =
-    if new then Some (first_sending settings life number) else option_map sent_again (latest_sending settings life)
+    if new then Some (first_sending settings life number) else option_map repeat_of (latest_sending settings life)
 
 abbrev pub makers_if : List ℕ → ℕ → Bool → List ℕ
 makers_if makers round new = if new then makers ++ round ∷ [] else makers
@@ -141,7 +141,7 @@ makers_if makers round new = if new then makers ++ round ∷ [] else makers
 module _ (first : ℕ) (log : List Transition) (blocks : List MadeBlock) (limit : ℕ)
     (latest : Option ℕ) (numbers makers : List ℕ) (machine : Machine)
     (i : Invariant first log blocks limit latest numbers makers machine)
-    (place : ℕ) (frame : Sent) (in_order : machine.last_to_module ≤ place + 1) where
+    (place : ℕ) (frame : SentFrame) (in_order : machine.last_to_module ≤ place + 1) where
   -- the polls sent are in order after the delivery of any frame
   passed : PollsAreInOrder first machine.to_module (place + 1) machine.round (next_round machine.polls)
   passed =
@@ -166,7 +166,7 @@ module _ (first : ℕ) (log : List Transition) (blocks : List MadeBlock) (limit 
         rising = i.rising;
       })
   keeps_other (Some answer) other =
-      let f : Sent = record { octets = answer_octets answer; round = frame.round } in
+      let f : SentFrame = record { octets = answer_octets answer; round = frame.round } in
       let none : block_in (answer_octets answer) ≡ None = other answer refl in
       record {
         polls = passed;
@@ -187,7 +187,7 @@ module _ (first : ℕ) (log : List Transition) (blocks : List MadeBlock) (limit 
       → Invariant first log blocks' limit' (Some number) (number ∷ numbers) makers'
       (after_poll machine place frame (record { octets = octets; round = frame.round } ∷ []))
   keeps_poll number limit' blocks' makers' answer octets poll reads in_order' maker carry carries rises =
-      let f : Sent = record { octets = octets; round = frame.round } in
+      let f : SentFrame = record { octets = octets; round = frame.round } in
       let next = next_round machine.polls in
       let high : next ≤ frame.round + 1 = i.polls.ahead place number frame.round in_order poll in
       let named : number ≡ number_of first frame.round = i.polls.numbers place number frame.round poll in

@@ -1,5 +1,5 @@
 pub mod LineLemmas
-pub mod CollectedLemmas
+pub mod FirstFaultLemmas
 pub mod DigitLemmas
 pub mod OctetLemmas
 pub mod FrameWords

@@ -6,7 +6,7 @@ use Rattle.fio_message.specs.Status.{says_out_of_sequence}
 use Rattle.fio_message.specs.Decoding.{poll_in, block_in}
 use Rattle.fio_module.specs.Life.{Received, History, life_of}
 use Rattle.fio_module.specs.Blocks.{MadeBlock, latest_poll, is_new}
-use Rattle.fio_world.specs.Link.{Sent, number_of}
+use Rattle.fio_world.specs.Link.{SentFrame, number_of}
 use Rattle.fio_world.specs.Frames.{HasBlock}
 use Rattle.fio_world.specs.Rounds.{CarriesBlock}
 use Rattle.fio_world.proofs.Places.{get_before_push, get_after_push}
@@ -53,7 +53,7 @@ pub record CarriesMadeOf (first : ℕ) (blocks : List MadeBlock) (makers : List 
   pub carried : CarriesBlock answer block
 
 -- each block answer among these frames does
-abbrev pub AnswersCarryMade : ℕ → List MadeBlock → List ℕ → List Sent → Type 0
+abbrev pub AnswersCarryMade : ℕ → List MadeBlock → List ℕ → List SentFrame → Type 0
 AnswersCarryMade first blocks makers frames = (place : ℕ) (answer : Block) (round : ℕ) →
     HasBlock frames place answer round → CarriesMadeOf first blocks makers answer round
 
@@ -88,13 +88,13 @@ makers-new makers next round blocks block high o =
     }
 
 -- a frame is sent that is no block answer
-pub carry-other : (first : ℕ) (blocks : List MadeBlock) (makers : List ℕ) (frames : List Sent) (f : Sent)
+pub carry-other : (first : ℕ) (blocks : List MadeBlock) (makers : List ℕ) (frames : List SentFrame) (f : SentFrame)
     → block_in f.octets ≡ None
     → AnswersCarryMade first blocks makers frames → AnswersCarryMade first blocks makers (frames ++ f ∷ [])
 carry-other first blocks makers frames f none carry p a r h = carry p a r (none_more block_in frames f none p a r h)
 
 -- a block answer is sent that carries a block
-pub carry-more : (first : ℕ) (blocks : List MadeBlock) (makers : List ℕ) (frames : List Sent) (f : Sent) (answer : Block)
+pub carry-more : (first : ℕ) (blocks : List MadeBlock) (makers : List ℕ) (frames : List SentFrame) (f : SentFrame) (answer : Block)
     → block_in f.octets ≡ Some answer → CarriesMadeOf first blocks makers answer f.round
     → AnswersCarryMade first blocks makers frames → AnswersCarryMade first blocks makers (frames ++ f ∷ [])
 carry-more first blocks makers frames f answer spells carries carry =
@@ -102,7 +102,7 @@ carry-more first blocks makers frames f answer spells carries carry =
     (λ a reads. subst (λ x. CarriesMadeOf first blocks makers x f.round) (cc (spells, reads)) carries)
 
 -- one more block is made
-pub carry-new : (first : ℕ) (blocks : List MadeBlock) (makers : List ℕ) (frames : List Sent) (block : MadeBlock) (round : ℕ)
+pub carry-new : (first : ℕ) (blocks : List MadeBlock) (makers : List ℕ) (frames : List SentFrame) (block : MadeBlock) (round : ℕ)
     → AnswersCarryMade first blocks makers frames
     → AnswersCarryMade first (blocks ++ block ∷ []) (makers ++ round ∷ []) frames
 carry-new first blocks makers frames block round carry p a r h =

@@ -7,26 +7,26 @@ use Rattle.fio_module.specs.Settings.{Settings}
 use Rattle.fio_module.specs.Life as module_events
 use Rattle.fio_world.specs.declared.event.Event.{Event}
 use Rattle.fio_world.specs.declared.event.Event.TheVariants.{Scan, LineSync, Raise, Poll, ToModule, ToCpu}
-use Rattle.fio_world.specs.Link.{Sent, Machine, number_of, item_numbered, happened, heard_block, heard, after, Leads}
+use Rattle.fio_world.specs.Link.{SentFrame, Machine, number_of, item_numbered, after_module_event, after_delivered_block, after_delivery_to_cpu, after, Leads}
 use Rattle.fio_world.specs.InTime.{ReachesModule, ScansMoveOut}
 
 -- what reaches the module and what the CPU hears may change places
 heard-block : (first : ℕ) (machine : Machine) (event : module_events.Event) (block : Block) (index : ℕ)
     (same : Bool) → (block.number == number_of first machine.round) ≡ same
-    → happened (heard_block first (record machine { last_to_cpu = index }) (Some block)) event
-    ≡ heard_block first (record (happened machine event) { last_to_cpu = index }) (Some block)
+    → after_module_event (after_delivered_block first (record machine { last_to_cpu = index }) (Some block)) event
+    ≡ after_delivered_block first (record (after_module_event machine event) { last_to_cpu = index }) (Some block)
 heard-block first machine event block index true is = rw is refl
 heard-block first machine event block index false is = rw is refl
 
 heard-found : (first : ℕ) (machine : Machine) (event : module_events.Event) (index : ℕ) (found : Option Block)
-    → happened (heard_block first (record machine { last_to_cpu = index }) found) event
-    ≡ heard_block first (record (happened machine event) { last_to_cpu = index }) found
+    → after_module_event (after_delivered_block first (record machine { last_to_cpu = index }) found) event
+    ≡ after_delivered_block first (record (after_module_event machine event) { last_to_cpu = index }) found
 heard-found first machine event index None = refl
 heard-found first machine event index (Some block) =
     heard-block first machine event block index (block.number == number_of first machine.round) refl
 
-heard-frame : (first : ℕ) (machine : Machine) (event : module_events.Event) (index : ℕ) (found : Option Sent)
-    → happened (heard first machine index found) event ≡ heard first (happened machine event) index found
+heard-frame : (first : ℕ) (machine : Machine) (event : module_events.Event) (index : ℕ) (found : Option SentFrame)
+    → after_module_event (after_delivery_to_cpu first machine index found) event ≡ after_delivery_to_cpu first (after_module_event machine event) index found
 heard-frame first machine event index None = refl
 heard-frame first machine event index (Some frame) =
     heard-found first machine event index (block_in frame.octets)

@@ -11,9 +11,9 @@ use Rattle.fio_module.proofs.Stretches.{log-grown}
 use Rattle.fio_module.proofs.ListParts.{get_in_front, get_from_front, get_from_back}
 use Rattle.fio_module.proofs.NewLevels.{later_log, scans_of-append, new_levels_are_logged}
 use Rattle.fio_world.specs.Link.{Machine}
-use Rattle.fio_world.specs.Pieces.{Piece, Got, piece_of}
+use Rattle.fio_world.specs.Pieces.{Piece, EntryPiece, piece_of}
 use Rattle.fio_world.specs.Headline.{end_taken}
-use Rattle.fio_world.specs.InTime.{LeadsInTime, newest_of, IsPolledInTime, behind_after, timed_item, arrived}
+use Rattle.fio_world.specs.InTime.{LeadsInTime, newest_of, IsPolledInTime, behind_after, timed_item, transitions_arrived}
 use Rattle.fio_world.specs.NewLevels.{HasGained, NewLevelsAreRecorded}
 use Rattle.fio_world.proofs.CatchingUp.{IsBetween}
 use Rattle.fio_world.proofs.CleanRoundsInTime.{grows}
@@ -61,7 +61,7 @@ module _ (settings : Settings) (range : AreInRange settings) (first filter : ℕ
       get_in_front (log_of (life_of last.history)) more.0 place transition (omega (arith, taken))
       (subst (λ ts. slice_get ts place ≡ Some transition) (ap log_of g.life ∙ more.1) at)
 
-  there : slice_get (arrived settings machine last) (place - length (log_of (life_of machine.history))) ≡ Some transition
+  there : slice_get (transitions_arrived settings machine last) (place - length (log_of (life_of machine.history))) ≡ Some transition
   there =
       get_from_drop (length (log_of (life_of machine.history))) (take (end_taken settings last) (log_of (life_of last.history))) place transition since
       (get_from_take (end_taken settings last) (log_of (life_of last.history)) place transition taken was_there)
@@ -73,23 +73,23 @@ module _ (settings : Settings) (range : AreInRange settings) (first filter : ℕ
       let a = arrived_last settings range first filter untaken scans machine b receipts last now later p t in
       let g = gains settings first last now t.leads_on.events t.leads_on.leads in
       let from = place - length (log_of (life_of machine.history)) in
-      let got : Transition → Piece = λ transition. Got (entry_of transition) in
+      let got : Transition → Piece = λ transition. EntryPiece (entry_of transition) in
       let items : slice_get (map piece_of now.items) (length machine.items + from) ≡ Some (got transition) =
       ap (λ its. slice_get (map piece_of its) (length machine.items + from)) g.items
       ∙ ap (λ ps. slice_get ps (length machine.items + from)) (map-append piece_of last.items g.gained ∙ ap (λ ps. ps ++ map piece_of g.gained) a.whole)
-      ∙ get_from_front (map piece_of machine.items ++ map got (arrived settings machine last)) (map piece_of g.gained) (length machine.items + from) (got transition)
-      (ap (λ n. slice_get (map piece_of machine.items ++ map got (arrived settings machine last)) (n + from)) (sym (length-map machine.items piece_of))
-      ∙ get_from_back (map piece_of machine.items) (map got (arrived settings machine last)) from (got transition)
-      (get_from_map got (arrived settings machine last) from transition there)) in
+      ∙ get_from_front (map piece_of machine.items ++ map got (transitions_arrived settings machine last)) (map piece_of g.gained) (length machine.items + from) (got transition)
+      (ap (λ n. slice_get (map piece_of machine.items ++ map got (transitions_arrived settings machine last)) (n + from)) (sym (length-map machine.items piece_of))
+      ∙ get_from_back (map piece_of machine.items) (map got (transitions_arrived settings machine last)) from (got transition)
+      (get_from_map got (transitions_arrived settings machine last) from transition there)) in
       record {
         place = length machine.items + from;
         since = omega arith;
         there = items;
         timed = λ in_time.
             ap (λ its. slice_get its (length machine.items + from)) (g.items ∙ ap (λ its. its ++ g.gained) (a.times in_time.0 in_time.1))
-            ∙ get_from_front (machine.items ++ map timed_item (arrived settings machine last)) g.gained (length machine.items + from) (timed_item transition)
-            (get_from_back machine.items (map timed_item (arrived settings machine last)) from (timed_item transition)
-            (get_from_map timed_item (arrived settings machine last) from transition there));
+            ∙ get_from_front (machine.items ++ map timed_item (transitions_arrived settings machine last)) g.gained (length machine.items + from) (timed_item transition)
+            (get_from_back machine.items (map timed_item (transitions_arrived settings machine last)) from (timed_item transition)
+            (get_from_map timed_item (transitions_arrived settings machine last) from transition there));
       }
 
 -- new levels are recorded

@@ -8,7 +8,7 @@ use Rattle.fio_module.specs.Life.{Life, life_of, life_after_command}
 use Rattle.fio_module.specs.Blocks.{latest_poll}
 use Rattle.fio_world.specs.declared.event.Event.{Event}
 use Rattle.fio_world.specs.declared.event.Event.TheVariants as events
-use Rattle.fio_world.specs.Link.{Sent, Machine, refusal, polls_with, received, heard, after, Leads}
+use Rattle.fio_world.specs.Link.{SentFrame, Machine, refusal, polls_with, after_delivery_to_module, after_delivery_to_cpu, after, Leads}
 use Rattle.fio_world.specs.Headline.{IsNotRestart, HaveNoRestart}
 use Rattle.fio_world.proofs.OneLife.{newest_number}
 use Rattle.fio_world.proofs.Kept.{HasInvariant}
@@ -24,9 +24,9 @@ module _ (settings : Settings) (range : AreInRange settings) (first : ℕ) (mach
   abbrev life : Life
   life = life_of machine.history
 
-  newest_received : (place : ℕ) (frame : Sent) → machine.last_to_module ≤ place + 1
+  newest_received : (place : ℕ) (frame : SentFrame) → machine.last_to_module ≤ place + 1
       → slice_get machine.to_module place ≡ Some frame
-      → IsNewest first (received settings machine (place + 1) (Some frame))
+      → IsNewest first (after_delivery_to_module settings machine (place + 1) (Some frame))
   newest_received place frame le at = of_command (command_in frame.octets) refl
     where
       of_command : (command : Option Command) → command_in frame.octets ≡ command
@@ -39,10 +39,10 @@ module _ (settings : Settings) (range : AreInRange settings) (first : ℕ) (mach
   newest_once : (event : Event) → IsNotRestart event → refusal machine event ≡ None → IsNewest first (after settings first machine event)
   newest_once events.Restart none fine = absurd none
   newest_once (events.ToModule index) none fine =
-      after_delivery (λ n found. IsNewest first (received settings machine n found))
+      after_delivery (λ n found. IsNewest first (after_delivery_to_module settings machine n found))
       machine.to_module machine.last_to_module index fine newest_received
   newest_once (events.ToCpu index) none fine =
-      after_delivery (λ n found. IsNewest first (heard first machine n found))
+      after_delivery (λ n found. IsNewest first (after_delivery_to_cpu first machine n found))
       machine.to_cpu machine.last_to_cpu index fine
       (λ place frame le at. after_heard settings range first machine i (IsNewest first) place frame le at o (λ answer block. o))
   newest_once event none fine = o

@@ -15,8 +15,8 @@ use Rattle.fio_module.specs.Log.{Transition, entry_of}
 use Rattle.fio_module.specs.Blocks.{MadeBlock, is_new, blocks_of}
 use Rattle.fio_cpu.specs.declared.record.Item.{Item}
 use Rattle.fio_cpu.specs.declared.record.Item.TheVariants as items
-use Rattle.fio_cpu.specs.Record.{item_of, recorded}
-use Rattle.fio_world.specs.Link.{Sent, Machine, number_of, answer_frames}
+use Rattle.fio_cpu.specs.Record.{item_of, items_of_block}
+use Rattle.fio_world.specs.Link.{SentFrame, Machine, number_of, answer_frames}
 use Rattle.fio_world.specs.Frames.{is_repeated, repeats, answer_before, block_answers}
 use Rattle.fio_world.specs.Claims.{SaysAgainWhereRepeated}
 use Rattle.fio_world.specs.Rounds.{next_round, CarriesBlock}
@@ -100,7 +100,7 @@ continues first round number (s ∷ ss) false numbered low high is =
     (omega arith, grind (arith, nat_tests))
 
 -- the block answers among frames and one more
-pub block_answers-push : (frames : List Sent) (f : Sent)
+pub block_answers-push : (frames : List SentFrame) (f : SentFrame)
     → block_answers (frames ++ f ∷ []) ≡ block_answers frames ++ answer_before (block_in f.octets) f.round []
 block_answers-push [] f = refl
 block_answers-push (g ∷ frames) f =
@@ -113,9 +113,9 @@ block_answers-push (g ∷ frames) f =
     before_more (Some block) round xs ys = refl
 
 -- an answer that carries a block is recorded as the block is
-pub recorded-carried : (answer : Block) (block : MadeBlock) → CarriesBlock answer block
-    → recorded answer ≡ recorded_of block
-recorded-carried answer block b =
+pub items_of_block-carried : (answer : Block) (block : MadeBlock) → CarriesBlock answer block
+    → items_of_block answer ≡ recorded_of block
+items_of_block-carried answer block b =
     ap (λ lost. (if lost then items.Gap ∷ [] else []) ++ map (item_of answer.stamp) answer.entries) b.lost
     ∙ ap (λ entries. (if block.lost then items.Gap ∷ [] else []) ++ map (item_of answer.stamp) entries) b.entries
     ∙ ap (λ stamp. (if block.lost then items.Gap ∷ [] else []) ++ map (item_of stamp) (map entry_of block.transitions)) b.stamp
@@ -123,15 +123,15 @@ recorded-carried answer block b =
 -- the record with one more block
 pub record_of-next : (blocks : List MadeBlock) (m : ℕ) (taken : List Item) (answer : Block) (block : MadeBlock)
     → slice_get blocks m ≡ Some block → CarriesBlock answer block → taken ≡ record_of m blocks
-    → taken ++ recorded answer ≡ record_of (m + 1) blocks
+    → taken ++ items_of_block answer ≡ record_of (m + 1) blocks
 record_of-next blocks m taken answer block found carries kept =
-    ap (λ xs. xs ++ recorded answer) kept
-    ∙ ap (λ xs. record_of m blocks ++ xs) (recorded-carried answer block carries ∙ sym (append-nil (recorded_of block)))
+    ap (λ xs. xs ++ items_of_block answer) kept
+    ∙ ap (λ xs. record_of m blocks ++ xs) (items_of_block-carried answer block carries ∙ sym (append-nil (recorded_of block)))
     ∙ sym (flat_map-append recorded_of (take m blocks) (block ∷ []))
     ∙ ap (flat_map recorded_of) (sym (take_one_more blocks m block found))
 
 module _ (first : ℕ) (blocks : List MadeBlock) (latest : Option ℕ) (makers : List ℕ) (machine : Machine)
-    (o : InOneLife first blocks latest makers machine) (place : ℕ) (frame : Sent) where
+    (o : InOneLife first blocks latest makers machine) (place : ℕ) (frame : SentFrame) where
   -- a frame that is no poll is received, and what it gets is no block answer
   pub life-other : (reply : Option Answer)
       → ((answer : Answer) → reply ≡ Some answer → block_in (answer_octets answer) ≡ None)
@@ -139,7 +139,7 @@ module _ (first : ℕ) (blocks : List MadeBlock) (latest : Option ℕ) (makers :
   life-other None other =
       record { made = o.made; own = o.own; polled = o.polled; kept = o.kept; again = ap block_answers (append-nil machine.to_cpu) ∙ o.again }
   life-other (Some answer) other =
-      let f : Sent = record { octets = answer_octets answer; round = frame.round } in
+      let f : SentFrame = record { octets = answer_octets answer; round = frame.round } in
       record {
         made = o.made;
         own = o.own;

@@ -1,7 +1,7 @@
 -- The polls sent stay in order.
 use Rattle.std.proofs.Common.{◌≡◌, ℕ, ◌+◌, ◌≤◌, List, [], ◌∷◌, ◌++◌, Some, ap, sym, ◌∙◌, arith}
 use Rattle.fio_message.specs.Decoding.{poll_in}
-use Rattle.fio_world.specs.Link.{Sent, number_of}
+use Rattle.fio_world.specs.Link.{SentFrame, number_of}
 use Rattle.fio_world.specs.Frames.{HasPoll}
 use Rattle.fio_world.specs.Rounds.{PollsAreInOrder}
 use Rattle.fio_world.proofs.SentMessages.{each_more, rise_more}
@@ -16,9 +16,9 @@ polls-none first round next =
       ahead = λ p n r le h. absurd (cc (h.at_place));
     }
 
-module _ (first : ℕ) (frames : List Sent) (last round next : ℕ) (o : PollsAreInOrder first frames last round next) where
+module _ (first : ℕ) (frames : List SentFrame) (last round next : ℕ) (o : PollsAreInOrder first frames last round next) where
   -- one more frame is sent: if it is a poll, with the CPU's number
-  pub polls-sent : (f : Sent) → f.round ≡ round → next ≤ round + 1
+  pub polls-sent : (f : SentFrame) → f.round ≡ round → next ≤ round + 1
       → ((n : ℕ) → poll_in f.octets ≡ Some n → n ≡ number_of first round)
       → PollsAreInOrder first (frames ++ f ∷ []) last round next
   polls-sent f is at_most number =

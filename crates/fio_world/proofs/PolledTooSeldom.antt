@@ -3,7 +3,7 @@ use Rattle.std.proofs.Common.{◌≡◌, ℕ, zero, suc, ◌*◌, false, List, [
 use Rattle.fio_message.specs.declared.commands.Command.TheVariants.{ConfigureInputs, Poll}
 use Rattle.fio_message.specs.Bits.{is_set}
 use Rattle.fio_message.specs.Decoding.{message_in}
-use Rattle.fio_input.specs.Widening.{widened}
+use Rattle.fio_input.specs.Widening.{wide_time_of}
 use Rattle.fio_input.specs.Delivery.{open_inputs, OpenHaveFiltersOf, NoneIsApplied, sum_below}
 use Rattle.fio_module.specs.Settings.{Settings, AreInRange}
 use Rattle.fio_module.specs.Life.{Life, Commanded, life_of, filter_events}
@@ -52,11 +52,11 @@ life_after zero = []
 life_after (suc n) = Commanded (Poll n) ∷ (densest 1 (2 * n) 2 ++ life_after n)
 
 gap : slice_get (after_rounds 16).items 960 ≡ Some items.Gap
-unfolding machine0 after_rounds done dense items_below message_in is_set transitions_below widened
+unfolding machine0 after_rounds done dense items_below message_in is_set transitions_below wide_time_of
 gap = refl
 
 grown : life_of (after_rounds 16).history ≡ life_after 16 ++ opened 1
-unfolding machine0 after_rounds life_after done dense densest items_below message_in is_set transitions_below widened
+unfolding machine0 after_rounds life_after done dense densest items_below message_in is_set transitions_below wide_time_of
 grown = refl
 
 life0 : life_of machine0.history ≡ opened 1

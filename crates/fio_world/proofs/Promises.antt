@@ -9,7 +9,7 @@ use Rattle.fio_module.specs.Log.{log_of}
 use Rattle.fio_module.specs.Blocks.{blocks_of, end_of_blocks, newest_end, waiting_from}
 use Rattle.fio_module.proofs.BlockLaws.{blocks_end_within}
 use Rattle.fio_world.specs.Link.{Machine}
-use Rattle.fio_world.specs.Pieces.{piece_of, taken, ArePieces}
+use Rattle.fio_world.specs.Pieces.{piece_of, pieces_of_blocks, ArePieces}
 use Rattle.fio_world.specs.Headline.{RecordIsLog, Headline}
 use Rattle.fio_world.specs.Claims.{blocks_in, StandsAtTaken, RestIsLostOrWaits, HasTimes, IsTimed, sources_of}
 use Rattle.fio_world.specs.Rounds.{next_round, PollsOf, PollsReceivedHaveRounds, NewestPollMadeNewestBlock, BlockAnswersOf, AnswersCarryBlocks}
@@ -52,7 +52,7 @@ rest_is_lost_or_waits settings life =
     let all : take (length blocks) blocks ≡ blocks = take_all (length blocks) blocks (omega arith) in
     let waiting = length-drop (waiting_from settings life) (log_of life) in
     record {
-      in_blocks = subst (λ bs. ArePieces settings life 0 (taken (length blocks) blocks) (end_of_blocks bs)) all
+      in_blocks = subst (λ bs. ArePieces settings life 0 (pieces_of_blocks (length blocks) blocks) (end_of_blocks bs)) all
           (taken_are_pieces settings life (length blocks) (omega arith));
       pushed_out = omega arith;
       only_when_full = λ pushed. omega (arith, waiting);
@@ -66,7 +66,7 @@ module _ (settings : Settings) (range : AreInRange settings) (first : ℕ) (mach
   behind = let made = k.one_life.in_life.made in omega (arith, k.always.answers.behind)
 
   -- the record without times is what the taken blocks are
-  taken_items : map piece_of machine.items ≡ taken machine.round (blocks_in settings machine)
+  taken_items : map piece_of machine.items ≡ pieces_of_blocks machine.round (blocks_in settings machine)
   taken_items = ap (map piece_of) k.one_life.in_life.kept ∙ got_blocks (take machine.round (blocks_in settings machine))
 
   -- the headline

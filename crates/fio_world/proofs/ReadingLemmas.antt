@@ -6,7 +6,7 @@ use Rattle.fio_message.specs.Decoding.{decoded_command}
 use Rattle.fio_message.specs.declared.commands.Command.{Command}
 use Rattle.fio_message.specs.declared.faults.DecodeError.{DecodeError}
 use Rattle.fio_module.specs.Settings.{settings_with}
-use Rattle.fio_world.specs.Collected.{collected, with_first}
+use Rattle.fio_world.specs.FirstFaults.{values_or_fault, with_first}
 use Rattle.fio_world.specs.EventLines.{event_at, IsReadAs, plain_event, frame_at, sending_at}
 use Rattle.fio_world.specs.Headers.{header_of}
 use Rattle.fio_world.specs.Hexadecimal.{octets_in}
@@ -17,7 +17,7 @@ use Rattle.fio_world.specs.Words.{after_prefix}
 use Rattle.fio_world.specs.declared.event.Event.{Event}
 use Rattle.fio_world.specs.declared.script.events.TheConstants.{MAX_EVENTS}
 use Rattle.fio_world.specs.declared.script.header.Header.{Header}
-use Rattle.fio_world.specs.declared.script.steps.Form.{Form}
+use Rattle.fio_world.specs.declared.script.steps.EventForm.{EventForm}
 use Rattle.fio_world.specs.declared.script.ScriptError.{ScriptError}
 use Rattle.fio_world.specs.declared.script.ScriptError.TheVariants.{BadLine, Memory, TooManyEvents}
 
@@ -41,15 +41,15 @@ with_first-start read most count values left lines none zeroth all =
 
 -- what is read in all, where these events stand above the lines
 unfoldable pub read_on : List Event → ℕ → Bool → List (ℕ × List ℕ) → Result (List Event) ScriptError
-read_on events count restarts lines = with_first events (collected (readings (MAX_EVENTS - count) restarts lines))
+read_on events count restarts lines = with_first events (values_or_fault (readings (MAX_EVENTS - count) restarts lines))
 
 -- with no event above, it is what all lines give
 pub read_on-start : (events : List Event) (count : ℕ) (restarts : Bool) (left lines : List (ℕ × List ℕ))
     → events ≡ [] → count ≡ 0 → left ≡ lines
-    → read_on events count restarts left ≡ collected (readings MAX_EVENTS restarts lines)
+    → read_on events count restarts left ≡ values_or_fault (readings MAX_EVENTS restarts lines)
 unfolding read_on
 read_on-start events count restarts left lines none zeroth all =
-    with_first-start (λ most lines. collected (readings most restarts lines)) MAX_EVENTS count events left lines none zeroth all
+    with_first-start (λ most lines. values_or_fault (readings most restarts lines)) MAX_EVENTS count events left lines none zeroth all
 
 readings-end : (most : ℕ) (restarts : Bool) → readings most restarts [] ≡ []
 readings-end zero restarts = refl
@@ -120,7 +120,7 @@ read_again restarts number line None read is_one = absurd read
 read_again restarts number line (Some event) read is_one = read number
 
 -- the same line is read as the same event
-pub same_line : (restarts : Bool) (number : ℕ) (above line : List ℕ) (found : Option Form) (form : Form)
+pub same_line : (restarts : Bool) (number : ℕ) (above line : List ℕ) (found : Option EventForm) (form : EventForm)
     → IfSome found (λ form. IsReadAs restarts above (event_of form)) → found ≡ Some form → above ≡ line
     → (is_one : event_of form ≢ None) → Ok (event_found (event_of form) is_one) ≡ event_at restarts (number, line)
 same_line restarts number above line None form read is same is_one = absurd (cc is)
@@ -169,9 +169,9 @@ numbered-front number (line ∷ lines) (first ∷ above) left same =
           let line_is : (number, line) ≡ first = cc here in
           (suc rest.0, rw (says, rest.1, line_is) refl)
 
-collected-values : (events : List Event) → collected (map {B = Result Event ScriptError} Ok events) ≡ Ok events
-collected-values [] = refl
-collected-values (event ∷ events) = rw (collected-values events) refl
+values_or_fault-values : (events : List Event) → values_or_fault (map {B = Result Event ScriptError} Ok events) ≡ Ok events
+values_or_fault-values [] = refl
+values_or_fault-values (event ∷ events) = rw (values_or_fault-values events) refl
 
 readings-few : (restarts : Bool) (lines : List (ℕ × List ℕ)) → length lines ≤ MAX_EVENTS
     → readings MAX_EVENTS restarts lines ≡ map (event_at restarts) lines
@@ -185,7 +185,7 @@ good_front restarts lines left events read few some =
     let front = numbered-front 2 lines read.above left read.all_are in
     let as_many : length read.above ≡ length events = sym (length-map read.above (event_at restarts)) ∙ ap length read.give ∙ length-map {A = Event} {B = Result Event ScriptError} events Ok in
     let good : events_of restarts (take front.0 lines) ≡ Ok events =
-    rw (front.1, readings-few restarts read.above (rw as_many few), read.give) (collected-values events) in
+    rw (front.1, readings-few restarts read.above (rw as_many few), read.give) (values_or_fault-values events) in
     (front.0, events, good, some)
 
 -- lines that give some event are a good front

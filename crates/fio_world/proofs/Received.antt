@@ -17,7 +17,7 @@ use Rattle.fio_module.specs.Settings.{Settings}
 use Rattle.fio_module.specs.Life.{Received, Restart, History, Life, life_of, life_after_command}
 use Rattle.fio_module.specs.Log.{entry_of}
 use Rattle.fio_module.specs.Blocks.{MadeBlock, latest_poll, is_new, blocks_of, next_block}
-use Rattle.fio_module.specs.Sendings.{Sending, answer_of, first_sending, sent_again, latest_sending}
+use Rattle.fio_module.specs.Sendings.{Sending, answer_of, first_sending, repeat_of, latest_sending}
 use Rattle.fio_module.specs.Replies.{answer_to, answer_if}
 use Rattle.fio_module.specs.Laws.{Carries}
 use Rattle.fio_module.proofs.SendingLaws.{sendings_carry, sendings_answer_polls}
@@ -82,7 +82,7 @@ first_carries settings life number = record { entries = refl; more = refl; lost 
 
 -- a sending that is sent again carries the same block
 pub again_carries : (sending : Sending) (block : MadeBlock) → Carries sending block
-    → Carries (sent_again sending) block
+    → Carries (repeat_of sending) block
 again_carries sending block c = record { entries = c.entries; more = c.more; lost = c.lost; stamp = c.stamp }
 
 -- a sending of a block that fits an answer is read back

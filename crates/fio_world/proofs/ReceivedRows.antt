@@ -10,10 +10,10 @@ use Rattle.fio_module.specs.Settings.{Settings, AreInRange}
 use Rattle.fio_module.specs.Life.{Received, History, Life, life_of, life_after_command}
 use Rattle.fio_module.specs.Log.{Transition, whole_log}
 use Rattle.fio_module.specs.Blocks.{MadeBlock, latest_poll, is_new, blocks_of, end_of_blocks, newest_end, next_block}
-use Rattle.fio_module.specs.Sendings.{Sending, answer_of, is_out_of_sequence, first_sending, sent_again}
+use Rattle.fio_module.specs.Sendings.{Sending, answer_of, is_out_of_sequence, first_sending, repeat_of}
 use Rattle.fio_module.specs.Replies.{answer_if}
 use Rattle.fio_module.proofs.Ends.{last_end-append}
-use Rattle.fio_world.specs.Link.{Sent, Machine, number_of, answer_frames, polls_with, received}
+use Rattle.fio_world.specs.Link.{SentFrame, Machine, number_of, answer_frames, polls_with, after_delivery_to_module}
 use Rattle.fio_world.specs.Frames.{HasPoll, number_with, received_numbers}
 use Rattle.fio_world.specs.Rounds.{next_round}
 use Rattle.fio_world.proofs.Places.{get_push}
@@ -47,7 +47,7 @@ module _ (settings : Settings) (range : AreInRange settings) (first : ℕ) (mach
   makers = makers_of h machine.polls
 
   -- a new poll is received
-  new_poll : (place number : ℕ) (frame : Sent) → machine.last_to_module ≤ place + 1
+  new_poll : (place number : ℕ) (frame : SentFrame) → machine.last_to_module ≤ place + 1
       → HasPoll machine.to_module place number frame.round
       → is_new (latest_poll life) number ≡ true
       → Invariant first log (past_blocks settings h ++ map (behind past) (blocks_if settings life true))
@@ -101,7 +101,7 @@ module _ (settings : Settings) (range : AreInRange settings) (first : ℕ) (mach
       (behind past block) (omega arith) (omega arith) i.received.makers_in_order.count i.rising))
 
   -- the newest poll is received again
-  repeated_poll : (place number : ℕ) (frame : Sent) → machine.last_to_module ≤ place + 1
+  repeated_poll : (place number : ℕ) (frame : SentFrame) → machine.last_to_module ≤ place + 1
       → HasPoll machine.to_module place number frame.round
       → is_new (latest_poll life) number ≡ false
       → Invariant first log all (reached settings h) (Some number) (number ∷ received_numbers h) makers
@@ -132,12 +132,12 @@ module _ (settings : Settings) (range : AreInRange settings) (first : ℕ) (mach
       let e : length makers ≡ m.place + 1 = m.last in
       let g : length makers ≡ length all = i.received.makers_in_order.count in
       omega arith in
-      let again = sent_again found.0 in
+      let again = repeat_of found.0 in
       let carried = again_carries found.0 block l.carried in
       let sent_number : again.number ≡ number = l.number in
       let carries = carried_says again block carried in
       subst (λ (latest : Option Sending). Invariant first log all (reached settings h) (Some number) (number ∷ received_numbers h) makers
-      (after_poll machine place frame (answer_frames (option_map answer_of (option_map sent_again latest)) round))) (sym l.is)
+      (after_poll machine place frame (answer_frames (option_map answer_of (option_map repeat_of latest)) round))) (sym l.is)
       (keeps_poll first log all (reached settings h) (latest_poll life) (received_numbers h) makers machine i place frame le
       number (reached settings h) all makers (said again) (answer_octets (answer_of again)) poll
       (carried_back settings.per_block again block range.few_per_block (omega arith)
@@ -157,7 +157,7 @@ module _ (settings : Settings) (range : AreInRange settings) (first : ℕ) (mach
       i.rising)
 
   -- a poll is received, new or not
-  received_poll : (place number : ℕ) (frame : Sent) → machine.last_to_module ≤ place + 1
+  received_poll : (place number : ℕ) (frame : SentFrame) → machine.last_to_module ≤ place + 1
       → HasPoll machine.to_module place number frame.round
       → (new : Bool) → is_new (latest_poll life) number ≡ new
       → Invariant first log (past_blocks settings h ++ map (behind past) (blocks_if settings life new))
@@ -168,7 +168,7 @@ module _ (settings : Settings) (range : AreInRange settings) (first : ℕ) (mach
   received_poll place number frame le poll false is = repeated_poll place number frame le poll is
 
   -- a frame is received that is read as this command, or as none
-  received_frame : (place : ℕ) (frame : Sent) → machine.last_to_module ≤ place + 1
+  received_frame : (place : ℕ) (frame : SentFrame) → machine.last_to_module ≤ place + 1
       → slice_get machine.to_module place ≡ Some frame
       → (command : Option Command) → command_in frame.octets ≡ command
       → Invariant first log (joined settings (past_blocks settings h) past (life_after_command command life))
@@ -191,7 +191,7 @@ module _ (settings : Settings) (range : AreInRange settings) (first : ℕ) (mach
       (answer_if settings life command) (no_block_reply settings life command refl)
 
   -- the module receives a frame
-  pub keeps_received : (place : ℕ) (frame : Sent) → machine.last_to_module ≤ place + 1
+  pub keeps_received : (place : ℕ) (frame : SentFrame) → machine.last_to_module ≤ place + 1
       → slice_get machine.to_module place ≡ Some frame
-      → HasInvariant settings first (received settings machine (place + 1) (Some frame))
+      → HasInvariant settings first (after_delivery_to_module settings machine (place + 1) (Some frame))
   keeps_received place frame le at = received_frame place frame le at (command_in frame.octets) refl

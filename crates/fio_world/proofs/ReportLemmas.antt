@@ -10,13 +10,13 @@ use Rattle.fio_world.specs.Link.{Machine, Refusal, NotSent, OutOfOrder, PollIsOu
 use Rattle.fio_world.specs.ReportLines.{outcome_line, refused_line, refusal_in, ending_text}
 use Rattle.fio_world.specs.Reports.{Report, after_text, report_from, unless_refused}
 use Rattle.fio_module.specs.Settings.{Settings}
-use Rattle.fio_world.specs.Worlds.{Shows, IsDone, IsFault}
+use Rattle.fio_world.specs.Worlds.{ShowsMachine, IsDone, IsFault}
 use Rattle.fio_world.specs.Outcomes.{outcome_of, error_of}
 
 -- after so many of these events the world shows a machine, and what is reported from it on completes this text to the report
 pub record ReportGoesOn (settings : Settings) (first : ℕ) (events : List Event) (report : Report) (text : List ℕ) (place : ℕ) (world : Ends) : Type 0 where
   pub machine : Machine
-  pub shown : Shows settings first machine world
+  pub shown : ShowsMachine settings first machine world
   pub reported :
       after_text text (report_from settings first (place + 1) machine (drop place events)) ≡ report
 

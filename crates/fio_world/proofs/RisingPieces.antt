@@ -12,8 +12,8 @@ use Rattle.fio_module.specs.Log.{Transition, entry_of}
 use Rattle.fio_module.specs.Blocks.{MadeBlock}
 use Rattle.fio_cpu.specs.declared.record.Item.{Item}
 use Rattle.fio_cpu.specs.declared.record.Item.TheVariants as items
-use Rattle.fio_cpu.specs.Record.{item_of, recorded}
-use Rattle.fio_world.specs.Pieces.{Piece, Gap, Got, piece_of}
+use Rattle.fio_cpu.specs.Record.{item_of, items_of_block}
+use Rattle.fio_world.specs.Pieces.{Piece, Gap, EntryPiece, piece_of}
 use Rattle.fio_world.specs.Rising.{entries_got, Rises}
 use Rattle.fio_world.specs.Rounds.{CarriesBlock}
 use Rattle.fio_world.proofs.Places.{get_before_push, get_after_push}
@@ -23,7 +23,7 @@ use Rattle.fio_world.proofs.AllLives.{StandsIn}
 abbrev pub RiseFrom : List Entry → ℕ → List Piece → ℕ → Type 0
 RiseFrom entries from [] to = from ≤ to
 RiseFrom entries from (Gap ∷ pieces) to = RiseFrom entries from pieces to
-RiseFrom entries from (Got entry ∷ pieces) to =
+RiseFrom entries from (EntryPiece entry ∷ pieces) to =
     (place : ℕ) × (from ≤ place) × (slice_get entries place ≡ Some entry) × RiseFrom entries (place + 1) pieces to
 
 -- what rises from a later place rises from an earlier one
@@ -31,7 +31,7 @@ rise-earlier : (entries : List Entry) (a b : ℕ) (ps : List Piece) (to : ℕ) �
     → RiseFrom entries b ps to → RiseFrom entries a ps to
 rise-earlier entries a b [] to le h = omega arith
 rise-earlier entries a b (Gap ∷ ps) to le h = rise-earlier entries a b ps to le h
-rise-earlier entries a b (Got e ∷ ps) to le h = let low : b ≤ h.0 = h.1 in (h.0, omega arith, h.2, h.3)
+rise-earlier entries a b (EntryPiece e ∷ ps) to le h = let low : b ≤ h.0 = h.1 in (h.0, omega arith, h.2, h.3)
 
 -- pieces that rise up to a place, and pieces that rise from there on
 rise-append : (entries : List Entry) (a b c : ℕ) (ps qs : List Piece) → RiseFrom entries a ps b
@@ -39,19 +39,19 @@ rise-append : (entries : List Entry) (a b c : ℕ) (ps qs : List Piece) → Rise
     → RiseFrom entries a (ps ++ qs) c
 rise-append entries a b c [] qs p q = rise-earlier entries a b qs c p q
 rise-append entries a b c (Gap ∷ ps) qs p q = rise-append entries a b c ps qs p q
-rise-append entries a b c (Got e ∷ ps) qs p q = (p.0, p.1, p.2, rise-append entries (p.0 + 1) b c ps qs p.3 q)
+rise-append entries a b c (EntryPiece e ∷ ps) qs p q = (p.0, p.1, p.2, rise-append entries (p.0 + 1) b c ps qs p.3 q)
 
 -- what rises through entries rises through more
 rise-more : (entries more : List Entry) (a b : ℕ) (ps : List Piece) → RiseFrom entries a ps b
     → RiseFrom (entries ++ more) a ps b
 rise-more entries more a b [] p = p
 rise-more entries more a b (Gap ∷ ps) p = rise-more entries more a b ps p
-rise-more entries more a b (Got e ∷ ps) p =
+rise-more entries more a b (EntryPiece e ∷ ps) p =
     (p.0, p.1, get_before_push entries more p.0 e p.2, rise-more entries more (p.0 + 1) b ps p.3)
 
 -- entries as pieces
 abbrev got : List Entry → List Piece
-got entries = map (λ entry. Got entry) entries
+got entries = map (λ entry. EntryPiece entry) entries
 
 -- entries that stand one after the other rise
 rise_run : (entries : List Entry) (from at : ℕ) (es : List Entry) → from ≤ at
@@ -73,7 +73,7 @@ rise_run entries from at (e ∷ es) le each =
 -- entries in the record, without times
 got_items : (stamp : ℕ) (es : List Entry) → map piece_of (map (item_of stamp) es) ≡ got es
 got_items stamp [] = refl
-got_items stamp (e ∷ es) = ap (λ ps. Got e ∷ ps) (got_items stamp es)
+got_items stamp (e ∷ es) = ap (λ ps. EntryPiece e ∷ ps) (got_items stamp es)
 
 -- with or without a gap mark before them
 rise_marked : (lost : Bool) (entries : List Entry) (from to stamp : ℕ) (es : List Entry)
@@ -86,7 +86,7 @@ rise_marked false entries from to stamp es p = subst (λ ps. RiseFrom entries fr
 pub rise_taken : (log : List Transition) (to : ℕ) (record_items : List Item) (answer : Block) (block : MadeBlock)
     → RiseFrom (map entry_of log) 0 (map piece_of record_items) to → to ≤ block.start → StandsIn log block
     → CarriesBlock answer block
-    → RiseFrom (map entry_of log) 0 (map piece_of (record_items ++ recorded answer)) block.end
+    → RiseFrom (map entry_of log) 0 (map piece_of (record_items ++ items_of_block answer)) block.end
 rise_taken log to record_items answer block rises low stands carries =
     let entries = map entry_of log in
     let count : length answer.entries ≡ length (map entry_of block.transitions) = ap length carries.entries in
@@ -96,8 +96,8 @@ rise_taken log to record_items answer block rises low stands carries =
     entry_stands log block stands i e (ap (λ es. slice_get es i) (sym carries.entries) ∙ is)) in
     let marked = rise_marked (says_lost answer.status) entries to block.end answer.stamp answer.entries
     (subst (RiseFrom entries to (got answer.entries)) end run) in
-    subst (λ ps. RiseFrom entries 0 ps block.end) (sym (map-append piece_of record_items (recorded answer)))
-    (rise-append entries 0 to block.end (map piece_of record_items) (map piece_of (recorded answer)) rises marked)
+    subst (λ ps. RiseFrom entries 0 ps block.end) (sym (map-append piece_of record_items (items_of_block answer)))
+    (rise-append entries 0 to block.end (map piece_of record_items) (map piece_of (items_of_block answer)) rises marked)
   where
     entry_from : (ts : List Transition) (i : ℕ) (e : Entry) → slice_get (map entry_of ts) i ≡ Some e
         → (t : Transition) × (slice_get ts i ≡ Some t) × (entry_of t ≡ e)
@@ -189,6 +189,6 @@ rises_as_promised log pieces to h =
         → (places : List ℕ) × Increase from places × (map (slice_get entries) places ≡ map Some (entries_got pieces))
     places_from entries from [] to h = ([], tt, refl)
     places_from entries from (Gap ∷ pieces) to h = places_from entries from pieces to h
-    places_from entries from (Got e ∷ pieces) to h =
+    places_from entries from (EntryPiece e ∷ pieces) to h =
         let rest = places_from entries (h.0 + 1) pieces to h.3 in
         (h.0 ∷ rest.0, (h.1, rest.1), ap (λ x. x ∷ map (slice_get entries) rest.0) h.2 ∙ ap (λ xs. Some e ∷ xs) rest.2)

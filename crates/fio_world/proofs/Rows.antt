@@ -15,7 +15,7 @@ use Rattle.fio_module.specs.Blocks.{MadeBlock, latest_poll, newest_end}
 use Rattle.fio_module.proofs.BlockLaws.{blocks_end_within}
 use Rattle.fio_world.specs.declared.event.Event.{Event}
 use Rattle.fio_world.specs.declared.event.Event.TheVariants as events
-use Rattle.fio_world.specs.Link.{Sent, Machine, start, number_of, item_numbered, delivery_refusal, refusal, happened, sent, received, heard, after}
+use Rattle.fio_world.specs.Link.{SentFrame, Machine, start, number_of, item_numbered, delivery_refusal, refusal, after_module_event, after_sending, after_delivery_to_module, after_delivery_to_cpu, after}
 use Rattle.fio_world.specs.Frames.{received_numbers}
 use Rattle.fio_world.specs.Rounds.{next_round}
 use Rattle.fio_world.proofs.Places.{some_block}
@@ -31,14 +31,14 @@ use Rattle.fio_world.proofs.ReceivedRows.{keeps_received}
 use Rattle.fio_world.proofs.HeardRows.{keeps_heard}
 
 -- a delivery that is not refused names a frame, not before the one delivered last
-pub record CanDeliver (frames : List Sent) (last index : ℕ) : Type 0 where
+pub record CanDeliver (frames : List SentFrame) (last index : ℕ) : Type 0 where
   pub place : ℕ
   pub numbered : index ≡ place + 1
-  pub frame : Sent
+  pub frame : SentFrame
   pub found : slice_get frames place ≡ Some frame
   pub in_order : last ≤ index
 
-pub deliverable : (frames : List Sent) (last index : ℕ) → delivery_refusal (length frames) last index ≡ None
+pub deliverable : (frames : List SentFrame) (last index : ℕ) → delivery_refusal (length frames) last index ≡ None
     → CanDeliver frames last index
 deliverable frames last index fine =
     let low : 0 < index = grind (arith, nat_tests) in
@@ -48,15 +48,15 @@ deliverable frames last index fine =
     record { place = index - 1; numbered = omega arith; frame = found.0; found = found.1; in_order = order }
 
 -- the frame with a number stands at the place before
-pub frame_at_place : (frames : List Sent) (place : ℕ)
+pub frame_at_place : (frames : List SentFrame) (place : ℕ)
     → item_numbered frames (place + 1) ≡ slice_get frames place
 frame_at_place frames place = let next : place + 1 ≡ suc place = omega arith in ap (item_numbered frames) next
 
 -- what holds after the delivery of each frame, from the one delivered last on, holds after a delivery
 -- that is not refused
-pub after_delivery : (P : ℕ → Option Sent → Type 0) (frames : List Sent) (last index : ℕ)
+pub after_delivery : (P : ℕ → Option SentFrame → Type 0) (frames : List SentFrame) (last index : ℕ)
     → delivery_refusal (length frames) last index ≡ None
-    → ((place : ℕ) (frame : Sent) → last ≤ place + 1 → slice_get frames place ≡ Some frame → P (place + 1) (Some frame))
+    → ((place : ℕ) (frame : SentFrame) → last ≤ place + 1 → slice_get frames place ≡ Some frame → P (place + 1) (Some frame))
     → P index (item_numbered frames index)
 after_delivery P frames last index fine each =
     let d = deliverable frames last index fine in
@@ -97,21 +97,21 @@ module _ (settings : Settings) (range : AreInRange settings) (first : ℕ) (mach
   keeps_more : (log : List Transition) (event : module_events.Event)
       → RecordRises log blocks makers (reached settings h) machine.round machine.items
       → Invariant first log blocks (reached settings h) (latest_poll (life_of h)) (received_numbers h) makers
-      (happened machine event)
+      (after_module_event machine event)
   keeps_more log event rises =
       keeps_history first (whole_log h) log blocks (reached settings h) (reached settings h)
       (latest_poll (life_of h)) (latest_poll (life_of h)) (received_numbers h) makers machine (event ∷ h)
       i (λ n is. is) rises
 
   -- the module scans
-  keeps_scan : (raw : ℕ) → HasInvariant settings first (happened machine (module_events.Scan raw))
+  keeps_scan : (raw : ℕ) → HasInvariant settings first (after_module_event machine (module_events.Scan raw))
   keeps_scan raw =
       let more = transitions_below 64 raw (life_of h) in
       keeps_more (whole_log h ++ more) (module_events.Scan raw)
       (rises-longer (whole_log h) more blocks makers (reached settings h) machine.round machine.items i.rising)
 
   -- the module restarts
-  keeps_restart : HasInvariant settings first (happened machine module_events.Restart)
+  keeps_restart : HasInvariant settings first (after_module_event machine module_events.Restart)
   keeps_restart =
       let log = whole_log h in
       let after = length log + 0 in
@@ -121,7 +121,7 @@ module _ (settings : Settings) (range : AreInRange settings) (first : ℕ) (mach
       let later : reached settings h ≤ after =
       omega (arith, length-append (past_log h) (log_of (life_of h))) in
       subst (λ bs. Invariant first log bs after None (received_numbers h) makers
-      (happened machine module_events.Restart)) (sym (append-nil blocks))
+      (after_module_event machine module_events.Restart)) (sym (append-nil blocks))
       (keeps_history first log log blocks (reached settings h) after (latest_poll (life_of h)) None
       (received_numbers h) makers machine (module_events.Restart ∷ h) i (λ n is. absurd (cc is))
       (rises-further log blocks makers (reached settings h) after machine.round machine.items later i.rising))
@@ -129,9 +129,9 @@ module _ (settings : Settings) (range : AreInRange settings) (first : ℕ) (mach
   -- the CPU sends a command, with its number if it is a poll
   keeps_sent : (command : Command)
       → ((n : ℕ) → poll_in (command_octets command) ≡ Some n → n ≡ number_of first machine.round)
-      → HasInvariant settings first (sent machine command)
+      → HasInvariant settings first (after_sending machine command)
   keeps_sent command number =
-      let f : Sent = record { octets = command_octets command; round = machine.round } in
+      let f : SentFrame = record { octets = command_octets command; round = machine.round } in
       record {
         polls =
             polls-sent first machine.to_module machine.last_to_module machine.round
@@ -161,8 +161,8 @@ module _ (settings : Settings) (range : AreInRange settings) (first : ℕ) (mach
   keeps events.Poll fine = keeps_sent (commands.Poll (number_of first machine.round)) own_poll
   keeps (events.Send command) fine = keeps_sent command (λ n is. absurd (cc (no_poll_in command fine, is)))
   keeps (events.ToModule index) fine =
-      after_delivery (λ n found. HasInvariant settings first (received settings machine n found))
+      after_delivery (λ n found. HasInvariant settings first (after_delivery_to_module settings machine n found))
       machine.to_module machine.last_to_module index fine (keeps_received settings range first machine i)
   keeps (events.ToCpu index) fine =
-      after_delivery (λ n found. HasInvariant settings first (heard first machine n found))
+      after_delivery (λ n found. HasInvariant settings first (after_delivery_to_cpu first machine n found))
       machine.to_cpu machine.last_to_cpu index fine (keeps_heard settings range first machine i)

@@ -1,11 +1,11 @@
 -- Messages among frames and one frame more.
 use Rattle.std.proofs.Common.{◌≡◌, ℕ, ◌≤◌, List, [], ◌∷◌, ◌++◌, length, Option, Some, None, sym, subst, arith, inl, inr}
 use Rattle.std.proofs.lemmas.Option.{slice_get_within}
-use Rattle.fio_world.specs.Link.{Sent}
+use Rattle.fio_world.specs.Link.{SentFrame}
 use Rattle.fio_world.specs.Frames.{HasMessage}
 use Rattle.fio_world.proofs.Places.{get_after_push}
 
-module _ {A : Type 0} (decoded : List ℕ → Option A) (frames : List Sent) (f : Sent) where
+module _ {A : Type 0} (decoded : List ℕ → Option A) (frames : List SentFrame) (f : SentFrame) where
   -- what holds of each message among frames, and of that of one frame more, holds of each among all
   pub each_more : (P : ℕ → A → ℕ → Type 0)
       → ((p : ℕ) (a : A) (r : ℕ) → HasMessage decoded frames p a r → P p a r)
@@ -15,8 +15,8 @@ module _ {A : Type 0} (decoded : List ℕ → Option A) (frames : List Sent) (f 
       elim (get_after_push frames f p h.frame h.at_place) as (λ _. P p a r) [
         | inl at ↦ old p a r (record { frame = h.frame; at_place = at; spells = h.spells; of_round = h.of_round })
         | inr last ↦
-            let spells : decoded f.octets ≡ Some a = subst (λ (g : Sent). decoded g.octets ≡ Some a) last.1 h.spells in
-            let round : f.round ≡ r = subst (λ (g : Sent). g.round ≡ r) last.1 h.of_round in
+            let spells : decoded f.octets ≡ Some a = subst (λ (g : SentFrame). decoded g.octets ≡ Some a) last.1 h.spells in
+            let round : f.round ≡ r = subst (λ (g : SentFrame). g.round ≡ r) last.1 h.of_round in
             subst (λ n. P n a r) (sym last.0) (subst (P (length frames) a) round (new a spells))
       ]
 

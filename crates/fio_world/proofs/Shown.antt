@@ -17,7 +17,7 @@ use Rattle.fio_module.specs.Replies.{reply_to, Encodes}
 use Rattle.fio_module.specs.Module as modules
 use Rattle.fio_cpu.specs.Poller.{Polling}
 use Rattle.fio_cpu.specs.declared.record.Item.{Item}
-use Rattle.fio_cpu.specs.Record.{recorded}
+use Rattle.fio_cpu.specs.Record.{items_of_block}
 use Rattle.fio_cpu.specs.Hearing.{heard_as, after_hearing, AddsItems}
 use Rattle.fio_world.specs.declared.event.Event.{Event}
 use Rattle.fio_world.specs.declared.event.Event.TheVariants as events
@@ -25,15 +25,15 @@ use Rattle.fio_world.specs.declared.outcome.Outcome.{Outcome}
 use Rattle.fio_world.specs.declared.outcome.Outcome.TheVariants as outcomes
 use Rattle.fio_world.specs.declared.outcome.WorldError.{WorldError}
 use Rattle.fio_world.specs.declared.outcome.WorldError.TheVariants as errors
-use Rattle.fio_world.specs.Link.{Machine, Sent, Refusal, start, number_of, item_numbered, delivery_refusal, refusal, sent, answer_frames, received, heard_block, heard, after, Leads}
-use Rattle.fio_world.specs.Done.{octets_numbered}
+use Rattle.fio_world.specs.Link.{Machine, SentFrame, Refusal, start, number_of, item_numbered, delivery_refusal, refusal, after_sending, answer_frames, after_delivery_to_module, after_delivered_block, after_delivery_to_cpu, after, Leads}
+use Rattle.fio_world.specs.Effects.{octets_numbered}
 use Rattle.fio_world.specs.Ends.{Ends}
 use Rattle.fio_world.proofs.Places.{get_push}
-use Rattle.fio_world.specs.Worlds.{octets_sent, polling_of, Shows, AddsFrom, TakesMemory, IsFault, IsDone, Steps, IsWorldAfter, events_done}
+use Rattle.fio_world.specs.Worlds.{octets_sent, polling_of, ShowsMachine, AddsFrom, TakesMemory, IsFault, IsDone, Steps, IsWorldAfter, events_done}
 use Rattle.fio_world.specs.Outcomes.{sent_after, replied_after, received_outcome, heard_outcome}
 
 -- the frame with a number, and its octets where the octets of all frames are listed
-item_numbered-map : (frames : List Sent) (index : ℕ) → item_numbered (map octets_sent frames) index ≡ option_map octets_sent (item_numbered frames index)
+item_numbered-map : (frames : List SentFrame) (index : ℕ) → item_numbered (map octets_sent frames) index ≡ option_map octets_sent (item_numbered frames index)
 item_numbered-map frames zero = refl
 item_numbered-map frames (suc place) = slice_get-map octets_sent frames place
 
@@ -43,12 +43,12 @@ item_numbered-place frames zero h = absurd (h refl)
 item_numbered-place frames (suc place) h = let same : suc place - 1 ≡ place = omega arith in ap (slice_get frames) same
 
 -- an option whose value is mapped to a value has one
-from_mapped : (found : Option Sent) (octets : List ℕ) → option_map octets_sent found ≡ Some octets → (frame : Sent) × (found ≡ Some frame) × (frame.octets ≡ octets)
+from_mapped : (found : Option SentFrame) (octets : List ℕ) → option_map octets_sent found ≡ Some octets → (frame : SentFrame) × (found ≡ Some frame) × (frame.octets ≡ octets)
 from_mapped (Some frame) octets e = (frame, refl, cc)
 from_mapped None octets e = absurd cc
 
 -- the CPU after a block, as the machine has it
-polling-next : (first : ℕ) (machine : Machine) (last : ℕ) (found : Option Block) → after_hearing (polling_of first machine) found ≡ polling_of first (heard_block first (record machine { last_to_cpu = last }) found)
+polling-next : (first : ℕ) (machine : Machine) (last : ℕ) (found : Option Block) → after_hearing (polling_of first machine) found ≡ polling_of first (after_delivered_block first (record machine { last_to_cpu = last }) found)
 polling-next first machine last None = refl
 polling-next first machine last (Some block) = by_test (block.number == number_of first machine.round)
   where
@@ -56,9 +56,9 @@ polling-next first machine last (Some block) = by_test (block.number == number_o
     next = omega arith
 
     by_test : (same : Bool) →
-        (if same then record { number = (number_of first machine.round + 1) % 256; items = machine.items ++ recorded block } else polling_of first machine)
-        ≡ polling_of first (if same then record machine { last_to_cpu = last; round = machine.round + 1; items = machine.items ++ recorded block } else record machine { last_to_cpu = last })
-    by_test true = ap (λ n. record { number = n; items = machine.items ++ recorded block }) next
+        (if same then record { number = (number_of first machine.round + 1) % 256; items = machine.items ++ items_of_block block } else polling_of first machine)
+        ≡ polling_of first (if same then record machine { last_to_cpu = last; round = machine.round + 1; items = machine.items ++ items_of_block block } else record machine { last_to_cpu = last })
+    by_test true = ap (λ n. record { number = n; items = machine.items ++ items_of_block block }) next
     by_test false = refl
 
 -- the octets of a reply, where there is one
@@ -105,7 +105,7 @@ with_takes : (why : Option Refusal) (takes : Type 0) (fault : WorldError) → Is
 with_takes None takes fault r = absurd r.1
 with_takes (Some why) takes fault r = r
 
-module _ (settings : Settings) (first : ℕ) (machine : Machine) (world : Ends) (s : Shows settings first machine world) where
+module _ (settings : Settings) (first : ℕ) (machine : Machine) (world : Ends) (s : ShowsMachine settings first machine world) where
   -- the refusal of a delivery is the machine's
   pub refusal-to_module : (index : ℕ) → delivery_refusal (length world.to_module) world.last_to_module index ≡ refusal machine (events.ToModule index)
   refusal-to_module index =
@@ -118,14 +118,14 @@ module _ (settings : Settings) (first : ℕ) (machine : Machine) (world : Ends) 
       ∙ ap (λ n. delivery_refusal (length machine.to_cpu) n index) s.last_to_cpu
 
   -- the octets with a number that the world shows are those of the machine's frame with it
-  found_to_module : (index : ℕ) (octets : List ℕ) → item_numbered world.to_module index ≡ Some octets → (frame : Sent) × (item_numbered machine.to_module index ≡ Some frame) × (frame.octets ≡ octets)
+  found_to_module : (index : ℕ) (octets : List ℕ) → item_numbered world.to_module index ≡ Some octets → (frame : SentFrame) × (item_numbered machine.to_module index ≡ Some frame) × (frame.octets ≡ octets)
   found_to_module index octets at = from_mapped (item_numbered machine.to_module index) octets (sym (item_numbered-map machine.to_module index) ∙ ap (λ fs. item_numbered fs index) (sym s.frames_to_module) ∙ at)
 
-  found_to_cpu : (index : ℕ) (octets : List ℕ) → item_numbered world.to_cpu index ≡ Some octets → (frame : Sent) × (item_numbered machine.to_cpu index ≡ Some frame) × (frame.octets ≡ octets)
+  found_to_cpu : (index : ℕ) (octets : List ℕ) → item_numbered world.to_cpu index ≡ Some octets → (frame : SentFrame) × (item_numbered machine.to_cpu index ≡ Some frame) × (frame.octets ≡ octets)
   found_to_cpu index octets at = from_mapped (item_numbered machine.to_cpu index) octets (sym (item_numbered-map machine.to_cpu index) ∙ ap (λ fs. item_numbered fs index) (sym s.frames_to_cpu) ∙ at)
 
   -- the CPU sent one more command
-  pub shown_sent : (command : Command) → Shows settings first (sent machine command) (record world { to_module = world.to_module ++ command_octets command ∷ [] })
+  pub shown_sent : (command : Command) → ShowsMachine settings first (after_sending machine command) (record world { to_module = world.to_module ++ command_octets command ∷ [] })
   shown_sent command = record {
     history = s.history;
     polling = s.polling;
@@ -158,7 +158,7 @@ module _ (settings : Settings) (first : ℕ) (machine : Machine) (world : Ends) 
             ap (λ n. replied_after n (reply_to settings machine.history octets)) (ap length s.frames_to_cpu ∙ length-map machine.to_cpu octets_sent)
             ∙ ap (λ o. replied_after (length machine.to_cpu) (reply_to settings machine.history o)) same
             ∙ ap (received_outcome settings machine) (sym d.1);
-        shown = subst (λ found. Shows settings first (received settings machine index found) new) (sym d.1) (record {
+        shown = subst (λ found. ShowsMachine settings first (after_delivery_to_module settings machine index found) new) (sym d.1) (record {
           history = subst (λ o. modules.IsModuleAfter settings new.module_end (Received o ∷ machine.history)) same stands;
           polling = poller ∙ s.polling;
           frames_to_module = to_module ∙ s.frames_to_module;
@@ -176,12 +176,12 @@ module _ (settings : Settings) (first : ℕ) (machine : Machine) (world : Ends) 
       → new.module_end ≡ world.module_end → new.poller_end ≡ after_hearing world.poller_end found
       → new.to_module ≡ world.to_module → new.to_cpu ≡ world.to_cpu
       → new.last_to_module ≡ world.last_to_module → new.last_to_cpu ≡ index
-      → Shows settings first (heard_block first (record machine { last_to_cpu = index }) found) new
+      → ShowsMachine settings first (after_delivered_block first (record machine { last_to_cpu = index }) found) new
   shown_block index found new module_end poller to_module to_cpu last_to_module last_to_cpu =
       by_case found (poller ∙ ap (λ p. after_hearing p found) s.polling ∙ polling-next first machine index found)
     where
       shown : (round : ℕ) (items : List Item) → new.poller_end ≡ record { number = number_of first round; items = items }
-          → Shows settings first (record machine { last_to_cpu = index; round = round; items = items }) new
+          → ShowsMachine settings first (record machine { last_to_cpu = index; round = round; items = items }) new
       shown round items polling = record {
         history = subst (λ m. modules.IsModuleAfter settings m machine.history) (sym module_end) s.history;
         polling = polling;
@@ -192,14 +192,14 @@ module _ (settings : Settings) (first : ℕ) (machine : Machine) (world : Ends) 
       }
 
       by_test : (block : Block) (same : Bool)
-          → new.poller_end ≡ polling_of first (if same then record machine { last_to_cpu = index; round = machine.round + 1; items = machine.items ++ recorded block } else record machine { last_to_cpu = index })
-          → Shows settings first (if same then record machine { last_to_cpu = index; round = machine.round + 1; items = machine.items ++ recorded block } else record machine { last_to_cpu = index }) new
-      by_test block true polling = shown (machine.round + 1) (machine.items ++ recorded block) polling
+          → new.poller_end ≡ polling_of first (if same then record machine { last_to_cpu = index; round = machine.round + 1; items = machine.items ++ items_of_block block } else record machine { last_to_cpu = index })
+          → ShowsMachine settings first (if same then record machine { last_to_cpu = index; round = machine.round + 1; items = machine.items ++ items_of_block block } else record machine { last_to_cpu = index }) new
+      by_test block true polling = shown (machine.round + 1) (machine.items ++ items_of_block block) polling
       by_test block false polling = shown machine.round machine.items polling
 
       by_case : (o : Option Block)
-          → new.poller_end ≡ polling_of first (heard_block first (record machine { last_to_cpu = index }) o)
-          → Shows settings first (heard_block first (record machine { last_to_cpu = index }) o) new
+          → new.poller_end ≡ polling_of first (after_delivered_block first (record machine { last_to_cpu = index }) o)
+          → ShowsMachine settings first (after_delivered_block first (record machine { last_to_cpu = index }) o) new
       by_case None polling = shown machine.round machine.items polling
       by_case (Some block) polling = by_test block (block.number == number_of first machine.round) polling
 
@@ -222,7 +222,7 @@ module _ (settings : Settings) (first : ℕ) (machine : Machine) (world : Ends) 
             ap (λ n. outcomes.Heard (heard_as n (decoded_answer octets))) number
             ∙ ap (λ o. outcomes.Heard (heard_as (number_of first machine.round) (decoded_answer o))) same
             ∙ ap (heard_outcome (number_of first machine.round)) (sym d.1);
-        shown = subst (λ found. Shows settings first (heard first machine index found) new) (sym d.1)
+        shown = subst (λ found. ShowsMachine settings first (after_delivery_to_cpu first machine index found) new) (sym d.1)
             (shown_block index (block_in d.0.octets) new module_end (poller ∙ ap (λ o. after_hearing world.poller_end (block_in o)) same) to_module to_cpu last_to_module last_to_cpu);
       }
 
@@ -261,11 +261,11 @@ leads-push settings first from to (e ∷ done) event is fine = (is.0, leads-push
 -- a world that stands for some events stands, after one more, for these and that one, or for these if it was refused
 pub stands_on : (settings : Settings) (first : ℕ) (done : List Event) (event : Event) (result : Result Outcome WorldError) (old new : Ends)
     → IsWorldAfter settings first done old
-    → ((machine : Machine) → Shows settings first machine old → Steps settings first machine event result new)
+    → ((machine : Machine) → ShowsMachine settings first machine old → Steps settings first machine event result new)
     → OnErr result (new ≡ old)
     → IsWorldAfter settings first (events_done done event result) new
 stands_on settings first done event (Ok outcome) old new s steps err =
     let row = steps s.machine s.shown in
     record { in_range = s.in_range; machine = after settings first s.machine event; is_run = leads-push settings first start s.machine done event s.is_run row.fine; shown = row.shown }
 stands_on settings first done event (Err fault) old new s steps err =
-    record { in_range = s.in_range; machine = s.machine; is_run = s.is_run; shown = subst (Shows settings first s.machine) (sym err) s.shown }
+    record { in_range = s.in_range; machine = s.machine; is_run = s.is_run; shown = subst (ShowsMachine settings first s.machine) (sym err) s.shown }

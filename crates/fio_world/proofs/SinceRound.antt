@@ -12,13 +12,13 @@ use Rattle.fio_message.specs.Decoding.{command_in, polled_number, block_in}
 use Rattle.fio_module.specs.Settings.{Settings, AreInRange}
 use Rattle.fio_module.specs.Life.{Received, Life, life_of, life_after_command}
 use Rattle.fio_module.specs.Blocks.{MadeBlock, latest_poll, is_new, blocks_of, next_block}
-use Rattle.fio_module.specs.Sendings.{Sending, answer_of, first_sending, sent_again}
+use Rattle.fio_module.specs.Sendings.{Sending, answer_of, first_sending, repeat_of}
 use Rattle.fio_module.specs.Replies.{answer_if}
 use Rattle.fio_module.proofs.ListParts.{get_in_back, get_last}
-use Rattle.fio_cpu.specs.Record.{recorded}
+use Rattle.fio_cpu.specs.Record.{items_of_block}
 use Rattle.fio_world.specs.declared.event.Event.{Event}
 use Rattle.fio_world.specs.declared.event.Event.TheVariants as events
-use Rattle.fio_world.specs.Link.{Sent, Machine, number_of, refusal, answer_frames, polls_with, received, heard, after, Leads}
+use Rattle.fio_world.specs.Link.{SentFrame, Machine, number_of, refusal, answer_frames, polls_with, after_delivery_to_module, after_delivery_to_cpu, after, Leads}
 use Rattle.fio_world.specs.Frames.{HasPoll, HasBlock}
 use Rattle.fio_world.specs.Headline.{IsNotRestart, HaveNoRestart}
 use Rattle.fio_world.specs.Claims.{blocks_in}
@@ -64,7 +64,7 @@ carries-longer blocks block place answer c =
     record { block = c.block; is_made = get_before_push blocks (block ∷ []) place c.block c.is_made; carried = c.carried }
 
 module _ (first : ℕ) (base : Machine) (before blocks : List MadeBlock) (latest : Option ℕ) (machine : Machine)
-    (o : Since first base before blocks latest machine) (place : ℕ) (frame : Sent) where
+    (o : Since first base before blocks latest machine) (place : ℕ) (frame : SentFrame) where
   -- a frame that is no poll is received, and what it gets is no block answer
   since-other : (reply : Option Answer)
       → ((answer : Answer) → reply ≡ Some answer → block_in (answer_octets answer) ≡ None)
@@ -81,7 +81,7 @@ module _ (first : ℕ) (base : Machine) (before blocks : List MadeBlock) (latest
             → CarriesSince blocks (length before + (r - base.round)) a) (sym (append-nil machine.to_cpu)) o.carries;
       }
   since-other (Some answer) other =
-      let f : Sent = record { octets = answer_octets answer; round = frame.round } in
+      let f : SentFrame = record { octets = answer_octets answer; round = frame.round } in
       record {
         rest = o.rest;
         split = o.split;
@@ -162,7 +162,7 @@ module _ (settings : Settings) (range : AreInRange settings) (first : ℕ) (base
   before = blocks_in settings base
 
   -- a poll is received, new or not
-  received_poll : (place number : ℕ) (frame : Sent) (new : Bool) → is_new (latest_poll life) number ≡ new
+  received_poll : (place number : ℕ) (frame : SentFrame) (new : Bool) → is_new (latest_poll life) number ≡ new
       → number ≡ number_of first frame.round → number ≤ 255 → Continues new frame.round machine.polls
       → Since first base before (blocks_if settings life new) (Some number)
       (after_poll machine place frame (answer_frames (option_map answer_of (sending_if settings life number new)) frame.round))
@@ -176,18 +176,18 @@ module _ (settings : Settings) (range : AreInRange settings) (first : ℕ) (base
   received_poll place number frame false is named fits met =
       let found = latest_sent settings life number (same_number (latest_poll life) number is) in
       let l = found.1 in
-      let again = sent_again found.0 in
+      let again = repeat_of found.0 in
       let sent_number : again.number ≡ number = l.number in
       let carried = again_carries found.0 l.block l.carried in
       subst (λ (latest : Option Sending). Since first base before (blocks_of settings life) (Some number)
-      (after_poll machine place frame (answer_frames (option_map answer_of (option_map sent_again latest)) frame.round))) (sym l.is)
+      (after_poll machine place frame (answer_frames (option_map answer_of (option_map repeat_of latest)) frame.round))) (sym l.is)
       (since-repeated first base before (blocks_of settings life) (latest_poll life) machine o place frame
       number (answer_octets (answer_of again)) (said again) l.earlier l.block named met l.made
       (carried_back settings.per_block again l.block range.few_per_block (omega arith) (newest_fits settings life l.earlier l.block l.made) carried)
       (carried_says again l.block carried))
 
   -- a frame is received that is read as this command, or as none
-  received_frame : (place : ℕ) (frame : Sent) → machine.last_to_module ≤ place + 1
+  received_frame : (place : ℕ) (frame : SentFrame) → machine.last_to_module ≤ place + 1
       → slice_get machine.to_module place ≡ Some frame
       → (command : Option Command) → command_in frame.octets ≡ command
       → Since first base before (blocks_of settings (life_after_command command life)) (latest_poll (life_after_command command life))
@@ -214,9 +214,9 @@ module _ (settings : Settings) (range : AreInRange settings) (first : ℕ) (base
       (answer_if settings life command) (no_block_reply settings life command refl)
 
   -- the module receives a frame
-  since_received : (place : ℕ) (frame : Sent) → machine.last_to_module ≤ place + 1
+  since_received : (place : ℕ) (frame : SentFrame) → machine.last_to_module ≤ place + 1
       → slice_get machine.to_module place ≡ Some frame
-      → IsSince settings first base (received settings machine (place + 1) (Some frame))
+      → IsSince settings first base (after_delivery_to_module settings machine (place + 1) (Some frame))
   since_received place frame le at = received_frame place frame le at (command_in frame.octets) refl
 
   -- the CPU hears a frame and takes nothing
@@ -243,17 +243,17 @@ module _ (settings : Settings) (range : AreInRange settings) (first : ℕ) (base
         polled = o.polled;
         started = omega (arith, o.started);
         kept =
-            ap (λ its. its ++ recorded answer) o.kept
-            ∙ append_assoc base.items (record_of k o.rest) (recorded answer)
+            ap (λ its. its ++ items_of_block answer) o.kept
+            ∙ append_assoc base.items (record_of k o.rest) (items_of_block answer)
             ∙ ap (λ its. base.items ++ its) (record_of-next o.rest k (record_of k o.rest) answer b.block found b.carried refl)
             ∙ ap (λ n. base.items ++ record_of n o.rest) (sym one_more);
         carries = o.carries;
       }
 
   -- the CPU hears a frame
-  since_heard : (place : ℕ) (frame : Sent) → machine.last_to_cpu ≤ place + 1
+  since_heard : (place : ℕ) (frame : SentFrame) → machine.last_to_cpu ≤ place + 1
       → slice_get machine.to_cpu place ≡ Some frame
-      → IsSince settings first base (heard first machine (place + 1) (Some frame))
+      → IsSince settings first base (after_delivery_to_cpu first machine (place + 1) (Some frame))
   since_heard place frame le at =
       after_heard settings range first machine i (IsSince settings first base) place frame le at
       (since_passed (place + 1)) (since_taken place)
@@ -263,10 +263,10 @@ module _ (settings : Settings) (range : AreInRange settings) (first : ℕ) (base
       → IsSince settings first base (after settings first machine event)
   since_once events.Restart none fine = absurd none
   since_once (events.ToModule index) none fine =
-      after_delivery (λ n found. IsSince settings first base (received settings machine n found))
+      after_delivery (λ n found. IsSince settings first base (after_delivery_to_module settings machine n found))
       machine.to_module machine.last_to_module index fine since_received
   since_once (events.ToCpu index) none fine =
-      after_delivery (λ n found. IsSince settings first base (heard first machine n found))
+      after_delivery (λ n found. IsSince settings first base (after_delivery_to_cpu first machine n found))
       machine.to_cpu machine.last_to_cpu index fine since_heard
   since_once event none fine =
       record { rest = o.rest; split = o.split; made = o.made; polled = o.polled; started = o.started; kept = o.kept; carries = o.carries }

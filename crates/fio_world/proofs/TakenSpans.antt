@@ -13,10 +13,10 @@ use Rattle.fio_module.specs.Settings.{Settings, AreInRange}
 use Rattle.fio_module.specs.Life.{Restart, History, Life, Commanded, life_of, life_after_command}
 use Rattle.fio_module.specs.Blocks.{MadeBlock, latest_poll, is_new, blocks_of, next_block}
 use Rattle.fio_cpu.specs.declared.record.Item.{Item}
-use Rattle.fio_cpu.specs.Record.{recorded}
+use Rattle.fio_cpu.specs.Record.{items_of_block}
 use Rattle.fio_world.specs.declared.event.Event.{Event}
 use Rattle.fio_world.specs.declared.event.Event.TheVariants as events
-use Rattle.fio_world.specs.Link.{Sent, Machine, start, number_of, refusal, polls_with, received, heard, after, Leads, IsRun}
+use Rattle.fio_world.specs.Link.{SentFrame, Machine, start, number_of, refusal, polls_with, after_delivery_to_module, after_delivery_to_cpu, after, Leads, IsRun}
 use Rattle.fio_world.specs.Frames.{HasPoll, HasBlock}
 use Rattle.fio_world.specs.Rounds.{next_round}
 use Rattle.fio_world.specs.Restarts.{past_lives}
@@ -25,7 +25,7 @@ use Rattle.fio_world.proofs.Makers.{makers_of, makers_after}
 use Rattle.fio_world.proofs.Kept.{HasInvariant, meets, blocks_if, makers_if}
 use Rattle.fio_world.proofs.HeardRows.{after_taken, after_heard}
 use Rattle.fio_world.proofs.Rows.{after_delivery, keeps-start, keeps}
-use Rattle.fio_world.proofs.OneLife.{recorded_of, newest_number, continues, recorded-carried}
+use Rattle.fio_world.proofs.OneLife.{recorded_of, newest_number, continues, items_of_block-carried}
 use Rattle.fio_world.proofs.Spans.{Span, Of, made_in, blocks_in, rounds_in, taken_from, Chain, took}
 use Rattle.fio_world.proofs.GrownSpans.{base_with, grown, begun, ends_with}
 
@@ -207,7 +207,7 @@ module _ (settings : Settings) (range : AreInRange settings) (first : ℕ) (mach
       (sym met) o
 
   -- a frame is received that is read as this command, or as none
-  received_frame : (place : ℕ) (frame : Sent) → machine.last_to_module ≤ place + 1
+  received_frame : (place : ℕ) (frame : SentFrame) → machine.last_to_module ≤ place + 1
       → slice_get machine.to_module place ≡ Some frame
       → (command : Option Command) → command_in frame.octets ≡ command
       → InSpans (past_made settings machine.history) (blocks_of settings (life_after_command command life))
@@ -223,9 +223,9 @@ module _ (settings : Settings) (range : AreInRange settings) (first : ℕ) (mach
   received_frame place frame le at command spells = o
 
   -- the module receives a frame
-  spans_received : (place : ℕ) (frame : Sent) → machine.last_to_module ≤ place + 1
+  spans_received : (place : ℕ) (frame : SentFrame) → machine.last_to_module ≤ place + 1
       → slice_get machine.to_module place ≡ Some frame
-      → HasSpans settings (received settings machine (place + 1) (Some frame))
+      → HasSpans settings (after_delivery_to_module settings machine (place + 1) (Some frame))
   spans_received place frame le at = received_frame place frame le at (command_in frame.octets) refl
 
   -- the CPU takes the block of its round
@@ -243,13 +243,13 @@ module _ (settings : Settings) (range : AreInRange settings) (first : ℕ) (mach
       let found = from_map recorded_of (blocks_in o.spans) b.place (recorded_of b.block)
       (ap (λ is. slice_get is b.place) (sym joined) ∙ recorded_at) in
       spans-taken (past_made settings machine.history) (blocks_of settings life) makers (next_round machine.polls) machine.round
-      b.place machine.items (recorded answer) found.0 o found.1 b.made_by
-      (recorded-carried answer b.block b.carried ∙ sym found.2)
+      b.place machine.items (items_of_block answer) found.0 o found.1 b.made_by
+      (items_of_block-carried answer b.block b.carried ∙ sym found.2)
 
   -- the CPU hears a frame
-  spans_heard : (place : ℕ) (frame : Sent) → machine.last_to_cpu ≤ place + 1
+  spans_heard : (place : ℕ) (frame : SentFrame) → machine.last_to_cpu ≤ place + 1
       → slice_get machine.to_cpu place ≡ Some frame
-      → HasSpans settings (heard first machine (place + 1) (Some frame))
+      → HasSpans settings (after_delivery_to_cpu first machine (place + 1) (Some frame))
   spans_heard place frame le at =
       after_heard settings range first machine i (HasSpans settings) place frame le at o (spans_taken place)
 
@@ -261,10 +261,10 @@ module _ (settings : Settings) (range : AreInRange settings) (first : ℕ) (mach
       (spans-restart (past_made settings machine.history) (blocks_of settings life) makers (next_round machine.polls)
       machine.round machine.items o)
   keeps_spans (events.ToModule index) fine =
-      after_delivery (λ n found. HasSpans settings (received settings machine n found))
+      after_delivery (λ n found. HasSpans settings (after_delivery_to_module settings machine n found))
       machine.to_module machine.last_to_module index fine spans_received
   keeps_spans (events.ToCpu index) fine =
-      after_delivery (λ n found. HasSpans settings (heard first machine n found))
+      after_delivery (λ n found. HasSpans settings (after_delivery_to_cpu first machine n found))
       machine.to_cpu machine.last_to_cpu index fine spans_heard
   keeps_spans event fine = o
 

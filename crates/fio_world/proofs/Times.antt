@@ -6,8 +6,8 @@ use Rattle.fio_message.specs.declared.commands.Command.{Command}
 use Rattle.fio_message.specs.declared.commands.Command.TheVariants.{LoadCounter}
 use Rattle.fio_input.specs.Counter.{asked_number, loaded_number, ticks_unless_loaded, ticks_after_load, one_more_if_loaded}
 use Rattle.fio_input.specs.FilterHistory.{is_reported}
-use Rattle.fio_input.specs.Widening.{widened}
-use Rattle.fio_input.proofs.Times.{widened_only}
+use Rattle.fio_input.specs.Widening.{wide_time_of}
+use Rattle.fio_input.proofs.Times.{wide_time_of_only}
 use Rattle.fio_module.specs.Settings.{Settings}
 use Rattle.fio_module.specs.Life.{Life, Scanned, LineSynced, Commanded, counter_events, counter_of, scans_of, loads_of, filter_events}
 use Rattle.fio_module.specs.Log.{Transition, entry_of, log_of, transition_at, transitions_below}
@@ -112,19 +112,19 @@ blocks_timely settings life = each_block BlockTimely settings (next_timely setti
 
 -- a counter that lies fewer than 2 ^ 16 steps back is found from its low 16 bits
 widened_back : (counter age : ℕ) → counter < 2 ^ 32 → age < 2 ^ 16
-    → counter ≡ widened ((counter + age) % 2 ^ 32) (counter % 2 ^ 16)
+    → counter ≡ wide_time_of ((counter + age) % 2 ^ 32) (counter % 2 ^ 16)
 widened_back counter age fits recent =
-    widened_only ((counter + age) % 2 ^ 32) (counter % 2 ^ 16) counter (omega arith) (omega arith)
+    wide_time_of_only ((counter + age) % 2 ^ 32) (counter % 2 ^ 16) counter (omega arith) (omega arith)
     (record { in_range = fits; same_low = refl; age = age; is_recent = recent; stamped = refl })
 
 -- the widened time of an entry is its counter, where it is in time
 pub wide_time : (block : MadeBlock) (t : Transition) → IsTimely block.stamp block.scans block.loads t
     → IsInTime t block
-    → widened block.stamp (t.counter % 2 ^ 16) ≡ t.counter
+    → wide_time_of block.stamp (t.counter % 2 ^ 16) ≡ t.counter
 wide_time block t p q =
     let low : t.scans ≤ block.scans = p.scanned_before in
     let few : block.scans < t.scans + 2 ^ 16 = q.few_scans in
-    ap (λ stamp. widened stamp (t.counter % 2 ^ 16)) (p.on q.no_load)
+    ap (λ stamp. wide_time_of stamp (t.counter % 2 ^ 16)) (p.on q.no_load)
     ∙ sym (widened_back t.counter (block.scans - t.scans) p.fits (omega arith))
 
 -- two pairs of lists that agree one by one

@@ -9,7 +9,7 @@ use Rattle.fio_module.specs.Blocks.{MadeBlock, blocks_of}
 use Rattle.fio_cpu.specs.declared.record.Item.TheVariants as items
 use Rattle.fio_cpu.specs.Record.{item_of}
 use Rattle.fio_world.specs.Link.{Machine}
-use Rattle.fio_world.specs.Pieces.{Gap, Got, piece_of, pieces_of}
+use Rattle.fio_world.specs.Pieces.{Gap, EntryPiece, piece_of, pieces_of}
 use Rattle.fio_world.specs.Claims.{IsTimed, sources_of}
 use Rattle.fio_world.specs.Restarts.{past_lives, lives_of, TakenLife, IsOneStretch, taken_in, TakesStretchOfEachLife}
 use Rattle.fio_world.proofs.MadeBlocks.{each-append}
@@ -23,7 +23,7 @@ use Rattle.fio_world.proofs.RestartLosses.{each-behind, each-front, restarts_los
 -- the entries of a block as pieces, with its gap mark
 got_marked : (lost : Bool) (stamp : ℕ) (ts : List Transition)
     → map piece_of ((if lost then items.Gap ∷ [] else []) ++ map (item_of stamp) (map entry_of ts))
-    ≡ (if lost then Gap ∷ [] else []) ++ map (λ transition. Got (entry_of transition)) ts
+    ≡ (if lost then Gap ∷ [] else []) ++ map (λ transition. EntryPiece (entry_of transition)) ts
 got_marked true stamp ts = ap (λ ps. Gap ∷ ps) (got_entries stamp ts)
 got_marked false stamp ts = got_entries stamp ts
 

@@ -13,7 +13,7 @@ use Rattle.fio_module.proofs.Polling.{polled_often_stays_few}
 use Rattle.fio_module.proofs.Outages.{outage_stays_few}
 use Rattle.fio_module.proofs.FiltersThatDiffer.{polled_for_each_loses_none}
 use Rattle.fio_world.specs.Link.{Machine}
-use Rattle.fio_world.specs.Pieces.{Piece, Gap, Got, piece_of, ArePieces}
+use Rattle.fio_world.specs.Pieces.{Piece, Gap, EntryPiece, piece_of, ArePieces}
 use Rattle.fio_world.specs.Headline.{end_taken}
 use Rattle.fio_world.specs.Delivery.{IsWholeUnlessFull, IsWholeWherePolledOften, IsWholeWherePolledForEach, IsWholeAfterOutage}
 use Rattle.fio_world.proofs.MadeBlocks.{each-at}
@@ -28,23 +28,23 @@ each-contained P blocks block all here =
 -- pieces without gap marks, from one place of a list of entries to another
 abbrev ArePart : Settings → Life → ℕ → List Piece → ℕ → Type 0
 ArePart settings life from pieces to =
-    (from ≤ to) × (pieces ≡ map Got (take (to - from) (drop from (map entry_of (log_of life)))))
+    (from ≤ to) × (pieces ≡ map EntryPiece (take (to - from) (drop from (map entry_of (log_of life)))))
 
 -- where no block says that entries were lost, pieces are a part of the log
 part_of_log : (settings : Settings) (life : Life) (from : ℕ) (pieces : List Piece) (to : ℕ) → NoBlockLost settings life
     → ArePieces settings life from pieces to → ArePart settings life from pieces to
 part_of_log settings life from [] to none p =
     let nothing : to - from ≡ 0 = omega arith in
-    (omega arith, ap (λ n. map Got (take n (drop from (map entry_of (log_of life))))) (sym nothing))
-part_of_log settings life from (Got entry ∷ pieces) to none p =
+    (omega arith, ap (λ n. map EntryPiece (take n (drop from (map entry_of (log_of life))))) (sym nothing))
+part_of_log settings life from (EntryPiece entry ∷ pieces) to none p =
     let rest = part_of_log settings life (from + 1) pieces to none p.1 in
     let further : from + 1 ≤ to = rest.0 in
     let count : to - from ≡ suc (to - (from + 1)) = omega arith in
     let entries = map entry_of (log_of life) in
-    let whole : map Got (take (to - from) (drop from entries)) ≡ Got entry ∷ map Got (take (to - (from + 1)) (drop (from + 1) entries)) =
-    ap (λ n. map Got (take n (drop from entries))) count
-    ∙ ap (λ es. map Got (take (suc (to - (from + 1))) es)) (drop_found entries from entry p.0) in
-    (omega arith, ap (λ ps. Got entry ∷ ps) rest.1 ∙ sym whole)
+    let whole : map EntryPiece (take (to - from) (drop from entries)) ≡ EntryPiece entry ∷ map EntryPiece (take (to - (from + 1)) (drop (from + 1) entries)) =
+    ap (λ n. map EntryPiece (take n (drop from entries))) count
+    ∙ ap (λ es. map EntryPiece (take (suc (to - (from + 1))) es)) (drop_found entries from entry p.0) in
+    (omega arith, ap (λ ps. EntryPiece entry ∷ ps) rest.1 ∙ sym whole)
 part_of_log settings life from (Gap ∷ pieces) to none p =
     let loss = p.1 in
     absurd (cc (loss.said, each-contained (λ block. block.lost ≡ false) (blocks_of settings life) loss.block none loss.is_made))
@@ -62,7 +62,7 @@ whole_unless_full settings machine pieces few =
     let to = end_taken settings machine in
     let all : to - 0 ≡ to = omega arith in
     (part_of_log settings life 0 (map piece_of machine.items) to (nothing_is_lost settings life few) pieces).1
-    ∙ ap (λ n. map Got (take n (map entry_of (log_of life)))) all
+    ∙ ap (λ n. map EntryPiece (take n (map entry_of (log_of life)))) all
 
 -- where the module is polled often
 pub whole_where_polled_often : (settings : Settings) → AreInRange settings → (machine : Machine)

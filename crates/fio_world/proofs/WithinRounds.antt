@@ -13,10 +13,10 @@ use Rattle.fio_module.specs.Settings.{Settings, AreInRange}
 use Rattle.fio_module.specs.Life.{Life, Commanded, life_of, life_after_command, Received}
 use Rattle.fio_module.specs.Sendings.{answer_of}
 use Rattle.fio_module.specs.Replies.{answer_if}
-use Rattle.fio_cpu.specs.Record.{recorded}
+use Rattle.fio_cpu.specs.Record.{items_of_block}
 use Rattle.fio_world.specs.declared.event.Event.{Event}
 use Rattle.fio_world.specs.declared.event.Event.TheVariants as events
-use Rattle.fio_world.specs.Link.{Sent, Machine, number_of, refusal, answer_frames, polls_with, received, heard, after, Leads}
+use Rattle.fio_world.specs.Link.{SentFrame, Machine, number_of, refusal, answer_frames, polls_with, after_delivery_to_module, after_delivery_to_cpu, after, Leads}
 use Rattle.fio_world.specs.Frames.{HasPoll, HasBlock}
 use Rattle.fio_world.specs.Headline.{HaveNoRestart}
 use Rattle.fio_world.specs.Rounds.{next_round}
@@ -34,8 +34,8 @@ use Rattle.fio_world.proofs.Runs.{keeps_all, takes}
 
 -- frames that were sent stay where they are
 pub record HasMore (machine last : Machine) : Type 0 where
-  pub to_module : (place : ℕ) (frame : Sent) → slice_get machine.to_module place ≡ Some frame → slice_get last.to_module place ≡ Some frame
-  pub to_cpu : (place : ℕ) (frame : Sent) → slice_get machine.to_cpu place ≡ Some frame → slice_get last.to_cpu place ≡ Some frame
+  pub to_module : (place : ℕ) (frame : SentFrame) → slice_get machine.to_module place ≡ Some frame → slice_get last.to_module place ≡ Some frame
+  pub to_cpu : (place : ℕ) (frame : SentFrame) → slice_get machine.to_cpu place ≡ Some frame → slice_get last.to_cpu place ≡ Some frame
 
 -- one block answer was taken since a machine, to a poll of its round, or none
 abbrev IsTaken : Machine → Machine → Type 0
@@ -76,11 +76,11 @@ more-none machine = record { to_module = λ place frame at. at; to_cpu = λ plac
 module _ (settings : Settings) (range : AreInRange settings) (first : ℕ) (base machine : Machine)
     (i : HasInvariant settings first machine) (o : IsInRound base machine) where
   -- the module receives a frame
-  round_received : (place : ℕ) (frame : Sent) → machine.last_to_module ≤ place + 1
+  round_received : (place : ℕ) (frame : SentFrame) → machine.last_to_module ≤ place + 1
       → slice_get machine.to_module place ≡ Some frame
-      → IsInRound base (received settings machine (place + 1) (Some frame))
+      → IsInRound base (after_delivery_to_module settings machine (place + 1) (Some frame))
   round_received place frame le at =
-      let later = received settings machine (place + 1) (Some frame) in
+      let later = after_delivery_to_module settings machine (place + 1) (Some frame) in
       let here : HasMore machine later = record {
         to_module = λ p f old. old;
         to_cpu = λ p f old. get_before_push machine.to_cpu _ p f old;
@@ -120,16 +120,16 @@ module _ (settings : Settings) (range : AreInRange settings) (first : ℕ) (base
             place = place;
             answered = subst (HasBlock machine.to_cpu place answer) none.0 block;
             round = ap (λ n. n + 1) none.0;
-            items = ap (λ its. its ++ recorded answer) none.1;
+            items = ap (λ its. its ++ items_of_block answer) none.1;
           }
       one (inr done) =
           let again = i.answers.answered place answer machine.round block in
           absurd (omega (arith, o.received, done.round))
 
   -- the CPU hears a frame
-  round_heard : (place : ℕ) (frame : Sent) → machine.last_to_cpu ≤ place + 1
+  round_heard : (place : ℕ) (frame : SentFrame) → machine.last_to_cpu ≤ place + 1
       → slice_get machine.to_cpu place ≡ Some frame
-      → IsInRound base (heard first machine (place + 1) (Some frame))
+      → IsInRound base (after_delivery_to_cpu first machine (place + 1) (Some frame))
   round_heard place frame le at =
       after_heard settings range first machine i (IsInRound base) place frame le at (round_passed (place + 1)) (round_taken place)
 
@@ -137,7 +137,7 @@ module _ (settings : Settings) (range : AreInRange settings) (first : ℕ) (base
   round_sent : (command : Command) → poll_in (command_octets command) ≡ None → IsInRound base (after settings first machine (events.Send command))
   round_sent command none =
       let later = after settings first machine (events.Send command) in
-      let f : Sent = record { octets = command_octets command; round = machine.round } in
+      let f : SentFrame = record { octets = command_octets command; round = machine.round } in
       let here : HasMore machine later = record {
         to_module = λ p g old. get_before_push machine.to_module (f ∷ []) p g old;
         to_cpu = λ p g old. old;
@@ -156,10 +156,10 @@ module _ (settings : Settings) (range : AreInRange settings) (first : ℕ) (base
   round_once events.Restart within fine = absurd within
   round_once (events.Send command) within fine = round_sent command (no_poll_in command fine)
   round_once (events.ToModule index) within fine =
-      after_delivery (λ n found. IsInRound base (received settings machine n found))
+      after_delivery (λ n found. IsInRound base (after_delivery_to_module settings machine n found))
       machine.to_module machine.last_to_module index fine round_received
   round_once (events.ToCpu index) within fine =
-      after_delivery (λ n found. IsInRound base (heard first machine n found))
+      after_delivery (λ n found. IsInRound base (after_delivery_to_cpu first machine n found))
       machine.to_cpu machine.last_to_cpu index fine round_heard
   round_once event within fine =
       let later = after settings first machine event in
@@ -198,7 +198,7 @@ pub record IsAnswered (settings : Settings) (first round : ℕ) (machine later :
   pub polls : later.polls ≡ round ∷ machine.polls
   pub life : life_of later.history ≡ Commanded (commands.Poll (number_of first round)) ∷ life_of machine.history
 
-abbrev pub poll_frame : ℕ → ℕ → Sent
+abbrev pub poll_frame : ℕ → ℕ → SentFrame
 poll_frame first round = record { octets = command_octets (commands.Poll (number_of first round)); round = round }
 
 pub poll_answered : (settings : Settings) → AreInRange settings → (first round : ℕ) (machine : Machine) (place : ℕ)
@@ -217,10 +217,10 @@ poll_answered settings range first round machine place at =
     let named : sending.number ≡ number = l.number in
     let reads = carried_back settings.per_block sending l.block range.few_per_block (omega (arith, number_of-fits first round))
     (newest_fits settings life l.earlier l.block l.made) l.carried in
-    let answer_frame : Sent = record { octets = answer_octets (answer_of sending); round = round } in
+    let answer_frame : SentFrame = record { octets = answer_octets (answer_of sending); round = round } in
     let answering : Machine = after_poll machine place frame (answer_frame ∷ []) in
     let same : answering ≡ after settings first machine (events.ToModule (place + 1)) =
-    sym (ap (received settings machine (place + 1)) (frame_at_place machine.to_module place ∙ at)
+    sym (ap (after_delivery_to_module settings machine (place + 1)) (frame_at_place machine.to_module place ∙ at)
     ∙ ap (λ command. record machine {
       last_to_module = place + 1;
       history = Received frame.octets ∷ machine.history;

@@ -13,7 +13,7 @@ use Rattle.fio_cpu.specs.declared.record.Item.TheVariants as items
 use Rattle.fio_world.specs.declared.event.Event.TheVariants.{ToCpu}
 use Rattle.fio_world.specs.Link.{Machine, refusal, after}
 use Rattle.fio_world.specs.Frames.{HasBlock, block_answers, repeats}
-use Rattle.fio_world.specs.Pieces.{piece_of, taken, ArePieces}
+use Rattle.fio_world.specs.Pieces.{piece_of, pieces_of_blocks, ArePieces}
 
 -- the blocks of the module's present life
 abbrev pub blocks_in : Settings → Machine → List MadeBlock
@@ -25,7 +25,7 @@ pub record StandsAtTaken (settings : Settings) (machine : Machine) : Type 0 wher
   pub behind :
       (machine.round ≡ length (blocks_in settings machine))
       ⊎ (machine.round + 1 ≡ length (blocks_in settings machine))
-  pub items : map piece_of machine.items ≡ taken machine.round (blocks_in settings machine)
+  pub items : map piece_of machine.items ≡ pieces_of_blocks machine.round (blocks_in settings machine)
 
 -- What of a life is not recorded, besides the block that is not taken if there is one.
 pub record RestIsLostOrWaits (settings : Settings) (life : Life) : Type 0 where
@@ -33,7 +33,7 @@ pub record RestIsLostOrWaits (settings : Settings) (life : Life) : Type 0 where
   -- out before a block that says so
   pub in_blocks :
       let blocks = blocks_of settings life in
-      ArePieces settings life 0 (taken (length blocks) blocks) (newest_end settings life)
+      ArePieces settings life 0 (pieces_of_blocks (length blocks) blocks) (newest_end settings life)
   -- from there on to the oldest waiting entry they were pushed out, which happens only when as many
   -- wait as may
   pub pushed_out : newest_end settings life ≤ waiting_from settings life

@@ -11,14 +11,14 @@ use Rattle.fio_module.specs.Blocks.{MadeBlock, latest_poll, is_new, blocks_of, n
 use Rattle.fio_module.specs.Delivery.{NeverTooMany, IsPolledOften, IsOutage}
 use Rattle.fio_module.specs.FiltersThatDiffer.{IsPolledForEach}
 use Rattle.fio_cpu.specs.declared.record.Item.TheVariants as items
-use Rattle.fio_cpu.specs.Record.{recorded}
+use Rattle.fio_cpu.specs.Record.{items_of_block}
 use Rattle.fio_world.specs.declared.event.Event.{Event}
 use Rattle.fio_world.specs.declared.event.Event.TheVariants.{Poll, ToModule, ToCpu, Restart}
 use Rattle.fio_world.specs.Link.{Machine, after, Leads}
 use Rattle.fio_world.specs.Frames.{HasBlock}
 use Rattle.fio_world.specs.Claims.{blocks_in}
 use Rattle.fio_world.specs.Rounds.{CarriesBlock}
-use Rattle.fio_world.specs.Pieces.{Got, piece_of, pieces_of}
+use Rattle.fio_world.specs.Pieces.{EntryPiece, piece_of, pieces_of}
 use Rattle.fio_world.specs.Headline.{end_taken}
 
 -- a clean round with nothing between: the CPU polls, the module receives the frame just sent, and the
@@ -36,7 +36,7 @@ pub record TakesBlock (settings : Settings) (first : ℕ) (machine later : Machi
   pub answered : HasBlock later.to_cpu (length machine.to_cpu) answer machine.round
   -- the round is one more, and the record is longer by what the block adds
   pub round : later.round ≡ machine.round + 1
-  pub items : later.items ≡ machine.items ++ recorded answer
+  pub items : later.items ≡ machine.items ++ items_of_block answer
   -- it carries the newest block of the module's present life
   pub earlier : List MadeBlock
   pub block : MadeBlock
@@ -89,7 +89,7 @@ pub record TakesOne (machine later : Machine) : Type 0 where
   pub answered : HasBlock later.to_cpu place answer machine.round
   -- the round is one more, and the record is longer by what the block adds
   pub round : later.round ≡ machine.round + 1
-  pub items : later.items ≡ machine.items ++ recorded answer
+  pub items : later.items ≡ machine.items ++ items_of_block answer
 
 -- in each clean round the CPU takes one block
 abbrev pub EachCleanRoundTakesOne : Settings → ℕ → Machine → Type 0
@@ -129,7 +129,7 @@ CleanRoundsCatchUp settings first machine = (k : ℕ) →
 abbrev pub RecordIsWhole : Settings → Machine → Type 0
 RecordIsWhole settings machine =
     map piece_of machine.items
-    ≡ map Got (take (end_taken settings machine) (map entry_of (log_of (life_of machine.history))))
+    ≡ map EntryPiece (take (end_taken settings machine) (map entry_of (log_of (life_of machine.history))))
 
 -- Nothing is lost unless the buffer was full: the record is whole where never more stood beyond the
 -- newest block than may wait.

@@ -4,22 +4,22 @@ use Rattle.fio_message.specs.Blocks.{Block}
 use Rattle.fio_message.specs.Decoding.{poll_in, block_in}
 use Rattle.fio_message.specs.Status.{says_again}
 use Rattle.fio_module.specs.Life.{Received, History}
-use Rattle.fio_world.specs.Link.{Sent}
+use Rattle.fio_world.specs.Link.{SentFrame}
 
 -- the frame at this place, from 0, is decoded to this message, and has this round
-pub record HasMessage {A : Type 0} (decoded : List ℕ → Option A) (frames : List Sent) (place : ℕ)
+pub record HasMessage {A : Type 0} (decoded : List ℕ → Option A) (frames : List SentFrame) (place : ℕ)
     (message : A) (round : ℕ) : Type 0 where
-  pub frame : Sent
+  pub frame : SentFrame
   pub at_place : slice_get frames place ≡ Some frame
   pub spells : decoded frame.octets ≡ Some message
   pub of_round : frame.round ≡ round
 
 -- the frame at this place, from 0, spells a poll with this number, and has this round
-abbrev pub HasPoll : List Sent → ℕ → ℕ → ℕ → Type 0
+abbrev pub HasPoll : List SentFrame → ℕ → ℕ → ℕ → Type 0
 HasPoll frames place number round = HasMessage poll_in frames place number round
 
 -- the frame at this place, from 0, spells a block answer with this block, to a poll of this round
-abbrev pub HasBlock : List Sent → ℕ → Block → ℕ → Type 0
+abbrev pub HasBlock : List SentFrame → ℕ → Block → ℕ → Type 0
 HasBlock frames place block round = HasMessage block_in frames place block round
 
 -- the numbers of polls, with that of a frame which is a poll, newest first
@@ -52,7 +52,7 @@ answer_before None round answers = answers
 answer_before (Some block) round answers = (round, says_again block.status) ∷ answers
 
 -- the rounds of the block answers among frames, in order, each with whether it says so
-abbrev pub block_answers : List Sent → List (ℕ × Bool)
+abbrev pub block_answers : List SentFrame → List (ℕ × Bool)
 block_answers [] = []
 block_answers (frame ∷ frames) =
     answer_before (block_in frame.octets) frame.round (block_answers frames)

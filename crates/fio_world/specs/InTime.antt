@@ -14,7 +14,7 @@ use Rattle.fio_world.specs.declared.event.Event.{Event}
 use Rattle.fio_world.specs.declared.event.Event.TheVariants.{Scan, LineSync, Raise, Poll, ToModule, ToCpu}
 use Rattle.fio_world.specs.Link.{Machine, after, Leads}
 use Rattle.fio_world.specs.Claims.{blocks_in}
-use Rattle.fio_world.specs.Pieces.{Got, piece_of}
+use Rattle.fio_world.specs.Pieces.{EntryPiece, piece_of}
 use Rattle.fio_world.specs.Headline.{HaveNoRestart, end_taken}
 use Rattle.fio_world.specs.Delivery.{clean_round, IsCleanRound, HasNothingBetween}
 
@@ -108,8 +108,8 @@ timed_item transition =
     transition.counter
 
 -- the transitions logged since a machine, through the last block taken
-abbrev pub arrived : Settings → Machine → Machine → List Transition
-arrived settings machine last =
+abbrev pub transitions_arrived : Settings → Machine → Machine → List Transition
+transitions_arrived settings machine last =
     drop (length (log_of (life_of machine.history)))
     (take (end_taken settings last) (log_of (life_of last.history)))
 
@@ -121,12 +121,12 @@ pub record HasArrived (settings : Settings) (filter most behind : ℕ)
   pub whole :
       map piece_of last.items
       ≡ map piece_of machine.items
-      ++ map (λ transition. Got (entry_of transition)) (arrived settings machine last)
+      ++ map (λ transition. EntryPiece (entry_of transition)) (transitions_arrived settings machine last)
   -- each with its time, where no load of the counter took effect and none can be 65,536 scans late
   pub times :
       loads_of (life_of last.history) ≡ loads_of (life_of machine.history)
       → most + filter ≤ 65537
-      → last.items ≡ machine.items ++ map timed_item (arrived settings machine last)
+      → last.items ≡ machine.items ++ map timed_item (transitions_arrived settings machine last)
   -- through all that had been logged when the module received the poll of the clean round so many rounds
   -- earlier, which are as many as blocks that take what may be left
   pub through :

@@ -5,7 +5,7 @@ pub mod Outcomes
 pub mod Lines
 pub mod Words
 pub mod Hexadecimal
-pub mod Collected
+pub mod FirstFaults
 pub mod Forms
 pub mod Headers
 pub mod EventLines
@@ -34,5 +34,5 @@ pub mod Sound
 -- what contracts see of a world
 pub mod EndToEnd
 pub mod Ends
-pub mod Done
+pub mod Effects
 pub mod Worlds

@@ -12,7 +12,7 @@ use Rattle.fio_module.specs.Life.{Received, History}
 use Rattle.fio_module.specs.Life as module_events
 use Rattle.fio_module.specs.Replies.{reply_to}
 use Rattle.fio_cpu.specs.declared.record.Item.{Item}
-use Rattle.fio_cpu.specs.Record.{recorded}
+use Rattle.fio_cpu.specs.Record.{items_of_block}
 use Rattle.fio_world.specs.declared.event.Event.{Event}
 use Rattle.fio_world.specs.declared.event.Event.TheVariants.{Scan, LineSync, Raise, Poll, Send, ToModule, ToCpu, Restart}
 
@@ -25,7 +25,7 @@ pub data Refusal : Type 0 where
 
 -- a frame with its round: how many blocks the CPU had taken when the frame, or the command that it
 -- answers, was sent
-pub record Sent : Type 0 where
+pub record SentFrame : Type 0 where
   pub octets : List ℕ
   pub round : ℕ
 
@@ -34,8 +34,8 @@ pub record Machine : Type 0 where
   -- what has reached the module, newest first
   pub history : History
   -- all frames ever sent in each direction, oldest first
-  pub to_module : List Sent
-  pub to_cpu : List Sent
+  pub to_module : List SentFrame
+  pub to_cpu : List SentFrame
   -- the number delivered last in each direction, 0 for none
   pub last_to_module : ℕ
   pub last_to_cpu : ℕ
@@ -90,17 +90,17 @@ refusal machine (Send command) = sending_refusal command
 refusal machine other = None
 
 -- something reaches the module that is no frame
-abbrev pub happened : Machine → module_events.Event → Machine
-happened machine event = record machine { history = event ∷ machine.history }
+abbrev pub after_module_event : Machine → module_events.Event → Machine
+after_module_event machine event = record machine { history = event ∷ machine.history }
 
 -- the CPU sends a command
-abbrev pub sent : Machine → Command → Machine
-sent machine command =
-    let frame : Sent = record { octets = command_octets command; round = machine.round } in
+abbrev pub after_sending : Machine → Command → Machine
+after_sending machine command =
+    let frame : SentFrame = record { octets = command_octets command; round = machine.round } in
     record machine { to_module = machine.to_module ++ frame ∷ [] }
 
 -- the frame that an answer is sent in, where there is one
-abbrev pub answer_frames : Option Answer → ℕ → List Sent
+abbrev pub answer_frames : Option Answer → ℕ → List SentFrame
 answer_frames None round = []
 answer_frames (Some answer) round = record { octets = answer_octets answer; round = round } ∷ []
 
@@ -110,9 +110,9 @@ polls_with None round polls = polls
 polls_with (Some number) round polls = round ∷ polls
 
 -- the module receives the frame with this number, and its reply, if any, is sent
-abbrev pub received : Settings → Machine → ℕ → Option Sent → Machine
-received settings machine index None = machine
-received settings machine index (Some frame) =
+abbrev pub after_delivery_to_module : Settings → Machine → ℕ → Option SentFrame → Machine
+after_delivery_to_module settings machine index None = machine
+after_delivery_to_module settings machine index (Some frame) =
     record machine {
       last_to_module = index;
       history = Received frame.octets ∷ machine.history;
@@ -124,31 +124,31 @@ received settings machine index (Some frame) =
 
 -- a block with the CPU's number is taken: it is recorded, and the round is one more. Any other
 -- changes nothing
-abbrev pub heard_block : ℕ → Machine → Option Block → Machine
-heard_block first machine None = machine
-heard_block first machine (Some block) =
+abbrev pub after_delivered_block : ℕ → Machine → Option Block → Machine
+after_delivered_block first machine None = machine
+after_delivered_block first machine (Some block) =
     if block.number == number_of first machine.round
-    then record machine { round = machine.round + 1; items = machine.items ++ recorded block }
+    then record machine { round = machine.round + 1; items = machine.items ++ items_of_block block }
     else machine
 
 -- the CPU hears the frame with this number
-abbrev pub heard : ℕ → Machine → ℕ → Option Sent → Machine
-heard first machine index None = machine
-heard first machine index (Some frame) =
-    heard_block first (record machine { last_to_cpu = index }) (block_in frame.octets)
+abbrev pub after_delivery_to_cpu : ℕ → Machine → ℕ → Option SentFrame → Machine
+after_delivery_to_cpu first machine index None = machine
+after_delivery_to_cpu first machine index (Some frame) =
+    after_delivered_block first (record machine { last_to_cpu = index }) (block_in frame.octets)
 
 -- the machine after an event that is not refused, for a CPU whose first number is this one
 abbrev pub after : Settings → ℕ → Machine → Event → Machine
-after settings first machine (Scan raw) = happened machine (module_events.Scan raw)
-after settings first machine LineSync = happened machine module_events.LineSync
-after settings first machine (Raise mask) = happened machine (module_events.Raise mask)
-after settings first machine Restart = happened machine module_events.Restart
-after settings first machine Poll = sent machine (commands.Poll (number_of first machine.round))
-after settings first machine (Send command) = sent machine command
+after settings first machine (Scan raw) = after_module_event machine (module_events.Scan raw)
+after settings first machine LineSync = after_module_event machine module_events.LineSync
+after settings first machine (Raise mask) = after_module_event machine (module_events.Raise mask)
+after settings first machine Restart = after_module_event machine module_events.Restart
+after settings first machine Poll = after_sending machine (commands.Poll (number_of first machine.round))
+after settings first machine (Send command) = after_sending machine command
 after settings first machine (ToModule index) =
-    received settings machine index (item_numbered machine.to_module index)
+    after_delivery_to_module settings machine index (item_numbered machine.to_module index)
 after settings first machine (ToCpu index) =
-    heard first machine index (item_numbered machine.to_cpu index)
+    after_delivery_to_cpu first machine index (item_numbered machine.to_cpu index)
 
 -- these events, none of them refused, lead from one machine to another
 abbrev pub Leads : Settings → ℕ → Machine → List Event → Machine → Type 0

@@ -9,10 +9,10 @@ use Rattle.fio_module.specs.Blocks.{waiting_of}
 use Rattle.fio_world.specs.declared.event.Event.{Event}
 use Rattle.fio_world.specs.Link.{Machine, IsRun}
 use Rattle.fio_world.specs.Claims.{blocks_in}
-use Rattle.fio_world.specs.Pieces.{Got, piece_of}
+use Rattle.fio_world.specs.Pieces.{EntryPiece, piece_of}
 use Rattle.fio_world.specs.Headline.{HaveNoRestart, end_taken}
 use Rattle.fio_world.specs.Delivery.{IsCleanRound}
-use Rattle.fio_world.specs.InTime.{IsWithin, LeadsOn, LeadsInTime, timed_item, arrived}
+use Rattle.fio_world.specs.InTime.{IsWithin, LeadsOn, LeadsInTime, timed_item, transitions_arrived}
 use Rattle.fio_world.specs.AnyTime.{LacksOnlyYoung}
 
 -- The scans before the module receives the poll of a clean round, since it received that of the one before: so
@@ -89,12 +89,12 @@ pub record ArrivesLate (settings : Settings) (first filter most behind : ℕ) (m
   pub whole :
       map piece_of last.items
       ≡ map piece_of machine.items
-      ++ map (λ transition. Got (entry_of transition)) (arrived settings machine last)
+      ++ map (λ transition. EntryPiece (entry_of transition)) (transitions_arrived settings machine last)
   -- each with its time, where no load of the counter took effect and none can be 65,536 scans late
   pub times :
       loads_of (life_of last.history) ≡ loads_of (life_of machine.history)
       → most + filter ≤ 65537
-      → last.items ≡ machine.items ++ map timed_item (arrived settings machine last)
+      → last.items ≡ machine.items ++ map timed_item (transitions_arrived settings machine last)
   -- n scans after the newest poll was received, what the record lacks is at most n + behind + f - 2 scans old
   pub late :
       (scans : ℕ) (now : Machine) → LeadsInTime settings first scans receipt last now
@@ -168,7 +168,7 @@ StandardLinkKeptUpIsNeverLater scans most late =
     left_behind scans pauses + between ≤ most →
     (map piece_of last.items
     ≡ map piece_of machine.items
-    ++ map (λ transition. Got (entry_of transition)) (arrived (standard_settings id) machine last))
+    ++ map (λ transition. EntryPiece (entry_of transition)) (transitions_arrived (standard_settings id) machine last))
     × AllByRecursion
     (λ transition. scans_of (life_of now.history) ≤ transition.scans + late)
     (drop (end_taken (standard_settings id) now) (log_of (life_of now.history)))

@@ -7,7 +7,7 @@ use Rattle.fio_module.specs.Log.{Transition, entry_of}
 use Rattle.fio_module.specs.NewLevels.{HasNewLevelAfter, IsLoggedAt}
 use Rattle.fio_world.specs.declared.event.Event.{Event}
 use Rattle.fio_world.specs.Link.{Machine}
-use Rattle.fio_world.specs.Pieces.{Got, piece_of}
+use Rattle.fio_world.specs.Pieces.{EntryPiece, piece_of}
 use Rattle.fio_world.specs.InTime.{LeadsInTime, newest_of, IsPolledInTime, behind_after, timed_item}
 use Rattle.fio_world.specs.AnyTime.{IsStandardLink}
 
@@ -16,7 +16,7 @@ pub record HasGained (machine now : Machine) (transition : Transition) (in_time 
     : Type 0 where
   pub place : ℕ
   pub since : length machine.items ≤ place
-  pub there : slice_get (map piece_of now.items) place ≡ Some (Got (entry_of transition))
+  pub there : slice_get (map piece_of now.items) place ≡ Some (EntryPiece (entry_of transition))
   pub timed : in_time → slice_get now.items place ≡ Some (timed_item transition)
 
 -- the log has a transition of this input to this state, at one of these samples, which came after a

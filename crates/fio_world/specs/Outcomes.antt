@@ -14,7 +14,7 @@ use Rattle.fio_world.specs.declared.outcome.Outcome.{Outcome}
 use Rattle.fio_world.specs.declared.outcome.Outcome.TheVariants as outcomes
 use Rattle.fio_world.specs.declared.outcome.WorldError.{WorldError}
 use Rattle.fio_world.specs.declared.outcome.WorldError.TheVariants as errors
-use Rattle.fio_world.specs.Link.{Machine, Sent, Refusal, NotSent, OutOfOrder, PollIsOurs, number_of, item_numbered}
+use Rattle.fio_world.specs.Link.{Machine, SentFrame, Refusal, NotSent, OutOfOrder, PollIsOurs, number_of, item_numbered}
 
 -- a frame was sent after so many others
 abbrev pub sent_after : ℕ → List ℕ → Outcome
@@ -26,13 +26,13 @@ replied_after count None = outcomes.Quiet
 replied_after count (Some answer) = sent_after count (answer_octets answer)
 
 -- the outcome of the module's reply to this frame
-abbrev pub received_outcome : Settings → Machine → Option Sent → Outcome
+abbrev pub received_outcome : Settings → Machine → Option SentFrame → Outcome
 received_outcome settings machine None = outcomes.Quiet
 received_outcome settings machine (Some frame) =
     replied_after (length machine.to_cpu) (reply_to settings machine.history frame.octets)
 
 -- what the CPU makes of this frame, where its number is this one
-abbrev pub heard_outcome : ℕ → Option Sent → Outcome
+abbrev pub heard_outcome : ℕ → Option SentFrame → Outcome
 heard_outcome number None = outcomes.Quiet
 heard_outcome number (Some frame) = outcomes.Heard (heard_as number (decoded_answer frame.octets))
 

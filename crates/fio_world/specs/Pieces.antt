@@ -12,24 +12,24 @@ use Rattle.fio_cpu.specs.declared.record.Item.TheVariants as items
 -- an item of the record without its wide time: a gap mark, or the entry that was got
 pub data Piece : Type 0 where
   Gap : Piece
-  Got : (entry : Entry) → Piece
+  EntryPiece : (entry : Entry) → Piece
 
 -- an item of the record without its wide time
 abbrev pub piece_of : Item → Piece
 piece_of items.Gap = Gap
 piece_of (items.Entry input level stamp wide) =
-    Got (record { input = input; level = level; stamp = stamp })
+    EntryPiece (record { input = input; level = level; stamp = stamp })
 
 -- what a block is in the record: a gap mark if it says that entries were lost before it, then its
 -- entries
 abbrev pub pieces_of : MadeBlock → List Piece
 pieces_of block =
     (if block.lost then Gap ∷ [] else [])
-    ++ map (λ transition. Got (entry_of transition)) block.transitions
+    ++ map (λ transition. EntryPiece (entry_of transition)) block.transitions
 
 -- what the first m blocks are in the record
-abbrev pub taken : ℕ → List MadeBlock → List Piece
-taken m blocks = flat_map pieces_of (take m blocks)
+abbrev pub pieces_of_blocks : ℕ → List MadeBlock → List Piece
+pieces_of_blocks m blocks = flat_map pieces_of (take m blocks)
 
 -- one of these blocks says that entries were lost before it, from where the block before it ended
 -- up to its own start
@@ -46,7 +46,7 @@ pub record HasLoss (blocks : List MadeBlock) (before start : ℕ) : Type 0 where
 -- the next one, which says so, starts.
 abbrev pub ArePieces : Settings → Life → ℕ → List Piece → ℕ → Type 0
 ArePieces settings life from [] to = to ≡ from
-ArePieces settings life from (Got entry ∷ pieces) to =
+ArePieces settings life from (EntryPiece entry ∷ pieces) to =
     (slice_get (map entry_of (log_of life)) from ≡ Some entry)
     × ArePieces settings life (from + 1) pieces to
 ArePieces settings life from (Gap ∷ pieces) to =
@@ -58,13 +58,13 @@ ArePieces settings life from (Gap ∷ pieces) to =
 abbrev pub TakenArePieces : Type 0
 TakenArePieces = (settings : Settings) (life : Life) (m : ℕ) →
     let blocks = blocks_of settings life in
-    m ≤ length blocks → ArePieces settings life 0 (taken m blocks) (end_of_blocks (take m blocks))
+    m ≤ length blocks → ArePieces settings life 0 (pieces_of_blocks m blocks) (end_of_blocks (take m blocks))
 
 -- the entries before the first gap mark
 abbrev pub until_gap : List Piece → List Entry
 until_gap [] = []
 until_gap (Gap ∷ pieces) = []
-until_gap (Got entry ∷ pieces) = entry ∷ until_gap pieces
+until_gap (EntryPiece entry ∷ pieces) = entry ∷ until_gap pieces
 
 -- these entries begin the log of a life
 abbrev pub BeginLog : Life → List Entry → Type 0

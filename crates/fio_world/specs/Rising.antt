@@ -4,13 +4,13 @@ use Rattle.std.specs.List.Sorted.{IsStrictlyIncreasing}
 use Rattle.fio_message.specs.declared.fields.Entry.{Entry}
 use Rattle.fio_module.specs.Log.{Transition, entry_of, whole_log}
 use Rattle.fio_world.specs.Link.{Machine}
-use Rattle.fio_world.specs.Pieces.{Piece, Gap, Got, piece_of}
+use Rattle.fio_world.specs.Pieces.{Piece, Gap, EntryPiece, piece_of}
 
 -- the entries among pieces, in order
 abbrev pub entries_got : List Piece → List Entry
 entries_got [] = []
 entries_got (Gap ∷ pieces) = entries_got pieces
-entries_got (Got entry ∷ pieces) = entry ∷ entries_got pieces
+entries_got (EntryPiece entry ∷ pieces) = entry ∷ entries_got pieces
 
 -- The pieces rise through a log: there are strictly rising places in it, one for each entry in
 -- order, and each entry is the one that stands there.

@@ -5,7 +5,7 @@ use Rattle.fio_message.specs.Status.{says_more, says_lost, says_out_of_sequence}
 use Rattle.fio_module.specs.Settings.{Settings}
 use Rattle.fio_module.specs.Log.{entry_of}
 use Rattle.fio_module.specs.Blocks.{MadeBlock}
-use Rattle.fio_world.specs.Link.{Sent, Machine, number_of}
+use Rattle.fio_world.specs.Link.{SentFrame, Machine, number_of}
 use Rattle.fio_world.specs.Frames.{HasPoll, HasBlock, received_numbers}
 use Rattle.fio_world.specs.Claims.{blocks_in}
 
@@ -16,7 +16,7 @@ next_round (round ∷ older) = round + 1
 
 -- The polls among the frames sent to the module, where the frame with number `last` was delivered
 -- last, the CPU is in this round, and `next` is the round after the newest received.
-pub record PollsAreInOrder (first : ℕ) (frames : List Sent) (last round next : ℕ) : Type 0 where
+pub record PollsAreInOrder (first : ℕ) (frames : List SentFrame) (last round next : ℕ) : Type 0 where
   -- they have the numbers of their rounds, which never fall and are at most the CPU's
   pub numbers : (place n r : ℕ) → HasPoll frames place n r → n ≡ number_of first r
   pub rise :
@@ -32,7 +32,7 @@ PollsOf first machine =
     machine.round (next_round machine.polls)
 
 -- The block answers among the frames sent to the CPU, likewise.
-pub record BlockAnswersAreInOrder (frames : List Sent) (last round next : ℕ) : Type 0 where
+pub record BlockAnswersAreInOrder (frames : List SentFrame) (last round next : ℕ) : Type 0 where
   -- their rounds never fall, and are of polls received
   pub rise :
       (p q : ℕ) (a b : Block) (r s : ℕ) → p ≤ q

@@ -6,7 +6,7 @@ use Rattle.fio_world.specs.declared.event.Event.{Event}
 use Rattle.fio_world.specs.declared.script.Script.{Script}
 use Rattle.fio_world.specs.declared.script.ScriptError.{ScriptError}
 use Rattle.fio_world.specs.declared.script.ScriptError.TheVariants.{BadHeader}
-use Rattle.fio_world.specs.Collected.{collected}
+use Rattle.fio_world.specs.FirstFaults.{values_or_fault}
 use Rattle.fio_world.specs.EventLines.{event_at, too_many_at}
 use Rattle.fio_world.specs.Headers.{header_of}
 use Rattle.fio_world.specs.declared.script.header.Header.{Header}
@@ -26,7 +26,7 @@ readings most restarts lines =
 
 -- the events of the lines below a header, 10,000 at most, or the fault of the first faulty line
 abbrev pub events_of : Bool → List (List ℕ) → Result (List Event) ScriptError
-events_of restarts lines = collected (readings MAX_EVENTS restarts (numbered 2 lines))
+events_of restarts lines = values_or_fault (readings MAX_EVENTS restarts (numbered 2 lines))
 
 -- a module with this identification and these limits, a CPU with this first number, and what then
 -- happens

@@ -9,7 +9,7 @@ use Rattle.fio_module.specs.Blocks.{newest_end, waiting_of}
 use Rattle.fio_module.specs.KeepingUp.{IsYoung}
 use Rattle.fio_world.specs.declared.event.Event.{Event}
 use Rattle.fio_world.specs.Link.{Machine, IsRun}
-use Rattle.fio_world.specs.Pieces.{Got, piece_of}
+use Rattle.fio_world.specs.Pieces.{EntryPiece, piece_of}
 use Rattle.fio_world.specs.Delivery.{IsCleanRound}
 use Rattle.fio_world.specs.InTime.{LeadsInTime, newest_of, RoundsInTime, timed_item}
 
@@ -45,7 +45,7 @@ pub record HasArrivedSince (settings : Settings) (first filter scans : ℕ) (mac
   pub whole :
       map piece_of last.items
       ≡ map piece_of machine.items
-      ++ map (λ transition. Got (entry_of transition)) (in_blocks_since settings machine last)
+      ++ map (λ transition. EntryPiece (entry_of transition)) (in_blocks_since settings machine last)
   -- each with its time, where no load of the counter took effect and none can be 65,536 scans late
   pub times :
       loads_of (life_of last.history) ≡ loads_of (life_of machine.history)
@@ -82,7 +82,7 @@ StandardLinkStartsAnew scans late =
     LeadsInTime settings first scans (newest_of machine receipts) last now →
     (map piece_of last.items
     ≡ map piece_of machine.items
-    ++ map (λ transition. Got (entry_of transition)) (in_blocks_since settings machine last))
+    ++ map (λ transition. EntryPiece (entry_of transition)) (in_blocks_since settings machine last))
     × AllByRecursion
     (λ transition. scans_of (life_of now.history) ≤ transition.scans + late)
     (drop (newest_end settings (life_of last.history)) (log_of (life_of now.history)))

@@ -6,15 +6,15 @@ use Rattle.fio_message.specs.declared.commands.Command.{Command}
 use Rattle.fio_world.specs.Hexadecimal.{octets_in}
 use Rattle.fio_world.specs.declared.event.Event.{Event}
 use Rattle.fio_world.specs.declared.event.Event.TheVariants as events
-use Rattle.fio_world.specs.declared.script.steps.Form.{Form}
-use Rattle.fio_world.specs.declared.script.steps.Form.TheVariants as forms
+use Rattle.fio_world.specs.declared.script.steps.EventForm.{EventForm}
+use Rattle.fio_world.specs.declared.script.steps.EventForm.TheVariants as forms
 
 -- the command that a word's octets spell, if they spell one
 abbrev pub command_named : List ℕ → Option Command
 command_named word = option_and_then command_in (octets_in word)
 
 -- the event in this form, if there is one: a word that spells no command is sent in none
-abbrev pub event_of : Form → Option Event
+abbrev pub event_of : EventForm → Option Event
 event_of (forms.Scan raw) = Some (events.Scan raw)
 event_of forms.LineSync = Some events.LineSync
 event_of (forms.Raise mask) = Some (events.Raise mask)

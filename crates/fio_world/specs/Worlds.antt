@@ -11,7 +11,7 @@ use Rattle.fio_world.specs.declared.outcome.Outcome.{Outcome}
 use Rattle.fio_world.specs.declared.outcome.RunError.{RunError}
 use Rattle.fio_world.specs.declared.outcome.WorldError.{WorldError}
 use Rattle.fio_world.specs.declared.outcome.WorldError.TheVariants as errors
-use Rattle.fio_world.specs.Link.{Machine, Sent, Refusal, refusal, after, number_of, item_numbered, IsRun}
+use Rattle.fio_world.specs.Link.{Machine, SentFrame, Refusal, refusal, after, number_of, item_numbered, IsRun}
 use Rattle.fio_world.specs.Sound.{IsSoundRun}
 use Rattle.fio_world.specs.Ends.{Ends}
 use Rattle.fio_world.specs.Outcomes.{outcome_of, error_of}
@@ -19,7 +19,7 @@ use Rattle.fio_world.specs.Outcomes.{outcome_of, error_of}
 -- ---- what is shown
 
 -- the octets of a frame
-abbrev pub octets_sent : Sent → List ℕ
+abbrev pub octets_sent : SentFrame → List ℕ
 octets_sent frame = frame.octets
 
 -- what the machine has of the CPU
@@ -27,7 +27,7 @@ abbrev pub polling_of : ℕ → Machine → Polling
 polling_of first machine = record { number = number_of first machine.round; items = machine.items }
 
 -- the world shows what the machine has, but for the rounds
-pub record Shows (settings : Settings) (first : ℕ) (machine : Machine) (world : Ends) : Type 0 where
+pub record ShowsMachine (settings : Settings) (first : ℕ) (machine : Machine) (world : Ends) : Type 0 where
   pub history : modules.IsModuleAfter settings world.module_end machine.history
   pub polling : world.poller_end ≡ polling_of first machine
   pub frames_to_module : world.to_module ≡ map octets_sent machine.to_module
@@ -38,7 +38,7 @@ pub record Shows (settings : Settings) (first : ℕ) (machine : Machine) (world 
 -- ---- one event
 
 -- this frame carries a block that adds to the record
-abbrev pub AddsFrom : Polling → Option Sent → Type 0
+abbrev pub AddsFrom : Polling → Option SentFrame → Type 0
 AddsFrom polling None = ⊥
 AddsFrom polling (Some frame) = AddsItems polling (block_in frame.octets)
 
@@ -64,7 +64,7 @@ pub record IsDone (settings : Settings) (first : ℕ) (machine : Machine) (event
     (seen : Outcome) (world : Ends) : Type 0 where
   pub fine : refusal machine event ≡ None
   pub outcome : seen ≡ outcome_of settings first machine event
-  pub shown : Shows settings first (after settings first machine event) world
+  pub shown : ShowsMachine settings first (after settings first machine event) world
 
 -- one event on a world that shows a machine: it is done, or it is refused exactly as the machine
 -- refuses it, or memory runs out
@@ -82,7 +82,7 @@ pub record IsWorldAfter (settings : Settings) (first : ℕ) (events : List Event
   pub in_range : AreInRange settings
   pub machine : Machine
   pub is_run : IsRun settings first events machine
-  pub shown : Shows settings first machine world
+  pub shown : ShowsMachine settings first machine world
 
 -- the world shows the machine that these events lead to, and all that is promised of runs holds of
 -- that machine
@@ -91,7 +91,7 @@ pub record IsSoundWorld (settings : Settings) (first : ℕ) (events : List Event
   pub in_range : AreInRange settings
   pub machine : Machine
   pub sound : IsSoundRun settings first events machine
-  pub shown : Shows settings first machine world
+  pub shown : ShowsMachine settings first machine world
 
 -- the events that have happened once one more was done or refused
 abbrev pub events_done : List Event → Event → Result Outcome WorldError → List Event
@@ -110,7 +110,7 @@ pub record HasStoppedAt (settings : Settings) (first : ℕ) (before events : Lis
     (fault : WorldError) (world : Ends) : Type 0 where
   pub machine : Machine
   pub done : IsRun settings first (before ++ take place events) machine
-  pub shown : Shows settings first machine world
+  pub shown : ShowsMachine settings first machine world
   pub event : Event
   pub here : slice_get events place ≡ Some event
   pub cause : IsFault (refusal machine event) (TakesMemory first machine event) fault

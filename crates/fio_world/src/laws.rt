@@ -20,7 +20,7 @@ ghost use Rattle.fio_world.specs.Sharpness.{StandardLinkIsAsLate, LosesWhereASca
 ghost use Rattle.fio_world.specs.StartingAnew.{DeliveryStartsAnew, StandardLinkStartsAnew};
 ghost use Rattle.fio_world.specs.LostRounds.{LostRoundsArePossible};
 ghost use Rattle.std.specs.List.{AllByRecursion};
-ghost use Rattle.fio_world.specs.Collected.{Collects};
+ghost use Rattle.fio_world.specs.FirstFaults.{Collects};
 ghost use Rattle.fio_world.specs.Scripts.{Scenario};
 ghost use Rattle.fio_world.specs.Reports.{GoodReportIsOfWholeRun};
 ghost use Rattle.fio_world.specs.Lines.{IsOneLine, lines_of, text_of};
@@ -275,7 +275,7 @@ pub fn lines_are_read_back()
 {}
 
 /// Reading a list answers all its values, or the first fault in it.
-#[tactic(auto, using(crate::proofs::CollectedLemmas::collects))]
+#[tactic(auto, using(crate::proofs::FirstFaultLemmas::collects))]
 pub fn first_fault_decides<V, E>()
     ensures { (readings : List (Result V E)) → Collects readings }
 {}

@@ -7,7 +7,7 @@
 //! The definitions stand in `specs/`, in this order. What happens: the link machine, event by event
 //! (`Link`), and the outcome of an event (`Outcomes`). What is read and written: the lines of a text
 //! (`Lines`), the words of a line (`Words`), octets as hexadecimal digits (`Hexadecimal`), readings of
-//! which the first fault decides (`Collected`), forms of lines (`Forms`), a script's first line
+//! which the first fault decides (`FirstFaults`), forms of lines (`Forms`), a script's first line
 //! (`Headers`), its further lines (`EventLines`), the steps that they are kept as (`Steps`), scripts
 //! (`Scripts`), the words of faults (`Faults`), the lines of a report
 //! (`ReportLines`), reports (`Reports`). What is claimed of every run: polls and block answers among the
@@ -15,7 +15,7 @@
 //! what else is promised (`Claims`), the order of rounds that it rests on (`Rounds`), the rising record,
 //! through restarts too (`Rising`), what arrives (`Delivery`), how soon (`InTime`, `AnyTime`), also from
 //! the raw sample on (`NewLevels`), all of it for one run (`Sound`). What contracts see of a world: frames that stand end to end (`EndToEnd`), both ends
-//! (`Ends`), what an event did (`Done`), and how a world shows the machine (`Worlds`). The laws are the
+//! (`Ends`), what an event did (`Effects`), and how a world shows the machine (`Worlds`). The laws are the
 //! contracts of the module `laws`.
 //!
 //! # Examples

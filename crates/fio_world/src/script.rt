@@ -11,7 +11,7 @@ mod steps;
 use self::events::read_steps;
 pub(crate) use self::header::Header;
 use self::header::read_header;
-pub(crate) use self::steps::{Form, Step, command_named};
+pub(crate) use self::steps::{EventForm, Step, command_named};
 use crate::event::Event;
 use crate::text::{BadLine, split_line};
 use fio_message::{DecodeError, Memory};

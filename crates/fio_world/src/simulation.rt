@@ -1,13 +1,13 @@
 //! Runs of scripts, and what is reported of them.
 ghost use Rattle.std.specs.Prelude.{◌≡◌, ◌≢◌, ◌⊎◌, ◌++◌, ℕ, Err, map, IfOk, IfErr, OnOk, IsOkAnd};
 ghost use Rattle.fio_module.specs.Settings.{Settings};
-ghost use Rattle.fio_world.specs.Done.{outcome_in};
+ghost use Rattle.fio_world.specs.Effects.{outcome_in};
 ghost use Rattle.fio_world.specs.Lines.{lines_of};
 ghost use Rattle.fio_world.specs.Link.{Machine};
 ghost use Rattle.fio_world.specs.ReportLines.{outcome_line};
 ghost use Rattle.fio_world.specs.Reports.{after_text, report_from, report_of};
 ghost use Rattle.fio_world.specs.Scripts.{scenario_of, scenario_with, script_in, HasGoodFront, IsScript};
-ghost use Rattle.fio_world.specs.Worlds.{Shows};
+ghost use Rattle.fio_world.specs.Worlds.{ShowsMachine};
 
 mod lines;
 
@@ -16,7 +16,7 @@ use self::lines::{push_ending, push_heard, push_quiet, push_refusal, push_sent};
 use crate::outcome::WorldError;
 use crate::script::{Script, ScriptError, read_header_and_steps};
 use crate::text::Report;
-use crate::world::{Done, Happens, World};
+use crate::world::{Effect, World, WorldEvent};
 use fio_message::Memory;
 use fio_module::Limits;
 use std::alloc::{AllocError, Global};
@@ -71,7 +71,7 @@ pub fn report_text(alloc: Global, text: &[u8]) -> Result<Report, ScriptError>
 }
 
 /// The report of what happens to a module and a CPU that are made so.
-fn report_run<T: Happens>(
+fn report_run<T: WorldEvent>(
     alloc: Global,
     id: u8,
     first: u8,
@@ -92,16 +92,16 @@ fn report_run<T: Happens>(
 /// The report of what happens to a world.
 // Inlined, so that the world stays a local of the run.
 #[inline(always)]
-fn report_on<T: Happens>(
+fn report_on<T: WorldEvent>(
     alloc: Global,
     world: &mut World,
     happenings: &[T],
 ) -> Result<Report, Memory>
     ensures text { (settings : Settings) (first : ℕ) (machine : Machine)
-        → Shows settings first machine world.old → IfOk result (λ report. report.text.items
+        → ShowsMachine settings first machine world.old → IfOk result (λ report. report.text.items
         ≡ (report_from settings first 1 machine (map T.event happenings.now)).text) }
     ensures good { (settings : Settings) (first : ℕ) (machine : Machine)
-        → Shows settings first machine world.old → IfOk result (λ report. report.good
+        → ShowsMachine settings first machine world.old → IfOk result (λ report. report.good
         ≡ (report_from settings first 1 machine (map T.event happenings.now)).good) }
 {
     let mut text = Vec::new(alloc);
@@ -113,20 +113,20 @@ fn report_on<T: Happens>(
 /// refused.
 // Inlined, so that the world stays a local of the run.
 #[inline(always)]
-fn push_run<T: Happens>(
+fn push_run<T: WorldEvent>(
     text: &mut Vec<u8>,
     world: &mut World,
     happenings: &[T],
 ) -> Result<bool, Memory>
     ensures { (settings : Settings) (first : ℕ) (machine : Machine)
-        → Shows settings first machine world.old
+        → ShowsMachine settings first machine world.old
         → IfOk result (λ good. after_text text.old.items
         (report_from settings first 1 machine (map T.event happenings.now))
         ≡ record { text = text.new.items; good = good }) }
 {
     for (place, happening) in happenings.iter().enumerate() {
         match happening.happen(world) {
-            Ok(done) => push_done(text, place + 1, world, done)?,
+            Ok(effect) => push_effect(text, place + 1, world, effect)?,
             Err(fault) => {
                 push_refusal(text, place + 1, fault)?;
                 return Ok(false);
@@ -138,14 +138,19 @@ fn push_run<T: Happens>(
 }
 
 /// What the event with this number did, in the world after it.
-fn push_done(text: &mut Vec<u8>, number: usize, world: &World, done: Done) -> Result<(), AllocError>
+fn push_effect(
+    text: &mut Vec<u8>,
+    number: usize,
+    world: &World,
+    effect: Effect,
+) -> Result<(), AllocError>
     ensures { OnOk result (text.new.items
-        ≡ text.old.items ++ outcome_line number (outcome_in world.now done)) }
+        ≡ text.old.items ++ outcome_line number (outcome_in world.now effect)) }
 {
-    match done {
-        Done::Quiet => push_quiet(text, number),
-        Done::ToModule(index) => push_sent(text, number, index, world.octets_to_module(index)),
-        Done::ToCpu(index) => push_sent(text, number, index, world.octets_to_cpu(index)),
-        Done::Heard(heard) => push_heard(text, number, heard),
+    match effect {
+        Effect::Quiet => push_quiet(text, number),
+        Effect::ToModule(index) => push_sent(text, number, index, world.octets_to_module(index)),
+        Effect::ToCpu(index) => push_sent(text, number, index, world.octets_to_cpu(index)),
+        Effect::Heard(heard) => push_heard(text, number, heard),
     }
 }

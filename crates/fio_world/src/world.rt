@@ -6,15 +6,15 @@ ghost use Rattle.fio_module.specs.Settings.{Settings, standard_settings, setting
 ghost use Rattle.fio_world.specs.declared.event.Event.{Event as Happening};
 ghost use Rattle.fio_world.specs.Link.{Machine, item_numbered};
 ghost use Rattle.fio_world.specs.Headline.{Headline};
-ghost use Rattle.fio_world.specs.Worlds.{Shows, Steps, IsWorldAfter, IsSoundWorld, HasStopped, HasStoppedAt, all_done, events_done};
+ghost use Rattle.fio_world.specs.Worlds.{ShowsMachine, Steps, IsWorldAfter, IsSoundWorld, HasStopped, HasStoppedAt, all_done, events_done};
 
-mod done;
+mod effect;
 mod frames;
 mod happening;
 
-pub(crate) use self::done::Done;
+pub(crate) use self::effect::Effect;
 use self::frames::StoredFrames;
-pub(crate) use self::happening::Happens;
+pub(crate) use self::happening::WorldEvent;
 use crate::event::Event;
 use crate::outcome::{Outcome, RunError, WorldError};
 use fio_cpu::Poller;
@@ -140,7 +140,7 @@ impl World {
     #[inline(always)]
     pub fn step(&mut self, event: &Event) -> Result<Outcome, WorldError>
         ensures row { (settings : Settings) (first : ℕ) (machine : Machine)
-            → Shows settings first machine self.old
+            → ShowsMachine settings first machine self.old
             → Steps settings first machine event.now result self.new }
         ensures err { OnErr result (self.new ≡ self.old) }
         ensures stands { (settings : Settings) (first : ℕ) (events : List Happening)
@@ -152,7 +152,7 @@ impl World {
             self.new.poller_end.items }
     {
         match event.happen(self) {
-            Ok(done) => Ok(self.outcome(done)),
+            Ok(effect) => Ok(self.outcome(effect)),
             Err(fault) => Err(fault),
         }
     }

@@ -9,7 +9,7 @@ ghost use Rattle.fio_world.specs.Scripts.{events_of, HaveGoodFront};
 ghost use Rattle.fio_world.specs.Steps.{event_of};
 
 use super::ScriptError;
-use super::steps::{Form, Step};
+use super::steps::{EventForm, Step};
 use crate::text::{
     after_prefix, numbered_lines, read_inputs, read_number, read_octet, read_octets_to,
 };
@@ -50,7 +50,7 @@ pub(crate) fn read_steps<'a>(
 /// which nothing changes, and so are the same as the line above.
 fn read_below<'a>(
     above: &[u8],
-    form: Option<Form<'a>>,
+    form: Option<EventForm<'a>>,
     number: usize,
     line: &'a [u8],
     restarts: bool,
@@ -102,7 +102,7 @@ fn read_sending<'a>(number: usize, word: &'a [u8]) -> Result<Step<'a>, ScriptErr
     }
     match decode_command(&room[..count]) {
         Ok(_) => Ok(Step {
-            form: Form::Send(word),
+            form: EventForm::Send(word),
         }),
         Err(fault) => Err(ScriptError::BadFrame {
             line: number,
@@ -112,18 +112,18 @@ fn read_sending<'a>(number: usize, word: &'a [u8]) -> Result<Step<'a>, ScriptErr
 }
 
 /// The event of a line that sends no command.
-fn read_plain<'a>(line: &'a [u8], restarts: bool) -> Option<Form<'a>>
+fn read_plain<'a>(line: &'a [u8], restarts: bool) -> Option<EventForm<'a>>
     ensures is { option_and_then event_of result ≡ plain_event restarts line.now }
     ensures event { IfSome result (λ form. event_of form ≢ None) }
 {
     if line == b"sync".as_slice() {
-        return Some(Form::LineSync);
+        return Some(EventForm::LineSync);
     }
     if line == b"poll".as_slice() {
-        return Some(Form::Poll);
+        return Some(EventForm::Poll);
     }
     if line == b"restart".as_slice() {
-        return restarts.then_some(Form::Restart);
+        return restarts.then_some(EventForm::Restart);
     }
     read_with_value(line)
 }
@@ -131,15 +131,15 @@ fn read_plain<'a>(line: &'a [u8], restarts: bool) -> Option<Form<'a>>
 /// The event of a line that has a value behind its first word, and sends no command.
 // Inlined, as it is called for each line that is not the same as the line above.
 #[inline(always)]
-fn read_with_value<'a>(line: &'a [u8]) -> Option<Form<'a>>
+fn read_with_value<'a>(line: &'a [u8]) -> Option<EventForm<'a>>
     ensures is { option_and_then event_of result ≡ event_with_value line.now }
     ensures event { IfSome result (λ form. event_of form ≢ None) }
 {
     if let Some(word) = after_prefix(line, b"scan ") {
-        return Some(Form::Scan(read_inputs(word)?));
+        return Some(EventForm::Scan(read_inputs(word)?));
     }
     if let Some(word) = after_prefix(line, b"raise ") {
-        return Some(Form::Raise(read_octet(word)?));
+        return Some(EventForm::Raise(read_octet(word)?));
     }
     read_delivery(line)
 }
@@ -147,13 +147,13 @@ fn read_with_value<'a>(line: &'a [u8]) -> Option<Form<'a>>
 /// The event of a line that delivers a frame.
 // Inlined, as it is called for each line that is not the same as the line above.
 #[inline(always)]
-fn read_delivery<'a>(line: &'a [u8]) -> Option<Form<'a>>
+fn read_delivery<'a>(line: &'a [u8]) -> Option<EventForm<'a>>
     ensures is { option_and_then event_of result ≡ delivery_in line.now }
     ensures event { IfSome result (λ form. event_of form ≢ None) }
 {
     if let Some(word) = after_prefix(line, b"to-module ") {
-        return Some(Form::ToModule(read_number(word)?));
+        return Some(EventForm::ToModule(read_number(word)?));
     }
     let word = after_prefix(line, b"to-cpu ")?;
-    Some(Form::ToCpu(read_number(word)?))
+    Some(EventForm::ToCpu(read_number(word)?))
 }

@@ -9,7 +9,7 @@ use std::marker::Model;
 
 /// The form of a line that gives an event. The command of a `send` stays a word of the text.
 #[derive(Clone, Copy)]
-pub(crate) enum Form<'a> {
+pub(crate) enum EventForm<'a> {
     /// As `Event::Scan`.
     Scan(u64),
     /// As `Event::LineSync`.
@@ -32,7 +32,7 @@ pub(crate) enum Form<'a> {
 #[derive(Drop)]
 pub(crate) struct Step<'a> {
     /// What the event is.
-    pub form: Form<'a>,
+    pub form: EventForm<'a>,
     ghost is_event: { event_of form ≢ None },
 }
 
@@ -51,14 +51,14 @@ impl Step<'_> {
         ensures { result ≡ self.now }
     {
         match self.form {
-            Form::Scan(raw) => Event::Scan(raw),
-            Form::LineSync => Event::LineSync,
-            Form::Raise(mask) => Event::Raise(mask),
-            Form::Poll => Event::Poll,
-            Form::Send(word) => Event::Send(command_named(word).unwrap()),
-            Form::ToModule(index) => Event::ToModule(index),
-            Form::ToCpu(index) => Event::ToCpu(index),
-            Form::Restart => Event::Restart,
+            EventForm::Scan(raw) => Event::Scan(raw),
+            EventForm::LineSync => Event::LineSync,
+            EventForm::Raise(mask) => Event::Raise(mask),
+            EventForm::Poll => Event::Poll,
+            EventForm::Send(word) => Event::Send(command_named(word).unwrap()),
+            EventForm::ToModule(index) => Event::ToModule(index),
+            EventForm::ToCpu(index) => Event::ToCpu(index),
+            EventForm::Restart => Event::Restart,
         }
     }
 }

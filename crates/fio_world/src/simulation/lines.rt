@@ -4,7 +4,7 @@ ghost use Rattle.std.specs.List.{flat_map};
 ghost use Rattle.fio_module.specs.Settings.{Settings};
 ghost use Rattle.fio_world.specs.Link.{Machine};
 ghost use Rattle.fio_world.specs.ReportLines.{ending_lines, ending_text, heard_line, item_line, outcome_line, refusal_in, refused_line, sent_line};
-ghost use Rattle.fio_world.specs.Worlds.{Shows};
+ghost use Rattle.fio_world.specs.Worlds.{ShowsMachine};
 ghost use Rattle.fio_world.specs.declared.outcome.Outcome.TheVariants as outcomes;
 ghost use Rattle.fio_cpu.specs.declared.poller.Heard.TheVariants as heards;
 ghost use Rattle.fio_show.specs.declared.pieces.TheConstants.{NAME_OCTETS};
@@ -110,7 +110,7 @@ pub(crate) fn push_refusal(
 /// How a run ended: the module's counter, the CPU's number, how many entries wait, and the record.
 pub(crate) fn push_ending(text: &mut Vec<u8>, world: &World) -> Result<(), AllocError>
     ensures { (settings : Settings) (first : ℕ) (machine : Machine)
-        → Shows settings first machine world.now
+        → ShowsMachine settings first machine world.now
         → OnOk result (text.new.items
         ≡ text.old.items ++ ending_text settings first machine) }
 {

@@ -3,7 +3,7 @@ ghost use Rattle.std.specs.Prelude.{◌≡◌, ◌≢◌, ◌≤◌, ◌<◌, �
 ghost use Rattle.fio_message.specs.declared.limits.TheConstants.{FRAME_OCTETS};
 ghost use Rattle.std.specs.Option.{option_map};
 ghost use Rattle.std.specs.Borrow.{Bor};
-ghost use Rattle.fio_world.specs.Done.{octets_numbered};
+ghost use Rattle.fio_world.specs.Effects.{octets_numbered};
 ghost use Rattle.fio_world.specs.Link.{item_numbered};
 ghost use Rattle.fio_world.specs.EndToEnd.{between, start_at};
 

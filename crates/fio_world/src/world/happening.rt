@@ -4,53 +4,53 @@ ghost use Rattle.fio_message.specs.declared.limits.TheConstants.{FRAME_OCTETS};
 ghost use Rattle.fio_module.specs.Settings.{Settings};
 ghost use Rattle.fio_world.specs.declared.event.Event.{Event as Happening};
 ghost use Rattle.fio_world.specs.declared.event.Event.TheVariants as events;
-ghost use Rattle.fio_world.specs.Done.{octets_numbered, outcome_in, result_in};
+ghost use Rattle.fio_world.specs.Effects.{octets_numbered, outcome_in, result_in};
 ghost use Rattle.fio_world.specs.Link.{delivery_refusal, item_numbered, Machine};
 ghost use Rattle.fio_world.specs.Steps.{command_named, event_of};
-ghost use Rattle.fio_world.specs.Worlds.{IsFault, Shows, Steps};
+ghost use Rattle.fio_world.specs.Worlds.{IsFault, ShowsMachine, Steps};
 
 use super::World;
-use super::done::Done;
+use super::effect::Effect;
 use super::frames::{StoredFrames, frame_of};
 use crate::event::Event;
 use crate::outcome::{Outcome, WorldError};
-use crate::script::{Form, Step, command_named};
+use crate::script::{EventForm, Step, command_named};
 use fio_message::{Command, Memory, encode_command};
 
 /// What may happen to a world: an event, or a step of a script.
-pub(crate) trait Happens {
+pub(crate) trait WorldEvent {
     ghost event: { Self → Happening };
 
     /// Lets the event happen, or refuses it and changes nothing: `World::step` without what follows
     /// for runs.
-    fn happen(&self, world: &mut World) -> Result<Done, WorldError>
+    fn happen(&self, world: &mut World) -> Result<Effect, WorldError>
         ensures row { (settings : Settings) (first : ℕ) (machine : Machine)
-            → Shows settings first machine world.old
+            → ShowsMachine settings first machine world.old
             → Steps settings first machine (event self.now) (result_in world.new result) world.new }
         ensures err { OnErr result (world.new ≡ world.old) };
 }
 
-impl Happens for Event {
+impl WorldEvent for Event {
     ghost event = { λ event. event };
 
-    fn happen(&self, world: &mut World) -> Result<Done, WorldError> {
+    fn happen(&self, world: &mut World) -> Result<Effect, WorldError> {
         match self {
-            Event::Scan(raw) => world.take(&Form::Scan(*raw)),
-            Event::LineSync => world.take(&Form::LineSync),
-            Event::Raise(mask) => world.take(&Form::Raise(*mask)),
-            Event::Poll => world.take(&Form::Poll),
+            Event::Scan(raw) => world.take(&EventForm::Scan(*raw)),
+            Event::LineSync => world.take(&EventForm::LineSync),
+            Event::Raise(mask) => world.take(&EventForm::Raise(*mask)),
+            Event::Poll => world.take(&EventForm::Poll),
             Event::Send(command) => world.send_command(command),
-            Event::ToModule(index) => world.take(&Form::ToModule(*index)),
-            Event::ToCpu(index) => world.take(&Form::ToCpu(*index)),
-            Event::Restart => world.take(&Form::Restart),
+            Event::ToModule(index) => world.take(&EventForm::ToModule(*index)),
+            Event::ToCpu(index) => world.take(&EventForm::ToCpu(*index)),
+            Event::Restart => world.take(&EventForm::Restart),
         }
     }
 }
 
-impl Happens for Step<'_> {
+impl WorldEvent for Step<'_> {
     ghost event = { λ step. step };
 
-    fn happen(&self, world: &mut World) -> Result<Done, WorldError> {
+    fn happen(&self, world: &mut World) -> Result<Effect, WorldError> {
         world.take(&self.form)
     }
 }
@@ -60,44 +60,44 @@ impl World {
     /// room for a frame or a command stands apart: the room would be cleared for each event.
     // Inlined, so that an event of a known form goes straight to what it does.
     #[inline(always)]
-    fn take(&mut self, form: &Form<'_>) -> Result<Done, WorldError>
+    fn take(&mut self, form: &EventForm<'_>) -> Result<Effect, WorldError>
         requires { event_of form.now ≢ None }
         ensures row { (settings : Settings) (first : ℕ) (machine : Machine)
-            → Shows settings first machine self.old
+            → ShowsMachine settings first machine self.old
             → IfSome (event_of form.now) (λ event.
             Steps settings first machine event (result_in self.new result) self.new) }
         ensures err { OnErr result (self.new ≡ self.old) }
     {
         match form {
-            Form::Scan(raw) => {
+            EventForm::Scan(raw) => {
                 self.module.scan(*raw);
-                Ok(Done::Quiet)
+                Ok(Effect::Quiet)
             }
-            Form::LineSync => {
+            EventForm::LineSync => {
                 self.module.line_sync();
-                Ok(Done::Quiet)
+                Ok(Effect::Quiet)
             }
-            Form::Raise(mask) => {
+            EventForm::Raise(mask) => {
                 self.module.raise(*mask);
-                Ok(Done::Quiet)
+                Ok(Effect::Quiet)
             }
-            Form::Restart => {
+            EventForm::Restart => {
                 self.module.restart();
-                Ok(Done::Quiet)
+                Ok(Effect::Quiet)
             }
-            Form::Poll => self.send_poll(),
-            Form::Send(word) => self.send_word(word),
-            Form::ToModule(index) => self.deliver_to_module(*index),
-            Form::ToCpu(index) => self.deliver_to_cpu(*index),
+            EventForm::Poll => self.send_poll(),
+            EventForm::Send(word) => self.send_word(word),
+            EventForm::ToModule(index) => self.deliver_to_module(*index),
+            EventForm::ToCpu(index) => self.deliver_to_cpu(*index),
         }
     }
 
     /// The CPU polls.
     // Not inlined: its frame or command would be cleared for each event.
     #[inline(never)]
-    fn send_poll(&mut self) -> Result<Done, WorldError>
+    fn send_poll(&mut self) -> Result<Effect, WorldError>
         ensures row { (settings : Settings) (first : ℕ) (machine : Machine)
-            → Shows settings first machine self.old
+            → ShowsMachine settings first machine self.old
             → Steps settings first machine events.Poll (result_in self.new result) self.new }
         ensures err { OnErr result (self.new ≡ self.old) }
     {
@@ -108,10 +108,10 @@ impl World {
     /// The CPU sends the command that the word's octets spell.
     // Not inlined: its frame or command would be cleared for each event.
     #[inline(never)]
-    fn send_word(&mut self, word: &[u8]) -> Result<Done, WorldError>
+    fn send_word(&mut self, word: &[u8]) -> Result<Effect, WorldError>
         requires { command_named word.now ≢ None }
         ensures row { (settings : Settings) (first : ℕ) (machine : Machine)
-            → Shows settings first machine self.old
+            → ShowsMachine settings first machine self.old
             → IfSome (command_named word.now) (λ command.
             Steps settings first machine (events.Send command) (result_in self.new result) self.new) }
         ensures err { OnErr result (self.new ≡ self.old) }
@@ -122,9 +122,9 @@ impl World {
     /// The CPU sends a command, unless it is a poll.
     // Not inlined: its frame or command would be cleared for each event.
     #[inline(never)]
-    fn send_command(&mut self, command: &Command) -> Result<Done, WorldError>
+    fn send_command(&mut self, command: &Command) -> Result<Effect, WorldError>
         ensures row { (settings : Settings) (first : ℕ) (machine : Machine)
-            → Shows settings first machine self.old
+            → ShowsMachine settings first machine self.old
             → Steps settings first machine (events.Send command.now) (result_in self.new result)
             self.new }
         ensures err { OnErr result (self.new ≡ self.old) }
@@ -138,20 +138,20 @@ impl World {
     /// The outcome that this is.
     // Inlined, so that a caller who reads no frame copies none.
     #[inline(always)]
-    pub(crate) fn outcome(&self, done: Done) -> Outcome
-        ensures { result ≡ outcome_in self.now done }
+    pub(crate) fn outcome(&self, effect: Effect) -> Outcome
+        ensures { result ≡ outcome_in self.now effect }
     {
-        match done {
-            Done::ToModule(index) => Outcome::Sent {
+        match effect {
+            Effect::ToModule(index) => Outcome::Sent {
                 index,
                 frame: frame_of(self.octets_to_module(index)),
             },
-            Done::ToCpu(index) => Outcome::Sent {
+            Effect::ToCpu(index) => Outcome::Sent {
                 index,
                 frame: frame_of(self.octets_to_cpu(index)),
             },
-            Done::Heard(heard) => Outcome::Heard(heard),
-            Done::Quiet => Outcome::Quiet,
+            Effect::Heard(heard) => Outcome::Heard(heard),
+            Effect::Quiet => Outcome::Quiet,
         }
     }
 
@@ -172,9 +172,9 @@ impl World {
     }
 
     /// The CPU sends a frame: it joins those to the module.
-    pub(crate) fn send(&mut self, frame: &[u8]) -> Result<Done, WorldError>
+    pub(crate) fn send(&mut self, frame: &[u8]) -> Result<Effect, WorldError>
         requires { length frame.now ≤ FRAME_OCTETS }
-        ensures outcome { IfOk result (λ done. outcome_in self.new done
+        ensures outcome { IfOk result (λ effect. outcome_in self.new effect
             ≡ Outcome.Sent (length self.old.to_module + 1) (record { items = frame.now })) }
         ensures ok { OnOk result (self.new
             ≡ record self.old { to_module = self.old.to_module ++ frame.now ∷ [] }) }
@@ -185,16 +185,16 @@ impl World {
             return Err(WorldError::Memory);
         }
         self.to_module.add(frame);
-        Ok(Done::ToModule(self.to_module.len()))
+        Ok(Effect::ToModule(self.to_module.len()))
     }
 
     /// The module receives the frame with this number, and its answer, if any, joins those to the
     /// CPU. Room for it is asked for first: what the module has received can't be taken back.
     // Not inlined: its frame or command would be cleared for each event.
     #[inline(never)]
-    fn deliver_to_module(&mut self, index: usize) -> Result<Done, WorldError>
+    fn deliver_to_module(&mut self, index: usize) -> Result<Effect, WorldError>
         ensures row { (settings : Settings) (first : ℕ) (machine : Machine)
-            → Shows settings first machine self.old
+            → ShowsMachine settings first machine self.old
             → Steps settings first machine (events.ToModule index) (result_in self.new result)
             self.new }
         ensures err { OnErr result (self.new ≡ self.old) }
@@ -206,18 +206,18 @@ impl World {
         let answer = self.module.receive(octets);
         self.last_to_module = index;
         match &answer {
-            None => Ok(Done::Quiet),
+            None => Ok(Effect::Quiet),
             Some(frame) => {
                 self.to_cpu.add(frame);
-                Ok(Done::ToCpu(self.to_cpu.len()))
+                Ok(Effect::ToCpu(self.to_cpu.len()))
             }
         }
     }
 
     /// The CPU hears the frame with this number.
-    fn deliver_to_cpu(&mut self, index: usize) -> Result<Done, WorldError>
+    fn deliver_to_cpu(&mut self, index: usize) -> Result<Effect, WorldError>
         ensures row { (settings : Settings) (first : ℕ) (machine : Machine)
-            → Shows settings first machine self.old
+            → ShowsMachine settings first machine self.old
             → Steps settings first machine (events.ToCpu index) (result_in self.new result)
             self.new }
         ensures err { OnErr result (self.new ≡ self.old) }
@@ -226,7 +226,7 @@ impl World {
         match self.poller.hear(octets) {
             Ok(heard) => {
                 self.last_to_cpu = index;
-                Ok(Done::Heard(heard))
+                Ok(Effect::Heard(heard))
             }
             Err(Memory) => Err(WorldError::Memory),
         }

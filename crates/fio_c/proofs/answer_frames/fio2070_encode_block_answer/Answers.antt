@@ -6,8 +6,8 @@ use Rattle.fio_message.specs.Octets.{entry_octets}
 use Rattle.fio_message.proofs.PartKinds.{entry_is_part}
 use Rattle.fio_c.specs.declared.blocks.Entry.{Entry}
 use Rattle.fio_c.specs.Flat.{read_entry, read_entries}
-use Rattle.fio_c.specs.Written.{overwritten}
-use Rattle.fio_c.proofs.Overwriting.{length-read, overwritten-more, writes-none, writes-whole}
+use Rattle.fio_c.specs.Written.{buffer_with}
+use Rattle.fio_c.proofs.Overwriting.{length-read, buffer_with-more, writes-none, writes-whole}
 use Rattle.fio_c.proofs.answer_frames.fio2070_encode_block_answer.Goals as goal
 
 long : (entries : List Entry) → length (flat_map entry_octets (read_entries entries)) ≡ 3 * length entries
@@ -31,11 +31,11 @@ returns-clause-written c are =
     let head = 182 ∷ c.args.block ∷ length entries ∷ [] in
     let count = long entries in
     let all = length-append body tail in
-    let with_body : c.write_entries.new.out ≡ overwritten 0 (head ++ body) before =
-    overwritten-more 0 3 head body before c.write_at.new.out c.write_entries.new.out refl (omega arith) (rw c.before_entries.ensures at c.write_at.ensures) c.write_entries.ensures in
-    let ending : c.write_at-2.new.out ≡ overwritten (8 + 3 * length entries - 5) tail c.write_entries.new.out =
+    let with_body : c.write_entries.new.out ≡ buffer_with 0 (head ++ body) before =
+    buffer_with-more 0 3 head body before c.write_at.new.out c.write_entries.new.out refl (omega arith) (rw c.before_entries.ensures at c.write_at.ensures) c.write_entries.ensures in
+    let ending : c.write_at-2.new.out ≡ buffer_with (8 + 3 * length entries - 5) tail c.write_entries.new.out =
     rw c.status_and_stamp.ensures at c.write_at-2.ensures in
-    let after : c.write_at-2.new.out ≡ overwritten 0 ((head ++ body) ++ tail) before =
-    overwritten-more 0 (8 + 3 * length entries - 5) (head ++ body) tail before c.write_entries.new.out c.write_at-2.new.out (omega arith) (omega arith) with_body ending in
+    let after : c.write_at-2.new.out ≡ buffer_with 0 ((head ++ body) ++ tail) before =
+    buffer_with-more 0 (8 + 3 * length entries - 5) (head ++ body) tail before c.write_entries.new.out c.write_at-2.new.out (omega arith) (omega arith) with_body ending in
     writes-whole (182 ∷ c.args.block ∷ length (read_entries entries) ∷ (body ++ tail)) before c.write_at-2.new.out (8 + 3 * length entries) (omega arith) (omega arith)
-    (after ∙ ap (λ n. overwritten 0 (182 ∷ c.args.block ∷ n ∷ (body ++ tail)) before) (sym (length-map entries read_entry)))
+    (after ∙ ap (λ n. buffer_with 0 (182 ∷ c.args.block ∷ n ∷ (body ++ tail)) before) (sym (length-map entries read_entry)))

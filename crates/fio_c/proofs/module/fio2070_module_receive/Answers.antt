@@ -6,7 +6,7 @@ use Rattle.fio_message.specs.declared.commands.Command.TheVariants.{Poll}
 use Rattle.fio_message.proofs.Decoded.{message_read}
 use Rattle.fio_module.specs.Life.{life_of}
 use Rattle.fio_module.proofs.PollAnswers.{received-obeyed}
-use Rattle.fio_c.specs.Module.{reached}
+use Rattle.fio_c.specs.Module.{events_reached}
 use Rattle.fio_c.proofs.module.fio2070_module_receive.Goals as goal
 
 pub returns-in-Ok-Poll-clause-stands : goal.returns-in-Ok-Poll-clause-stands
@@ -15,7 +15,7 @@ returns-in-Ok-Poll-clause-stands c settings history after =
     let exact = rw c.in-Ok-Poll.field-0-is at c.in-Ok-Poll.ensures.exact in
     let read = message_read (command_in octets) (fault_in (command_length octets) octets) (Poll c.in-Ok-Poll.block) exact in
     record {
-      state = (received-obeyed _ _ _ _ octets (Poll c.in-Ok-Poll.block) _ read c.poll.ensures settings (reached history) after.state).0;
+      state = (received-obeyed _ _ _ _ octets (Poll c.in-Ok-Poll.block) _ read c.poll.ensures settings (events_reached history) after.state).0;
       errors = after.errors;
     }
 
@@ -25,9 +25,9 @@ returns-in-Ok c =
     let read = message_read (command_in octets) (fault_in (command_length octets) octets) (command_of c.in-Ok.command) c.in-Ok.ensures.exact in
     record {
       stands = λ settings history after. record {
-        state = rw read (c.obey.ensures.stands settings (life_of (reached history)) after.state);
+        state = rw read (c.obey.ensures.stands settings (life_of (events_reached history)) after.state);
         errors = c.obey.ensures.errors ∙ after.errors;
       };
       reply = λ settings history after.
-          rw read (rw after.errors at (c.obey.ensures.reply settings (life_of (reached history)) after.state));
+          rw read (rw after.errors at (c.obey.ensures.reply settings (life_of (events_reached history)) after.state));
     }

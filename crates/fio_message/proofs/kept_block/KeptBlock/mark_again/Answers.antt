@@ -1,6 +1,6 @@
 use Rattle.std.proofs.Common.{◌≡◌, ℕ, List, length, take, min, ap, sym, ◌∙◌, subst, arith}
 use Rattle.fio_message.specs.Blocks.{SpellsBlock}
-use Rattle.fio_message.specs.KeptBlock.{sent_again, marked_octets}
+use Rattle.fio_message.specs.KeptBlock.{block_sent_again, marked_octets}
 use Rattle.fio_message.proofs.Marks.{marked-kept, spells-marked}
 use Rattle.fio_message.proofs.kept_block.KeptBlock.mark_again.Goals as goal
 
@@ -10,7 +10,7 @@ returns-clause-block c block kept =
     let count = c.args.self.now.length in
     let parts = c.split_at_mut-kept in
     let least : c.min-length.result ≡ min count (length octets) = omega arith in
-    subst (λ (after : List ℕ). SpellsBlock (sent_again block) after)
+    subst (λ (after : List ℕ). SpellsBlock (block_sent_again block) after)
     (sym (marked-kept count _ octets _ _ _ least parts.ensures.front parts.ensures.front_len parts.ensures.back_len c.mark_again.ensures))
     (spells-marked block (take count octets) kept)
 

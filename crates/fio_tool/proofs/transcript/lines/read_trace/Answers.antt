@@ -1,6 +1,6 @@
 use Rattle.std.proofs.Common.{◌≡◌, ◌∙◌, ◌++◌, List, [], ◌∷◌, Result, Ok, Err, map, refl, sym, ap, append_assoc}
 use Rattle.std.proofs.lemmas.List.{map-append}
-use Rattle.fio_world.specs.Collected.{collected, with_first}
+use Rattle.fio_world.specs.FirstFaults.{values_or_fault, with_first}
 use Rattle.fio_check.specs.Lines.{TranscriptLine}
 use Rattle.fio_tool.specs.Transcript.{line_in}
 use Rattle.fio_tool.specs.declared.transcript.lines.TraceError.{TraceError}
@@ -24,9 +24,9 @@ lines-preserved c =
     let left : map line_in c.lines.number-iterator ≡ Ok line ∷ rest = rw (c.in-Some.ensures.steps, c.in_ok-line.ensures.ok) refl in
     let items = c.in_ok-push.ensures.items in
     record {
-      read = ap (λ all. with_first all (collected rest)) items
-          ∙ line-collected lines line (collected rest)
-          ∙ sym (ap (λ all. with_first lines (collected all)) left)
+      read = ap (λ all. with_first all (values_or_fault rest)) items
+          ∙ line-collected lines line (values_or_fault rest)
+          ∙ sym (ap (λ all. with_first lines (values_or_fault all)) left)
           ∙ c.lines.invariant.read;
       frames = c.lines.invariant.frames
           ∙ ap (λ all. map Ok lines ++ all) left

@@ -1,5 +1,5 @@
 use Rattle.std.proofs.Common.{◌≡◌, ◌∙◌, sym, refl, ap, arith, rules, Ok, length, map}
-use Rattle.fio_world.specs.Collected.{collected}
+use Rattle.fio_world.specs.FirstFaults.{values_or_fault}
 use Rattle.fio_check.specs.Lines.{TranscriptLine}
 use Rattle.fio_tool.specs.Transcript.{line_in, transcript_in}
 use Rattle.fio_tool.proofs.CheckedLines.{course_end, first_course, framed, line_read, lines_within, next_course, read_whole, verdict_read, with_first-err}
@@ -25,7 +25,7 @@ lines-preserved c =
     let within = c.lines.invariant.within in
     record {
       within = omega (arith, count, within);
-      faults = sym (with_first-err line (collected (map line_in c.next.new.self))) ∙ rw (left, reads) at c.lines.invariant.faults;
+      faults = sym (with_first-err line (values_or_fault (map line_in c.next.new.self))) ∙ rw (left, reads) at c.lines.invariant.faults;
       course = λ lines whole. next_course lines c.lines.frames c.in-Some.number c.in-Some.line.now c.next.new.self line _ _ _ _ _ reads refl frame.3
           (rw left at c.lines.invariant.course lines whole)
           c.breach_with-breach.ensures.first

@@ -3,8 +3,8 @@ use Rattle.std.proofs.lemmas.List.{append-nil}
 use Rattle.std.proofs.lemmas.Result.{err_from_is_err_and}
 use Rattle.fio_module.specs.Replies.{reply_to}
 use Rattle.fio_world.specs.declared.event.Event.TheVariants as events
-use Rattle.fio_world.specs.Done.{outcome_in}
-use Rattle.fio_world.specs.declared.world.done.Done.TheVariants.{ToCpu}
+use Rattle.fio_world.specs.Effects.{outcome_in}
+use Rattle.fio_world.specs.declared.world.effect.Effect.TheVariants.{ToCpu}
 use Rattle.fio_world.specs.Ends.{Ends}
 use Rattle.fio_world.specs.Worlds.{IsDone}
 use Rattle.fio_world.specs.Outcomes.{replied_after}

@@ -2,7 +2,7 @@ use Rattle.std.proofs.Common.{◌≡◌, ◌+◌, List, ◌∷◌, ◌++◌, [],
 use Rattle.std.proofs.lemmas.List.{take_all}
 use Rattle.std.proofs.lemmas.Option.{slice_get_read}
 use Rattle.fio_world.specs.declared.event.Event.{Event}
-use Rattle.fio_world.specs.Worlds.{events_done, Shows, IsWorldAfter}
+use Rattle.fio_world.specs.Worlds.{events_done, ShowsMachine, IsWorldAfter}
 use Rattle.fio_world.proofs.Places.{take_one_more}
 use Rattle.fio_world.proofs.SoundWorlds.{sound_world, stands_for, headline_of}
 use Rattle.fio_world.proofs.world.World.step_all.Goals as goal
@@ -38,7 +38,7 @@ returns-in-Err-clause-err c settings first before s =
     record {
       machine = so_far.machine;
       done = so_far.is_run;
-      shown = subst (Shows settings first so_far.machine) (sym c.in-Err.ensures.err) so_far.shown;
+      shown = subst (ShowsMachine settings first so_far.machine) (sym c.in-Err.ensures.err) so_far.shown;
       event = c.index-events-place.result;
       here = here;
       cause = c.in-Err.ensures.row settings first so_far.machine so_far.shown;

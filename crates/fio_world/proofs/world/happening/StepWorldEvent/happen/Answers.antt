@@ -1,9 +1,9 @@
 use Rattle.std.proofs.Common.{subst}
-use Rattle.fio_world.specs.Done.{result_in}
+use Rattle.fio_world.specs.Effects.{result_in}
 use Rattle.fio_world.specs.Steps.{event_of}
 use Rattle.fio_world.specs.Worlds.{Steps}
 use Rattle.fio_world.proofs.FoundEvents.{of_found}
-use Rattle.fio_world.proofs.world.happening.StepHappens.happen.Goals as goal
+use Rattle.fio_world.proofs.world.happening.StepWorldEvent.happen.Goals as goal
 
 pub returns-clause-row : goal.returns-clause-row
 returns-clause-row c settings first machine shows =

@@ -4,7 +4,7 @@ use fio_cpu::Heard;
 /// What an event did. A frame that was sent is named by its number among those of its direction: its
 /// octets stand in the world.
 #[derive(Clone, Copy)]
-pub(crate) enum Done {
+pub(crate) enum Effect {
     /// The CPU sent the frame with this number.
     ToModule(usize),
     /// The module sent the frame with this number.

@@ -7,10 +7,10 @@ with_first values (Ok more) = Ok (values ++ more)
 with_first values (Err e) = Err e
 
 -- all the values, or the first fault
-abbrev pub collected : {A E : Type 0} → List (Result A E) → Result (List A) E
-collected [] = Ok []
-collected (Ok value ∷ rest) = with_first (value ∷ []) (collected rest)
-collected (Err e ∷ rest) = Err e
+abbrev pub values_or_fault : {A E : Type 0} → List (Result A E) → Result (List A) E
+values_or_fault [] = Ok []
+values_or_fault (Ok value ∷ rest) = with_first (value ∷ []) (values_or_fault rest)
+values_or_fault (Err e ∷ rest) = Err e
 
 -- the fault stands at a place above which each reading is a value
 abbrev pub IsFirstFault : {A E : Type 0} → List (Result A E) → E → Type 0
@@ -19,5 +19,5 @@ IsFirstFault {A} {E} readings e =
 
 -- what is collected is all the values, or the fault above which no other stands
 pub record Collects {A E : Type 0} (readings : List (Result A E)) : Type 0 where
-  pub values : (vs : List A) → collected readings ≡ Ok vs → readings ≡ map Ok vs
-  pub fault : (e : E) → collected readings ≡ Err e → IsFirstFault readings e
+  pub values : (vs : List A) → values_or_fault readings ≡ Ok vs → readings ≡ map Ok vs
+  pub fault : (e : E) → values_or_fault readings ≡ Err e → IsFirstFault readings e

@@ -1,4 +1,4 @@
-use Rattle.fio_world.proofs.world.happening.EventHappens.happen.Goals as goal
+use Rattle.fio_world.proofs.world.happening.EventWorldEvent.happen.Goals as goal
 
 pub returns-in-Scan-clause-row : goal.returns-in-Scan-clause-row
 returns-in-Scan-clause-row c = rw c.in-Scan.is c.take.ensures.row

@@ -4,8 +4,8 @@ use Rattle.std.specs.Option.{unwrap_or}
 use Rattle.fio_world.specs.declared.outcome.Outcome.{Outcome}
 use Rattle.fio_world.specs.declared.outcome.Outcome.TheVariants as outcomes
 use Rattle.fio_world.specs.declared.outcome.WorldError.{WorldError}
-use Rattle.fio_world.specs.declared.world.done.Done.{Done}
-use Rattle.fio_world.specs.declared.world.done.Done.TheVariants.{ToModule, ToCpu, Heard, Quiet}
+use Rattle.fio_world.specs.declared.world.effect.Effect.{Effect}
+use Rattle.fio_world.specs.declared.world.effect.Effect.TheVariants.{ToModule, ToCpu, Heard, Quiet}
 use Rattle.fio_world.specs.Link.{item_numbered}
 use Rattle.fio_world.specs.Ends.{Ends}
 
@@ -14,7 +14,7 @@ abbrev pub octets_numbered : List (List ℕ) → ℕ → List ℕ
 octets_numbered frames index = unwrap_or (item_numbered frames index) []
 
 -- the outcome that this is, in a world that holds the frame
-abbrev pub outcome_in : Ends → Done → Outcome
+abbrev pub outcome_in : Ends → Effect → Outcome
 outcome_in world (ToModule index) =
     outcomes.Sent index (record { items = octets_numbered world.to_module index })
 outcome_in world (ToCpu index) =
@@ -23,6 +23,6 @@ outcome_in world (Heard heard) = outcomes.Heard heard
 outcome_in world Quiet = outcomes.Quiet
 
 -- the same of a result
-abbrev pub result_in : Ends → Result Done WorldError → Result Outcome WorldError
-result_in world (Ok done) = Ok (outcome_in world done)
+abbrev pub result_in : Ends → Result Effect WorldError → Result Outcome WorldError
+result_in world (Ok effect) = Ok (outcome_in world effect)
 result_in world (Err fault) = Err fault

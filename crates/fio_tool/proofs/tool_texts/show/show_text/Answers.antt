@@ -3,7 +3,7 @@ use Rattle.std.specs.List.{list_all}
 use Rattle.std.specs.Prelude.{◌&&◌}
 use Rattle.std.proofs.Math.Bool.{and_assoc}
 use Rattle.fio_tool.specs.Show.{is_line_good}
-use Rattle.fio_tool.proofs.text.show.show_text.Goals as goal
+use Rattle.fio_tool.proofs.tool_texts.show.show_text.Goals as goal
 
 pub lines-preserved : goal.lines-preserved
 lines-preserved c =

@@ -2,7 +2,7 @@ use Rattle.std.proofs.Common.{◌≡◌, ◌++◌}
 use Rattle.std.specs.List.{flat_map}
 use Rattle.fio_message.specs.Views.{entries_of}
 use Rattle.fio_show.specs.AnswerLines.{entry_text}
-use Rattle.fio_tool.proofs.text.show.push_entries.Given as goal
+use Rattle.fio_tool.proofs.tool_texts.show.push_entries.Given as goal
 
 abbrev pub invariant-entries : goal.invariant-entries
 invariant-entries l =

@@ -2,7 +2,7 @@ use Rattle.std.proofs.Common.{◌≡◌, ◌++◌, ◌<◌, Some, IfOk, OnOk, is
 use Rattle.fio_world.specs.Hexadecimal.{octets_in}
 use Rattle.fio_tool.specs.Show.{text_at}
 use Rattle.fio_tool.proofs.FramesShown.{line_too_long}
-use Rattle.fio_tool.proofs.text.show.push_line_text.Goals as goal
+use Rattle.fio_tool.proofs.tool_texts.show.push_line_text.Goals as goal
 
 pub returns-in-Some-clause-text : goal.returns-in-Some-clause-text
 returns-in-Some-clause-text c =

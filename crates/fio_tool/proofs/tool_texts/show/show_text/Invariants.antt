@@ -2,7 +2,7 @@ use Rattle.std.proofs.Common.{◌≡◌, ◌++◌, ◌&&◌, ◌≤◌, length}
 use Rattle.std.specs.List.{flat_map, list_all}
 use Rattle.fio_world.specs.Lines.{lines_of, numbered}
 use Rattle.fio_tool.specs.Show.{line_text, is_line_good}
-use Rattle.fio_tool.proofs.text.show.show_text.Given as goal
+use Rattle.fio_tool.proofs.tool_texts.show.show_text.Given as goal
 
 abbrev pub invariant-lines : goal.invariant-lines
 invariant-lines l = record {

@@ -2,7 +2,7 @@ use Rattle.std.proofs.Common.{◌≡◌, ◌++◌, ◌∙◌, ap, append_assoc, 
 use Rattle.std.proofs.lemmas.Result.{on_ok_weaker}
 use Rattle.fio_tool.specs.Record.{broken_entry_line, record_lines}
 use Rattle.fio_tool.specs.Recordings.{entry_of_item}
-use Rattle.fio_tool.proofs.text.record.push_broken.Goals as goal
+use Rattle.fio_tool.proofs.tool_texts.record.push_broken.Goals as goal
 
 pub returns : goal.returns
 returns c =

@@ -2,7 +2,7 @@ use Rattle.std.proofs.Common.{◌≡◌, ◌++◌}
 use Rattle.std.specs.List.{flat_map}
 use Rattle.fio_message.specs.Views.{items_of}
 use Rattle.fio_show.specs.CommandLines.{item_text}
-use Rattle.fio_tool.proofs.text.show.push_items.Given as goal
+use Rattle.fio_tool.proofs.tool_texts.show.push_items.Given as goal
 
 abbrev pub invariant-items : goal.invariant-items
 invariant-items l =
