@@ -1,21 +1,24 @@
 -- One pass over a text, frame by frame, as the lines that are read of it.
 use Rattle.std.proofs.Common.{◌≡◌, ◌≢◌, ◌<◌, ◌≤◌, ◌∙◌, ℕ, zero, suc, ◌+◌, ◌==◌, Bool, true, false, List, [], ◌∷◌, map, length, drop, Option, Some, None, Result, Ok, Err, refl, sym, ap, arith, add-one, length-drop}
-use Rattle.std.specs.Prelude.{option_map, slice_get, unwrap_or, if◌then◌else◌}
-use Rattle.std.proofs.lemmas.Option.{same_Some}
+use Rattle.std.specs.Prelude.{option_map, option_and_then, slice_get, unwrap_or, if◌then◌else◌}
+use Rattle.std.specs.Option.{option_or}
 use Rattle.std.specs.Result.{result_err}
 use Rattle.fio_world.specs.FirstFaults.{values_or_fault, with_first}
 use Rattle.fio_world.specs.Lines.{lines_of, numbered, with_front, is_skipped}
 use Rattle.fio_check.specs.Facts.{facts_at, facts_with}
 use Rattle.fio_check.specs.Lines.{TranscriptLine}
 use Rattle.fio_check.specs.Observations.{observation_in, observation_on}
-use Rattle.fio_check.specs.Rules.{first_broken}
-use Rattle.fio_check.specs.Verdicts.{verdict_on}
+use Rattle.fio_check.specs.Places.{earliest_above}
+use Rattle.fio_check.specs.Rules.{first_broken, rule_broken}
+use Rattle.fio_check.specs.Verdicts.{breach_at, verdict_on}
 use Rattle.fio_check.specs.declared.facts.Facts.{Facts}
 use Rattle.fio_check.specs.declared.observation.Observation.{Observation}
+use Rattle.fio_check.specs.declared.rules.Rule.{Rule}
 use Rattle.fio_check.specs.declared.verdict.Verdict.{Verdict}
 use Rattle.fio_check.specs.declared.verdict.Verdict.TheVariants.{Good, Broken}
 use Rattle.fio_check.proofs.BreachesSoFar.{StandsSoFar, stands_after_breach, stands_with_line, verdict_so_far}
-use Rattle.fio_tool.specs.Transcript.{frame_in, line_in, observation_of_frame, transcript_in, verdict_in, verdict_of}
+use Rattle.fio_tool.specs.Check.{is_good}
+use Rattle.fio_tool.specs.Transcript.{frame_in, line_in, transcript_in, verdict_in, verdict_of}
 use Rattle.fio_tool.specs.declared.transcript.lines.TraceError.{TraceError}
 
 -- ---- a text has no more lines than octets
@@ -87,12 +90,6 @@ next-stands lines place line here facts facts' None breach' same broken added so
     rw is (stands_with_line lines place facts line facts' (first_broken facts (observation_on line)) here refl
     (λ holds. added refl (is ∙ ap (option_map (Broken line.number)) holds)) so_far)
 
--- the frame of a line that says something
-pub framed : (found : Option (Bool × List ℕ)) (said : Observation) → Some said ≡ option_map observation_of_frame found
-    → (from_cpu : Bool) × (octets : List ℕ) × (found ≡ Some (from_cpu, octets)) × (said ≡ observation_of_frame (from_cpu, octets))
-framed (Some (from_cpu, octets)) said is = (from_cpu, octets, refl, same_Some _ _ is)
-framed None said is = absurd (cc)
-
 -- the line of a frame
 pub line_read : (number : ℕ) (line : List ℕ) (from_cpu : Bool) (octets : List ℕ) → frame_in line ≡ Some (from_cpu, octets)
     → line_in (number, line) ≡ Ok (record { number = number; from_cpu = from_cpu; octets = octets })
@@ -144,3 +141,40 @@ verdict_read text lines found verdict reads is same = ap verdict_of reads ∙ ap
 pub read_whole : (read : Result (List TranscriptLine) TraceError) → None ≡ result_err read → (lines : List TranscriptLine) × (read ≡ Ok lines)
 read_whole (Ok lines) is = (lines, refl)
 read_whole (Err e) is = absurd (cc)
+
+-- ---- a good verdict is one without a breach
+
+broken-good : (number : ℕ) (rule : Option Rule) (verdict : Verdict) → option_map (Broken number) rule ≡ Some verdict → is_good verdict ≡ false
+broken-good number None verdict is = absurd (cc)
+broken-good number (Some rule) verdict is = let same : Broken number rule ≡ verdict = cc in rw (← same) refl
+
+line-good : (line : Option TranscriptLine) (rule : Option Rule) (verdict : Verdict) → option_and_then (λ l. option_map (Broken l.number) rule) line ≡ Some verdict
+    → is_good verdict ≡ false
+line-good None rule verdict is = absurd (cc)
+line-good (Some line) rule verdict is = broken-good line.number rule verdict is
+
+either-good : (earlier here : Option Verdict) (verdict : Verdict) → ((found : Verdict) → earlier ≡ Some found → is_good found ≡ false)
+    → ((found : Verdict) → here ≡ Some found → is_good found ≡ false) → option_or earlier here ≡ Some verdict → is_good verdict ≡ false
+either-good None here verdict above now is = now verdict is
+either-good (Some found) here verdict above now is = above verdict is
+
+earliest-good : (lines : List TranscriptLine) (place : ℕ) (verdict : Verdict) → earliest_above (breach_at lines) place ≡ Some verdict → is_good verdict ≡ false
+earliest-good lines zero verdict is = absurd (cc)
+earliest-good lines (suc place) verdict is =
+    either-good (earliest_above (breach_at lines) place) (breach_at lines place) verdict (earliest-good lines place)
+    (line-good (slice_get lines place) (rule_broken lines place)) is
+
+unbroken-by : (breach : Option Verdict) (frames : ℕ) → ((found : Verdict) → breach ≡ Some found → is_good found ≡ false)
+    → is_good (unwrap_or breach (Good frames)) ≡ true → breach ≡ None
+unbroken-by None frames bad is = refl
+unbroken-by (Some verdict) frames bad is = let broken = bad verdict refl in absurd (cc)
+
+pub unbroken_end : (lines : List TranscriptLine) (frames : ℕ) (left : List (ℕ × List ℕ)) (facts : Facts) (breach : Option Verdict) (verdict : Verdict) → IsCourse lines frames left facts breach
+    → verdict ≡ unwrap_or breach (Good frames) → is_good verdict ≡ true → breach ≡ None
+unbroken_end lines frames left facts breach verdict course same is =
+    unbroken-by breach frames (λ found here. earliest-good lines frames found (sym course.stands.found ∙ here)) (rw same at is)
+
+-- a line that breaks nothing is below lines that break nothing
+pub still_none : (breach breach' : Option Verdict) → (breach ≢ None → breach' ≡ breach) → breach' ≡ None → breach ≡ None
+still_none None breach' same none = refl
+still_none (Some verdict) breach' same none = let kept = same (λ e. absurd (cc)) in absurd (cc)

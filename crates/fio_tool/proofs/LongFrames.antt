@@ -1,12 +1,12 @@
--- Octets of more than 773 spell no message.
-use Rattle.std.proofs.Common.{◌≡◌, ℕ, ◌<◌, Bool, true, false, List, [], ◌∷◌, length, Option, Some, None, refl, ap, sym, arith}
+-- The frame that is read of a line: octets of more than 773 spell no message.
+use Rattle.std.proofs.Common.{◌≡◌, ◌∙◌, ◌≤◌, ℕ, ◌<◌, Bool, true, false, List, [], ◌∷◌, length, take, Option, Some, None, refl, ap, sym, arith}
 use Rattle.std.specs.Prelude.{nat_le, option_map}
 use Rattle.std.proofs.lemmas.Option.{same_Some}
 use Rattle.fio_message.specs.Decoding.{message_in}
 use Rattle.fio_message.specs.Commands.{command_length}
 use Rattle.fio_message.specs.Answers.{answer_length}
 use Rattle.fio_message.specs.Reading.{command_at, answer_at}
-use Rattle.fio_tool.specs.Transcript.{observation_of_frame}
+use Rattle.fio_tool.specs.Transcript.{IsReadFrame, frame_in, observation_of_frame}
 use Rattle.fio_check.specs.declared.observation.Observation.TheVariants.{Unreadable}
 
 pub too_long-none : {V : Type 0} (length_of : List ℕ → Option ℕ) (read : ℕ → List ℕ → V) (octets : List ℕ) → 773 < length octets
@@ -22,14 +22,26 @@ long-unreadable : (from_cpu : Bool) (octets : List ℕ) → 773 < length octets 
 long-unreadable true octets long = rw (too_long-none command_length command_at octets long) refl
 long-unreadable false octets long = rw (too_long-none answer_length answer_at octets long) refl
 
-pub long_observed : (from_cpu : Bool) (found : Option (List ℕ)) (count : ℕ) → Some count ≡ option_map length found → 773 < count
-    → Some Unreadable ≡ option_map (λ octets. observation_of_frame (from_cpu, octets)) found
-long_observed from_cpu None count is long = absurd (cc)
-long_observed from_cpu (Some octets) count is long =
-    let same : count ≡ length octets = same_Some _ _ is in
-    ap Some (sym (long-unreadable from_cpu octets (omega (arith, same, long))))
+module _ (line : List ℕ) (from_cpu : Bool) (count : ℕ) (room : List ℕ) (frame : IsReadFrame line from_cpu count room) where
+  pub long_observed : 773 < count → Unreadable ≡ observation_of_frame (from_cpu, frame.octets)
+  long_observed long =
+      let counted = frame.counted in
+      sym (long-unreadable from_cpu frame.octets (omega (arith, counted, long)))
 
--- the observation of octets that are read
-pub short_observed : (from_cpu : Bool) (found : Option (List ℕ)) (octets : List ℕ) → found ≡ Some octets
-    → Some (observation_of_frame (from_cpu, octets)) ≡ option_map (λ os. observation_of_frame (from_cpu, os)) found
-short_observed from_cpu found octets is = sym (ap (option_map (λ os. observation_of_frame (from_cpu, os))) is)
+  -- octets that the room has
+  pub short_observed : count ≤ 773 → (octets : List ℕ) → octets ≡ take count room
+      → observation_of_frame (from_cpu, octets) ≡ observation_of_frame (from_cpu, frame.octets)
+  short_observed short octets is = ap (λ os. observation_of_frame (from_cpu, os)) (is ∙ sym (frame.read short))
+
+-- ---- a frame that is read
+
+pub frame_read : (line room : List ℕ) (from_cpu : Bool) (found : Option (List ℕ)) (count : ℕ)
+    → frame_in line ≡ option_map (λ os. (from_cpu, os)) found → Some count ≡ option_map length found
+    → (count ≤ 773 → found ≡ Some (take count room)) → IsReadFrame line from_cpu count room
+frame_read line room from_cpu None count framed counted read = absurd (cc)
+frame_read line room from_cpu (Some octets) count framed counted read = record {
+  octets = octets;
+  frame = framed;
+  counted = same_Some _ _ counted;
+  read = λ short. same_Some _ _ (read short);
+}

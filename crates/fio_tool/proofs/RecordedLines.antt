@@ -1,22 +1,21 @@
 -- One pass over a text, frame by frame, as the CPU of the lines that are read of it and the first entry that breaks a rule
 -- on content.
-use Rattle.std.proofs.Common.{◌≡◌, ◌<◌, ◌∙◌, ℕ, Bool, true, false, List, [], ◌∷◌, map, length, Option, Some, None, Result, Ok, Err, refl, sym, ap, arith}
+use Rattle.std.proofs.Common.{◌≡◌, ◌<◌, ◌≤◌, ◌∙◌, ℕ, Bool, true, false, List, [], ◌∷◌, map, length, take, Option, Some, None, Result, Ok, Err, refl, sym, ap, arith}
 use Rattle.std.specs.Prelude.{fold, option_map}
 use Rattle.std.specs.Option.{option_or}
-use Rattle.std.proofs.lemmas.Option.{same_Some}
 use Rattle.fio_message.specs.Commands.{command_length}
 use Rattle.fio_message.specs.Answers.{answer_length}
 use Rattle.fio_message.specs.Reading.{command_at, answer_at}
 use Rattle.fio_cpu.specs.Poller.{Polling}
 use Rattle.fio_world.specs.FirstFaults.{values_or_fault}
 use Rattle.fio_check.specs.Lines.{TranscriptLine}
-use Rattle.fio_check.specs.ContentCheckers.{ContentKept, content_found, kept_with, nothing_kept}
+use Rattle.fio_check.specs.ContentCheckers.{ContentKept, content_found, kept_with}
 use Rattle.fio_check.specs.ContentKept.{content_kept}
 use Rattle.fio_check.specs.Pollers.{poller_of, poller_with}
 use Rattle.fio_tool.specs.Record.{items_of_cpu}
-use Rattle.fio_tool.specs.Recordings.{IsRecordingOf, IsStep, entries_taken, item_broken}
+use Rattle.fio_tool.specs.Recordings.{IsNoRecording, IsRecordingOf, IsStep, entries_taken, item_broken}
 use Rattle.fio_tool.specs.declared.transcript.recording.Recording.{Recording}
-use Rattle.fio_tool.specs.Transcript.{frame_in, line_in}
+use Rattle.fio_tool.specs.Transcript.{IsReadFrame, line_in}
 use Rattle.fio_tool.specs.declared.transcript.lines.TraceError.{TraceError}
 use Rattle.fio_tool.proofs.CheckedLines.{first-left, line_read}
 use Rattle.fio_tool.proofs.BrokenEntries.{IsBrokenSoFar, broken_end, broken_first, broken_next}
@@ -53,15 +52,35 @@ long-step recording number from_cpu octets long = record {
       (sym (long-found (content_kept recording.checker) from_cpu octets long));
 }
 
-pub long_passed : (recording : Recording) (number : ℕ) (line : List ℕ) (from_cpu : Bool) (octets : Option (List ℕ)) (count : ℕ) (found : TranscriptLine)
-    → frame_in line ≡ option_map (λ os. (from_cpu, os)) octets → Some count ≡ option_map length octets → 773 < count
-    → line_in (number, line) ≡ Ok found → IsStep recording found recording
-long_passed recording number line from_cpu None count found framed counted long is = absurd (cc)
-long_passed recording number line from_cpu (Some octets) count found framed counted long is =
-    let read = line_read number line from_cpu octets framed in
-    let same : record { number = number; from_cpu = from_cpu; octets = octets } ≡ found = cc in
-    let many : count ≡ length octets = same_Some _ _ counted in
-    rw (← same) (long-step recording number from_cpu octets (omega (arith, many, long)))
+-- the line of a frame that is read
+read-line : (number : ℕ) (line : List ℕ) (from_cpu : Bool) (count : ℕ) (room : List ℕ) (frame : IsReadFrame line from_cpu count room) (found : TranscriptLine)
+    → line_in (number, line) ≡ Ok found → record { number = number; from_cpu = from_cpu; octets = frame.octets } ≡ found
+read-line number line from_cpu count room frame found is =
+    let read = line_read number line from_cpu frame.octets frame.frame in cc
+
+pub long_passed : (recording : Recording) (number : ℕ) (line : List ℕ) (from_cpu : Bool) (count : ℕ) (room : List ℕ) (frame : IsReadFrame line from_cpu count room) (found : TranscriptLine)
+    → 773 < count → line_in (number, line) ≡ Ok found → IsStep recording found recording
+long_passed recording number line from_cpu count room frame found long is =
+    let same = read-line number line from_cpu count room frame found is in
+    let counted = frame.counted in
+    rw (← same) (long-step recording number from_cpu frame.octets (omega (arith, counted, long)))
+
+-- ---- the line of a frame that is not too long
+
+pub record IsShortLine (number : ℕ) (from_cpu : Bool) (octets : List ℕ) (found : TranscriptLine) : Type 0 where
+  pub numbered : found.number ≡ number
+  pub directed : found.from_cpu ≡ from_cpu
+  pub spelled : found.octets ≡ octets
+
+pub short_line : (number : ℕ) (line : List ℕ) (from_cpu : Bool) (count : ℕ) (room octets : List ℕ) (frame : IsReadFrame line from_cpu count room) (found : TranscriptLine)
+    → count ≤ 773 → octets ≡ take count room → line_in (number, line) ≡ Ok found → IsShortLine number from_cpu octets found
+short_line number line from_cpu count room octets frame found short is reads =
+    let same = read-line number line from_cpu count room frame found reads in
+    record {
+      numbered = sym (ap (λ one. one.number) same);
+      directed = sym (ap (λ one. one.from_cpu) same);
+      spelled = sym (ap (λ one. one.octets) same) ∙ frame.read short ∙ sym is;
+    }
 
 -- ---- the course of the pass
 
@@ -81,12 +100,12 @@ split-first (Err e) more rest is = absurd (cc)
 
 -- before the first line
 pub recording_first : (lines : List TranscriptLine) (left : List (ℕ × List ℕ)) (recording : Recording) → values_or_fault (map line_in left) ≡ Ok lines
-    → recording.cpu ≡ None → content_kept recording.checker ≡ nothing_kept → recording.broken ≡ None → IsRecordingSoFar lines left recording
-recording_first lines left recording reads none nothing unbroken = record {
+    → IsNoRecording recording → IsRecordingSoFar lines left recording
+recording_first lines left recording reads none = record {
   rest = lines;
   left_is = reads;
-  whole = ap (λ cpu. fold poller_with cpu lines) none;
-  course = broken_first lines recording.cpu (content_kept recording.checker) recording.broken none nothing unbroken;
+  whole = ap (λ cpu. fold poller_with cpu lines) none.cpu;
+  course = broken_first lines recording.cpu (content_kept recording.checker) recording.broken none.cpu none.kept none.broken;
 }
 
 -- one line more

@@ -7,7 +7,7 @@ use Rattle.fio_cpu.specs.Poller.{Polling}
 use Rattle.fio_cpu.specs.declared.poller.Heard.{Heard}
 use Rattle.fio_cpu.specs.declared.poller.Heard.TheVariants.{Block}
 use Rattle.fio_cpu.specs.declared.record.Item.{Item}
-use Rattle.fio_check.specs.ContentCheckers.{content_found, kept_with}
+use Rattle.fio_check.specs.ContentCheckers.{content_found, kept_with, nothing_kept}
 use Rattle.fio_check.specs.ContentKept.{content_kept}
 use Rattle.fio_check.specs.ContentRules.{BrokenEntry, broken_entry_in}
 use Rattle.fio_check.specs.Lines.{TranscriptLine}
@@ -30,6 +30,12 @@ entry_of_item items broken = record {
 abbrev pub broken_entry_of : Recording → Option BrokenEntry
 broken_entry_of recording =
     option_map (entry_of_item (items_of_cpu recording.cpu)) recording.broken
+
+-- the pass has gone through no line
+pub record IsNoRecording (recording : Recording) : Type 0 where
+  pub cpu : recording.cpu ≡ None
+  pub kept : content_kept recording.checker ≡ nothing_kept
+  pub broken : recording.broken ≡ None
 
 -- the pass has gone through these lines
 pub record IsRecordingOf (lines : List TranscriptLine) (recording : Recording) : Type 0 where

@@ -1,7 +1,8 @@
 -- How a transcript is written: the frames that the CPU's end of the link sent and heard, one a line, in order; and the
 -- verdict on what a text writes.
-use Rattle.std.specs.Prelude.{◌≡◌, ℕ, Bool, true, false, List, ◌∷◌, ◌++◌, map, codes, Option, Result, Ok, Err, option_map, option_and_then}
+use Rattle.std.specs.Prelude.{◌≡◌, ◌≤◌, ℕ, Bool, true, false, List, ◌∷◌, ◌++◌, map, codes, length, Option, Some, Result, Ok, Err, option_map, option_and_then, take}
 use Rattle.std.specs.Option.{ok_or, option_or}
+use Rattle.fio_message.specs.declared.limits.TheConstants.{FRAME_OCTETS}
 use Rattle.fio_check.specs.Lines.{TranscriptLine}
 use Rattle.fio_check.specs.Observations.{observation_in}
 use Rattle.fio_check.specs.declared.observation.Observation.{Observation}
@@ -23,6 +24,13 @@ abbrev pub frame_in : List ℕ → Option (Bool × List ℕ)
 frame_in line = option_or
     (option_and_then (frame_with true) (after_prefix (codes "> ") line))
     (option_and_then (frame_with false) (after_prefix (codes "< ") line))
+
+-- a line is a frame of so many octets, which are at the front of room for the longest frame where they fit in it
+pub record IsReadFrame (line : List ℕ) (from_cpu : Bool) (count : ℕ) (room : List ℕ) : Type 0 where
+  pub octets : List ℕ
+  pub frame : frame_in line ≡ Some (from_cpu, octets)
+  pub counted : count ≡ length octets
+  pub read : count ≤ FRAME_OCTETS → octets ≡ take count room
 
 -- what such a frame says to the rules
 abbrev pub observation_of_frame : Bool × List ℕ → Observation

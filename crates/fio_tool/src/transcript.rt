@@ -5,5 +5,5 @@ mod one_pass;
 mod recording;
 
 pub use lines::{TraceError, read_trace};
-pub(crate) use one_pass::check_lines;
-pub(crate) use recording::{BrokenItem, Recording, recording_of};
+pub(crate) use one_pass::judge_lines;
+pub(crate) use recording::{BrokenItem, Recording};

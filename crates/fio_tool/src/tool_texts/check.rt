@@ -1,12 +1,14 @@
 //! The text that says whether a transcript keeps the rules.
-ghost use Rattle.std.specs.Prelude.{◌≡◌, ◌++◌, IfOk, OnOk, string_bytes};
-ghost use Rattle.fio_tool.specs.Check.{check_text, is_check_good, verdict_text};
+ghost use Rattle.std.specs.Prelude.{◌≡◌, ◌++◌, IfOk, OnOk, codes, false, string_bytes};
+ghost use Rattle.fio_world.specs.Faults.{bad_line_text};
+ghost use Rattle.fio_tool.specs.Check.{check_text, is_check_good, is_good, verdict_text};
 
 use super::{is_too_long, report_too_long};
-use crate::transcript::check_lines;
+use crate::transcript::{TraceError, judge_lines};
 use fio_check::Verdict;
 use fio_message::Memory;
 use fio_world::Report;
+use fio_world::text::BadLine;
 use std::alloc::{AllocError, Global};
 
 /// Room for the longest line of a text, the one for `sequence` at line 1,048,576.
@@ -27,20 +29,43 @@ pub fn check_text(alloc: Global, input: &[u8]) -> Result<Report, Memory>
     if is_too_long(input) {
         return report_too_long(alloc);
     }
+    match judge_lines(alloc, input, false) {
+        Ok((verdict, _)) => report_of_verdict(alloc, verdict),
+        Err(TraceError::BadLine { line }) => report_of_bad_line(alloc, BadLine { line }),
+        Err(TraceError::Memory) => Err(Memory),
+    }
+}
+
+/// The report of a verdict.
+///
+/// # Errors
+/// `Memory` where there is no room for its line.
+pub(super) fn report_of_verdict(alloc: Global, verdict: Verdict) -> Result<Report, Memory>
+    ensures text { IfOk result (λ report. report.text.items ≡ verdict_text verdict) }
+    ensures good { IfOk result (λ report. report.good ≡ is_good verdict) }
+{
     let mut text = String::with_capacity(alloc, LONGEST_LINE)?;
-    let good = match check_lines(input) {
-        Ok(verdict) => {
-            push_verdict(&mut text, verdict)?;
-            matches!(verdict, Verdict::Good { .. })
-        }
-        Err(fault) => {
-            write!(text, "{fault}\n")?;
-            false
-        }
-    };
+    push_verdict(&mut text, verdict)?;
     Ok(Report {
         text: text.into_bytes(),
-        good,
+        good: matches!(verdict, Verdict::Good { .. }),
+    })
+}
+
+/// The report of the first line that is no frame.
+///
+/// # Errors
+/// `Memory` where there is no room for its line.
+pub(super) fn report_of_bad_line(alloc: Global, fault: BadLine) -> Result<Report, Memory>
+    ensures text { IfOk result (λ report.
+        report.text.items ≡ bad_line_text fault.line ++ codes "\n") }
+    ensures good { IfOk result (λ report. report.good ≡ false) }
+{
+    let mut text = String::with_capacity(alloc, LONGEST_LINE)?;
+    write!(text, "{fault}\n")?;
+    Ok(Report {
+        text: text.into_bytes(),
+        good: false,
     })
 }
 

@@ -1,17 +1,16 @@
 //! The text with the record of a transcript's CPU, judged by the rules on content.
-ghost use Rattle.std.specs.Prelude.{◌≡◌, ◌++◌, List, IfOk, OnOk, Ok, Some, is_some, not, take};
-ghost use Rattle.fio_check.specs.ContentRules.{broken_entry_in};
-ghost use Rattle.fio_check.specs.Lines.{TranscriptLine};
+ghost use Rattle.std.specs.Prelude.{◌≡◌, ◌++◌, List, IfOk, OnOk, Some, is_some, not, take};
 ghost use Rattle.fio_cpu.specs.declared.record.Item.{Item as ItemOf};
-ghost use Rattle.fio_tool.specs.Record.{broken_entry_line, is_record_good, items_of_cpu, judged_record, record_lines, record_of, record_text};
+ghost use Rattle.fio_tool.specs.Record.{broken_entry_line, is_record_good, items_of_cpu, judged_record, record_lines, record_text};
 ghost use Rattle.fio_tool.specs.Recordings.{broken_entry_of, entry_of_item};
-ghost use Rattle.fio_tool.specs.Transcript.{transcript_in};
 
-use super::check::check_text;
-use crate::transcript::{BrokenItem, Recording, recording_of};
-use fio_check::ContentRule;
+use super::check::{report_of_bad_line, report_of_verdict};
+use super::{is_too_long, report_too_long};
+use crate::transcript::{BrokenItem, Recording, TraceError, judge_lines};
+use fio_check::{ContentRule, Verdict};
 use fio_cpu::Item;
 use fio_message::Memory;
+use fio_world::text::BadLine;
 use fio_world::{Report, push_items, push_line};
 use std::alloc::{AllocError, Global};
 
@@ -29,26 +28,31 @@ pub fn record_text(alloc: Global, input: &[u8]) -> Result<Report, Memory>
     ensures text { IfOk result (λ report. report.text.items ≡ record_text input.now) }
     ensures good { IfOk result (λ report. report.good ≡ is_record_good input.now) }
 {
-    let checked = check_text(alloc, input)?;
-    if !checked.good {
-        return Ok(checked);
+    if is_too_long(input) {
+        return report_too_long(alloc);
     }
-    report_of_record(alloc, input)
+    match judge_lines(alloc, input, true) {
+        Ok((Verdict::Good { .. }, recording)) => report_of_recording(alloc, &recording),
+        Ok((verdict, _)) => report_of_verdict(alloc, verdict),
+        Err(TraceError::BadLine { line }) => report_of_bad_line(alloc, BadLine { line }),
+        Err(TraceError::Memory) => Err(Memory),
+    }
 }
 
-/// The report of the record of the transcript that a text is.
-fn report_of_record(alloc: Global, text: &[u8]) -> Result<Report, Memory>
-    ensures text { (lines : List TranscriptLine) → transcript_in text.now ≡ Ok lines
-        → IfOk result (λ report.
-        report.text.items ≡ judged_record (broken_entry_in lines) (record_of lines)) }
-    ensures good { (lines : List TranscriptLine) → transcript_in text.now ≡ Ok lines
-        → IfOk result (λ report. report.good ≡ not (is_some (broken_entry_in lines))) }
+/// The report of what a pass over a transcript kept.
+///
+/// # Errors
+/// `Memory` where there is no room for its lines.
+fn report_of_recording(alloc: Global, recording: &Recording) -> Result<Report, Memory>
+    ensures text { IfOk result (λ report. report.text.items
+        ≡ judged_record (broken_entry_of recording.now) (items_of_cpu recording.now.cpu)) }
+    ensures good { IfOk result (λ report.
+        report.good ≡ not (is_some (broken_entry_of recording.now))) }
 {
-    let recording = recording_of(alloc, text)?;
-    let mut written = Vec::new(alloc);
-    push_recording(&mut written, &recording)?;
+    let mut text = Vec::new(alloc);
+    push_recording(&mut text, recording)?;
     Ok(Report {
-        text: written,
+        text,
         good: recording.broken.is_none(),
     })
 }

@@ -1,18 +1,15 @@
-//! The record of a transcript's CPU, and the first entry of it that breaks a rule on content, in one pass
-//! over its text.
-ghost use Rattle.std.specs.Prelude.{◌≡◌, List, true, false, IfOk, OnOk, Ok, option_map};
+//! The record of a transcript's CPU, and the first entry of it that breaks a rule on content, frame by frame.
+ghost use Rattle.std.specs.Prelude.{◌≡◌, List, ℕ, None, true, false, IfOk, OnOk, Ok, option_map};
 ghost use Rattle.fio_message.specs.Decoding.{block_in};
 ghost use Rattle.fio_cpu.specs.Hearing.{after_hearing};
 ghost use Rattle.fio_check.specs.Lines.{TranscriptLine};
 ghost use Rattle.fio_tool.specs.Record.{items_of_cpu};
-ghost use Rattle.fio_tool.specs.Recordings.{IsRecordingOf, IsStep, entries_heard, entries_taken, item_broken};
-ghost use Rattle.fio_tool.specs.Transcript.{line_in, transcript_in};
+ghost use Rattle.fio_tool.specs.Recordings.{IsNoRecording, IsStep, entries_heard, entries_taken, item_broken};
+ghost use Rattle.fio_tool.specs.Transcript.{IsReadFrame, line_in};
 
-use super::lines::frame_word;
 use fio_check::{ContentBreach, ContentChecker, ContentRule, Observation};
 use fio_cpu::{Heard, Item, Poller};
 use fio_message::{FRAME_OCTETS, Memory};
-use fio_world::text::{numbered_lines, read_octets_to};
 use std::alloc::Global;
 
 /// An entry of the record that breaks a rule on content.
@@ -40,6 +37,43 @@ pub(crate) struct Recording {
 }
 
 impl Recording {
+    /// What is kept above the first line.
+    pub(crate) fn new() -> Recording
+        ensures { IsNoRecording result }
+    {
+        Recording {
+            cpu: None,
+            checker: ContentChecker::new(),
+            broken: None,
+        }
+    }
+
+    /// Adds the frame of the line with this number, whose octets were read into room for the longest.
+    ///
+    /// # Errors
+    /// `Memory` where the record could not grow. Nothing else allocates.
+    pub(crate) fn add(
+        &mut self,
+        alloc: Global,
+        number: usize,
+        from_cpu: bool,
+        count: usize,
+        room: &[u8; FRAME_OCTETS],
+    ) -> Result<(), Memory>
+        ensures { (line : List ℕ) (found : TranscriptLine) → IsReadFrame line from_cpu count room.now
+            → line_in (number, line) ≡ Ok found → OnOk result (IsStep self.old found self.new) }
+    {
+        if count > room.len() {
+            return Ok(());
+        }
+        let octets = &room[..count];
+        if from_cpu {
+            self.send(alloc, octets);
+            return Ok(());
+        }
+        self.hear(number, octets)
+    }
+
     /// The record of the CPU.
     pub(crate) fn items(&self) -> &[Item]
         ensures { result.now ≡ items_of_cpu self.now.cpu }
@@ -121,67 +155,4 @@ fn broken_item(
         input: breach.input,
         rule: breach.rule,
     })
-}
-
-/// The record of the transcript that a text is, and the first entry of it that breaks a rule on content.
-///
-/// # Errors
-/// `Memory` where the record could not grow. Nothing else allocates.
-pub(crate) fn recording_of(alloc: Global, text: &[u8]) -> Result<Recording, Memory>
-    ensures { (lines : List TranscriptLine) → transcript_in text.now ≡ Ok lines
-        → IfOk result (IsRecordingOf lines) }
-{
-    let mut room = [0; FRAME_OCTETS];
-    let mut recording = Recording {
-        cpu: None,
-        checker: ContentChecker::new(),
-        broken: None,
-    };
-    'lines: for (number, line) in numbered_lines(text, 1) {
-        add_line(alloc, &mut recording, number, line, &mut room)?;
-    }
-    Ok(recording)
-}
-
-/// Adds the line with this number, whose octets are read into room for the longest frame. What is no
-/// frame changes nothing.
-fn add_line(
-    alloc: Global,
-    recording: &mut Recording,
-    number: usize,
-    line: &[u8],
-    room: &mut [u8; FRAME_OCTETS],
-) -> Result<(), Memory>
-    ensures { (found : TranscriptLine) → line_in (number, line.now) ≡ Ok found
-        → OnOk result (IsStep recording.old found recording.new) }
-{
-    let Some((from_cpu, word)) = frame_word(line) else {
-        return Ok(());
-    };
-    let Some(count) = read_octets_to(word, room) else {
-        return Ok(());
-    };
-    if count > room.len() {
-        return Ok(());
-    }
-    add_frame(alloc, recording, number, from_cpu, &room[..count])
-}
-
-/// Adds a frame of the line with this number, that the CPU sent or heard.
-fn add_frame(
-    alloc: Global,
-    recording: &mut Recording,
-    number: usize,
-    from_cpu: bool,
-    octets: &[u8],
-) -> Result<(), Memory>
-    ensures { (found : TranscriptLine) → found.number ≡ number → found.from_cpu ≡ from_cpu
-        → found.octets ≡ octets.now → OnOk result (IsStep recording.old found recording.new) }
-{
-    if from_cpu {
-        recording.send(alloc, octets);
-        Ok(())
-    } else {
-        recording.hear(number, octets)
-    }
 }
