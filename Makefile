@@ -158,7 +158,7 @@ $(module): crates/fio_c/out/$(wasm)/libfio_c.a
 # The portable library: fio2070.c and fio2070.h, two files of C99 for any processor (tools/portable/README.md).
 
 portable = portable
-translator = $(addprefix tools/portable/,translate instructions.py functions.py module.py accesses.py ahead.py head.c machine.c calls.c)
+translator = $(addprefix tools/portable/,translate instructions.py functions.py module.py accesses.py ahead.py loops.py head.c machine.c calls.c)
 
 .PHONY: portable
 

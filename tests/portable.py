@@ -41,7 +41,7 @@ LONG = ['-5000', '500', '1']
 MOST = {'module_scan, nothing changes': 150, 'module_scan, inputs 0 and 1 change': 1500,
         'module_scan, inputs 0 and 63 change': 1500, 'module_scan, 64 inputs change': 15000,
         'module_receive, poll, 20 entries': 3000, 'poller_hear, 20 entries': 3000, 'show, 255 entries': 2048,
-        'module_receive, poll': 1152, 'poller_hear, 255 entries': 1024}
+        'module_receive, poll': 1280, 'poller_hear, 255 entries': 1024}
 
 check = Check(every=False)
 room = tempfile.mkdtemp()

@@ -141,6 +141,62 @@ STRUCTURES = {
     'run_to_far': START + 'i64.const 131064 local.set $a local.get $a i64.load offset=8',
 }
 
+# Straight loops: the text inside, and what goes on while it holds.
+def straight(first, inside, condition):
+    return START + first + 'loop ' + inside + condition + ' br_if 0 end '
+
+
+def stepped(local, step):
+    return 'local.get %s i64.const %d i64.add local.set %s ' % (local, step, local)
+
+
+COUNTED_DOWN = 'local.get $n i64.const 1 i64.sub local.tee $n i64.eqz i32.eqz'
+STRUCTURES.update({
+    'loop_up_to_a_local': straight(
+        'i64.const 16 local.set $a i64.const 800 local.set $b ', 'local.get $a local.get $a i64.store offset=3 local.get $a '
+        'i64.load16_u offset=9 ' + MIX + stepped('$a', 8), 'local.get $b local.get $a i64.ne') + all_memory(),
+    'loop_down_to_zero': straight(
+        'i64.const 30 local.set $n i64.const 40 local.set $a i64.const 500 local.set $b ', 'local.get $b i64.const 1 i64.sub '
+        'local.get $a i64.load8_u ' + MIX + 'local.get $n i64.store32 ' + stepped('$a', 3) + stepped('$b', 5), COUNTED_DOWN)
+    + all_memory(),
+    'loop_by_four': straight(
+        'i64.const 40 local.set $b i64.const 64 local.set $a ', 'local.get $a local.get $n i64.store ' + stepped('$a', 16)
+        + stepped('$n', 4), 'local.get $n local.get $b i64.ne') + all_memory(),
+    'loop_once': straight('i64.const 1 local.set $n i64.const 1016 local.set $a ', 'local.get $a i64.const 7 i64.store '
+                          + stepped('$a', 64), COUNTED_DOWN) + all_memory(),
+    'loop_of_two_steps': straight(
+        'i64.const 20 local.set $n i64.const 8 local.set $a ', stepped('$a', 8) + 'local.get $a local.get $n i64.store '
+        + stepped('$a', 13) + 'local.get $a local.get $n i64.store16 offset=2 ', COUNTED_DOWN) + all_memory(),
+    'loop_to_lower_addresses': straight(
+        'i64.const 20 local.set $n i64.const 800 local.set $a ', 'local.get $a local.get $n i64.store ' + stepped('$a', -24),
+        COUNTED_DOWN) + all_memory(),
+    'loop_over_one_address': straight(
+        'i64.const 20 local.set $n i64.const 800 local.set $a ', 'local.get $a local.get $a i64.load local.get $n i64.add i64.store ',
+        COUNTED_DOWN) + all_memory(),
+    'loop_that_doubles': straight(
+        'i64.const 6 local.set $n i64.const 8 local.set $a ', 'local.get $a local.get $n i64.store local.get $a local.get $a i64.add '
+        'local.set $a ', COUNTED_DOWN) + all_memory(),
+    'loop_that_compares_before_the_step': straight(
+        'i64.const 976 local.set $a ', 'local.get $a local.get $a i64.store local.get $a i64.const 1016 i64.ne local.set $w '
+        + stepped('$a', 8), 'local.get $w') + straight('i64.const 976 local.set $a ', 'local.get $a i64.const 5 i64.store '
+        'local.get $a i64.const 1008 i64.ne ' + stepped('$a', 8), '')[len(START):] + all_memory(),
+    'loop_with_a_way_out': START + 'i64.const 9000 local.set $n i64.const 8 local.set $a block loop local.get $a i64.const 96 i64.eq br_if 1 '
+    'local.get $a local.get $n i64.store ' + stepped('$a', 8) + COUNTED_DOWN + ' br_if 0 end end ' + all_memory(),
+    'loops_in_a_loop': START + loop('$b', 8, 64, 'i64.const 5 local.set $n local.get $b local.set $a loop local.get $a local.get $n i64.store '
+                                    'offset=100 ' + stepped('$a', 8) + COUNTED_DOWN + ' br_if 0 end ') + all_memory(),
+    'turns_over_two_objects': START + loop('$a', 1, 64, 'local.get $a i64.const 2 i64.rem_u i64.const %d i64.mul local.get $a i64.add '
+                                           'local.set $n local.get $n i64.load ' % DATA + MIX) + 'local.get $all',
+    'loop_of_2_to_64_turns': straight('i64.const 8 local.set $a ', 'local.get $a i64.load ' + MIX + stepped('$a', 8), COUNTED_DOWN)
+    + 'local.get $all',
+    'loop_of_2_to_61_turns': straight('i64.const %d local.set $n ' % (2 ** 61 + 1), 'local.get $a i64.load ' + MIX + stepped('$a', 8),
+                                      COUNTED_DOWN) + 'local.get $all',
+    'loop_past_the_end_that_it_compares_with': straight(
+        'i64.const 10 local.set $b ', 'local.get $a i64.load ' + MIX + stepped('$a', 4), 'local.get $a local.get $b i64.ne')
+    + 'local.get $all',
+    'loop_to_far': straight('i64.const 20000 local.set $n ', 'local.get $a i64.load ' + MIX + stepped('$a', 8), COUNTED_DOWN)
+    + 'local.get $all',
+})
+
 # Their result, their frame; the place of the last eight octets of the stack.
 FUNCTIONS = '''(func $combined (param $w i32) (param $n i64) (result i64)
   local.get $n local.get $w i64.extend_i32_u i64.mul local.get $n i64.const 3 i64.add i64.xor)
@@ -177,6 +233,19 @@ OUTSIDE = [(name, START + text) for name, text in {
     'run_past_the_stack': 'call $end local.tee $a i64.const 1 i64.store8 local.get $a i64.const 1 i64.store16 offset=7 i64.const 1',
     'across_stack_and_data': 'i64.const %d i64.load' % (DATA - 4),
     'store_to_the_data': 'i64.const %d i64.const 1 i64.store8 i64.const 1' % DATA,
+    'loop_past_the_stack': straight('i64.const 4 local.set $n i64.const %d local.set $a ' % (DATA - 24), 'local.get $a local.get $n '
+                                    'i64.store ' + stepped('$a', 8), COUNTED_DOWN)[len(START):] + 'i64.const 1',
+    'loop_past_the_data': straight('i64.const 4 local.set $n i64.const %d local.set $a ' % (END - 24), 'local.get $a i64.load '
+                                   + MIX + stepped('$a', 8), COUNTED_DOWN)[len(START):] + 'i64.const 1',
+    'loop_past_the_stack_that_compares_before_the_step': straight(
+        'i64.const %d local.set $a ' % (DATA - 24), 'local.get $a i64.const 5 i64.store local.get $a i64.const %d i64.ne ' % DATA
+        + stepped('$a', 8), '')[len(START):] + 'i64.const 1',
+    'loop_past_the_stack_to_an_end_that_moves': straight(
+        'i64.const %d local.set $a i64.const %d local.set $b ' % (DATA - 424, DATA - 184), 'local.get $a i64.const 5 i64.store '
+        + stepped('$a', 16) + stepped('$b', 8), 'local.get $a local.get $b i64.ne')[len(START):] + 'i64.const 1',
+    'turns_past_the_stack': loop('$a', 8, DATA + 8, 'local.get $a i64.const 1 i64.store ') + 'i64.const 1',
+    'turns_past_the_stack_by_an_octet': loop('$a', 9, DATA, 'local.get $a i64.const 1 i64.store ') + 'i64.const 1',
+    'turns_past_the_data': loop('$a', 8, END + 8, 'local.get $a i64.load drop ') + 'i64.const 1',
     'fill_of_the_data': 'i64.const %d i32.const 1 i64.const 1 memory.fill i64.const 1' % DATA,
     'copy_past_the_data': 'i64.const 0 i64.const %d i64.const 9 memory.copy i64.const 1' % (END - 8),
     'copy_past_the_stack': 'i64.const %d i64.const 0 i64.const 9 memory.copy i64.const 1' % (DATA - 8)}.items()]

@@ -12,9 +12,11 @@ class Wrong(NamedTuple):
     right: str
     wrong: str
     usual: bool = False
+    # It is in what FIO2070_FAST adds.
+    is_fast: bool = False
 
 
-RULES, FUNCTIONS, ACCESSES = 'instructions.py', 'functions.py', 'accesses.py'
+RULES, FUNCTIONS, ACCESSES, LOOPS = 'instructions.py', 'functions.py', 'accesses.py', 'loops.py'
 MACHINE, CALLS = 'machine.c', 'calls.c'
 WRONG = [
     ('is zero', Wrong(RULES, "'({0} == 0)'", "'({0} != 0)'", True)),
@@ -48,9 +50,11 @@ WRONG = [
     ('offset', Wrong(ACCESSES, "self.place.distance + self.offset", "self.place.distance + (self.offset & 63)", True)),
     ('distance', Wrong(ACCESSES, "(one.distance + other.distance + 2 ** 63)", "(one.distance + 2 ** 63)", True)),
     ('pointers behind a block', Wrong(ACCESSES, "if it.depth < depth]", "if it.depth <= depth]", True)),
-    ('numbers in a loop', Wrong(FUNCTIONS, "        self.forget(assigned_in(it))\n", "", True)),
+    ('numbers in a loop', Wrong(FUNCTIONS, "        self.forget(assigned)\n", "", True)),
     ('numbers behind a block', Wrong(FUNCTIONS, "            self.forget(block['assigned'])\n", "            pass\n", True)),
     ('test before a branch', Wrong(FUNCTIONS, "    def branch(self, depth):\n        self.settle()\n", "    def branch(self, depth):\n", True)),
+    ('step of a loop', Wrong(ACCESSES, "'%s += %d;' % (pointer, step)", "'%s += %d;' % (pointer, step + 1)", True)),
+    ('first turn of a loop', Wrong(ACCESSES, "(start - name[1]) % 2", "(start - name[1] + 1) % 2", True)),
     ('field of a result', Wrong(CALLS, "header->stamp = get32(into + 4);", "header->stamp = get32(into + 3);", True)),
 ]
 
@@ -60,9 +64,20 @@ UNSEEN = [
     ('narrowing', Wrong(RULES, "'(uint32_t){0}'", "'(uint16_t){0}'")),
     ('zeros of the high half', Wrong(MACHINE, "32 + trailing32(", "31 + trailing32(")),
     ('shift to the right, signed', Wrong(MACHINE, "(x >> 63 ? ~(~UINT64_C(0)", "(x >> 62 ? ~(~UINT64_C(0)")),
-    ('length of a test', Wrong(ACCESSES, "address, end - start)", "address, 1)")),
+    ('length of a test', Wrong(ACCESSES, "address, size)\n        lines[first", "address, 1)\n        lines[first")),
     ('place of a test', Wrong(MACHINE, "place <= it->length && size <= it->length - place", "place <= it->length")),
     ('number of an argument', Wrong(MACHINE, "(uint32_t)(address >> 32)", "(uint32_t)(address >> 40)")),
+    ('turns of a loop', Wrong(MACHINE, "size + step * (uint32_t)(turns - 1);", "size;")),
+    ('turns without end', Wrong(MACHINE, "turns - 1 > 0xFFFFFFFFu || ", "")),
+    ('steps past the end', Wrong(MACHINE, "if ((to - from) % step) trap();", "")),
+    ('loop with a way out', Wrong(LOOPS, "return ahead.number() == 0 and ahead.octet() == END",
+                                  "if ahead.number() == 0:\n                return True\n            continue")),
+    ('when a loop compares', Wrong(LOOPS, "== self.places_of(moved.base).distance + step", "!= 2 ** 70")),
+    ('local that a loop moves', Wrong(LOOPS, "if it == place and index not in self.assigned", "if it.base == place.base")),
+    ('places in an object', Wrong(MACHINE, "(uint64_t)length - size + 1", "(uint64_t)length + 1", is_fast=True)),
+    ('object of an access', Wrong(MACHINE, "found.first = ((uint64_t)number << 32) + it->first", "found.first = 0 * it->first + 1", is_fast=True)),
+    ('store to an object that is read', Wrong(MACHINE, "        if (writes) trap();\n", "", is_fast=True)),
+    ('object of the data', Wrong(MACHINE, "        length = size;\n", "        length += size + 64;\n", is_fast=True)),
     ('read-only data', Wrong(MACHINE, "size > DATA_LENGTH - (uint32_t)place", "size > DATA_LENGTH + 999999")),
 ]
 

@@ -24,6 +24,8 @@ class Access(NamedTuple):
     depth: int
     # What the instruction adds to its address.
     offset: int
+    # Whether it is in a loop.
+    is_repeated: bool
 
     def start(self):
         return self.place.distance + self.offset
@@ -43,21 +45,36 @@ class Tested(NamedTuple):
                 and self.writes >= it.writes)
 
 
+def span(these):
+    """Where accesses with one base begin, how many octets they have, and whether one writes."""
+    start, end = min(it.start() for it in these), max(it.start() + it.size for it in these)
+    return start, end - start, any(it.writes for it in these)
+
+
 class Accesses:
     """The accesses of a function, in their order."""
 
     def __init__(self):
         self.bases, self.sums, self.pointers = 0, {}, 0
         self.waiting, self.tested = [], []
+        # The local that each base comes from, and the variable for the object of (local, size, writes).
+        self.locals, self.objects = {}, {}
 
-    def fresh(self):
-        """A number of which nothing is known."""
+    def fresh(self, local=None):
+        """A number of which nothing is known, or no more than that it is in this local."""
         self.bases += 1
+        self.locals[self.bases] = local
         return Place(self.bases, 0)
+
+    def named(self, place, local):
+        """A number is put into a local."""
+        if place.base != NOTHING and self.locals[place.base] is None:
+            self.locals[place.base] = local
 
     def sum_of(self, one, other):
         if NOTHING not in (one.base, other.base):
-            return self.sums.setdefault((one, other), self.fresh())
+            local = self.locals[one.base]
+            return self.sums.setdefault((one, other), self.fresh(self.locals[other.base] if local is None else local))
         whole = (one.distance + other.distance + 2 ** 63) % 2 ** 64 - 2 ** 63
         return Place(one.base or other.base, whole)
 
@@ -68,10 +85,10 @@ class Accesses:
         self.pointers += 1
         return self.names()[-1]
 
-    def add(self, line, address, place, size, writes, depth, offset):
+    def add(self, line, address, place, size, writes, depth, offset, is_repeated):
         """A further access. Returns the mark that its line has for the pointer."""
         mark = '@%d@' % len(self.waiting)
-        self.waiting.append(Access(line, mark, address, place, size, writes, depth, offset))
+        self.waiting.append(Access(line, mark, address, place, size, writes, depth, offset, is_repeated))
         return mark
 
     def frame(self, place, size, depth):
@@ -86,22 +103,49 @@ class Accesses:
             lines[it.line] = lines[it.line].replace(it.mark, '%s + %d' % (found.pointer, it.start() - found.start))
         self.waiting = []
 
+    def settle_turns(self, loop, turns, lines):
+        """Chooses the pointers of the accesses of a straight loop whose address is that of the turn before and a step: they
+        are tested before the loop, up to those of the last turn. Returns what moves them on between turns."""
+        found = []
+        for first in self.waiting if turns else []:
+            name, step = loop.name_of(first.place.base), loop.steps.get(first.place.base, 0)
+            these = [it for it in self.waiting if it.place.base == first.place.base]
+            if not name or step <= 0 or self.find(first) or first not in self.waiting:
+                continue
+            start, size, writes = span(these)
+            pointer = self.pointer()
+            address = '%s + UINT64_C(%d)' % (name[0], (start - name[1]) % 2 ** 64)
+            test = '%s = %s(%s, m, run(%du, %du, %s));' % (
+                pointer, 'write_at' if writes else 'read_at', address, size, step, turns)
+            lines[loop.line] = test + '\n' + lines[loop.line]
+            for it in these:
+                lines[it.line] = lines[it.line].replace(it.mark, '%s + %d' % (pointer, it.start() - start))
+            self.waiting = [it for it in self.waiting if it not in these]
+            found.append('%s += %d;' % (pointer, step))
+        return found
+
     def find(self, it):
         return next((tested for tested in self.tested if tested.covers(it)), None)
 
     def test(self, first, others, lines):
         """Writes one test before the first of some accesses, for all of them that have its base."""
         these = [it for it in others if it.place.base == first.place.base and not self.find(it)]
-        start, end = min(it.start() for it in these), max(it.start() + it.size for it in these)
-        writes = any(it.writes for it in these)
-        found = Tested(first.place.base, start, end, writes, self.pointer(), first.depth)
+        start, size, writes = span(these)
+        found = Tested(first.place.base, start, start + size, writes, self.pointer(), first.depth)
         self.tested.append(found)
         address = first.address
         if start != first.place.distance:
             address += ' + UINT64_C(%d)' % ((start - first.place.distance) % 2 ** 64)
-        test = '%s = %s(%s, m, %du);' % (found.pointer, 'write_at' if writes else 'read_at', address, end - start)
+        call = 'write' if writes else 'read'
+        call += '_near(&%s, ' % self.object_of(first, size, writes) if first.is_repeated else '_at('
+        test = '%s = %s%s, m, %du);' % (found.pointer, call, address, size)
         lines[first.line] = test + '\n' + lines[first.line]
         return found
+
+    def object_of(self, first, size, writes):
+        """The variable for the object that a loop's accesses were in, whose bounds are then at hand for the next ones.
+        It is no more than a guess that those from one local are in one object: a miss is looked up."""
+        return self.objects.setdefault((self.locals.get(first.place.base), size, writes), 'n%d' % (len(self.objects) + 1))
 
     def leave(self, depth, is_joined):
         """A block ends that is open at this depth. Where its end is reached by branches too, what was tested in it is

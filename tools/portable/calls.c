@@ -46,6 +46,10 @@ static uint64_t window(struct machine *m, const void *octets, size_t length, uin
 #define READS(octets, length) window(&machine, octets, length, 0)
 #define WRITES(octets, length) window(&machine, octets, length, 1)
 
+/* Whether the processor has the module's order of octets. */
+static const uint16_t one = 1;
+#define IS_LITTLE (*(const uint8_t *)&one)
+
 static uint16_t get16(const uint8_t *p) { return (uint16_t)(p[0] | p[1] << 8); }
 static uint32_t get32(const uint8_t *p) { return get16(p) | (uint32_t)get16(p + 2) << 16; }
 static uint64_t get64(const uint8_t *p) { return get32(p) | (uint64_t)get32(p + 4) << 32; }
@@ -128,7 +132,7 @@ struct fio2070_fault fio2070_read_block(const uint8_t *octets, size_t length, st
 /* Entries that the module wrote, in the processor's own order of octets. */
 static void settle_entries(struct fio2070_entry *entries, size_t count) {
     size_t place;
-    for (place = 0; place < count; place++) entries[place].stamp = get16((const uint8_t *)&entries[place].stamp);
+    for (place = 0; !IS_LITTLE && place < count; place++) entries[place].stamp = get16((const uint8_t *)&entries[place].stamp);
 }
 
 size_t fio2070_block_entries(const uint8_t *octets, size_t length, struct fio2070_entry *entries, size_t room) {
@@ -243,10 +247,9 @@ size_t fio2070_encode_block_answer(uint8_t block, const struct fio2070_entry *en
                                    uint32_t stamp, uint8_t *out, size_t room) {
     MACHINE(fio2070_encode_block_answer);
     /* Entries in the module's order of octets. Of more than 255 it reads none; a window that ends there would show it. */
-    static const uint16_t one = 1;
     uint8_t octets[FIO2070_MOST_ENTRIES * 4];
     uint64_t from, to = WRITES(out, room);
-    if (*(const uint8_t *)&one) {
+    if (IS_LITTLE) {
         from = READS(entries, count * sizeof *entries);
     } else {
         size_t place, most = count < FIO2070_MOST_ENTRIES ? count : FIO2070_MOST_ENTRIES;
@@ -302,7 +305,7 @@ struct fio2070_heard fio2070_poller_hear(struct fio2070_poller *poller, const ui
     heard.entries = into[4];
     heard.items = get16(into + 6);
     heard.fault = fault_in(into + 8);
-    for (place = 0; heard.kind == FIO2070_HEARD_TAKEN && place < heard.items; place++) {
+    for (place = 0; !IS_LITTLE && heard.kind == FIO2070_HEARD_TAKEN && place < heard.items; place++) {
         struct fio2070_record_item *it = &items[place];
         it->stamp = get16((const uint8_t *)&it->stamp);
         it->wide = get32((const uint8_t *)&it->wide);

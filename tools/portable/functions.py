@@ -5,9 +5,11 @@ tested."""
 from accesses import NOTHING, Accesses, Place
 from ahead import assigned_in, skip
 from instructions import I32, I64, LETTER, LOADS, NUMERIC, STORES, TYPES
+from loops import Comparison, Loop, is_straight
 from module import Refused
 
 ADD_64, SUBTRACT_64 = 0x7C, 0x7D
+IS_ZERO_32, IS_ZERO_64, IS_OTHER_64 = 0x45, 0x50, 0x52
 
 
 class Function:
@@ -22,7 +24,7 @@ class Function:
         self.frame, self.calls = 0, set()
         self.accesses = Accesses()
         # What is known of the numbers in the locals, and of the stack pointer as long as nothing changes it.
-        self.places = [self.accesses.fresh() for _ in self.takes]
+        self.places = [self.accesses.fresh(index) for index, _ in enumerate(self.takes)]
         self.stack_pointer, self.is_moved = self.accesses.fresh(), False
         self.frame_test = None
         self.read(module.codes[index])
@@ -57,7 +59,7 @@ class Function:
     def begin(self, kind, results):
         self.labels += 1
         self.blocks.append({'kind': kind, 'results': results, 'height': len(self.stack), 'label': self.labels,
-                            'assigned': set(), 'places': list(self.places)})
+                            'assigned': set(), 'places': list(self.places), 'bases': self.accesses.bases})
 
     def settle(self):
         """What follows is not always done after what stands here."""
@@ -66,7 +68,7 @@ class Function:
     def forget(self, assigned):
         """These locals may have other numbers than those known."""
         for index in assigned:
-            self.places[index] = self.accesses.fresh()
+            self.places[index] = self.accesses.fresh(index)
 
     def branch(self, depth):
         self.settle()
@@ -90,6 +92,9 @@ class Function:
             self.variables[target] = kind
             if source != target:
                 self.say('%s = %s;' % (target, source))
+
+    def is_in_loop(self):
+        return any(it['kind'] == 'loop' for it in self.blocks)
 
     def block_type(self, it):
         value = it.number(signed=True)
@@ -169,7 +174,8 @@ class Function:
             return self.sum(op)
         if op in NUMERIC:
             text, kinds, result = NUMERIC[op]
-            self.push(result, text.format(*self.pops(kinds)))
+            given = [self.pop_entry(kind) for kind in reversed(kinds)][::-1]
+            self.push(result, text.format(*[name for name, _ in given]), self.comparison(op, [place for _, place in given]))
             return True
         if op in LOADS:
             return self.load(*LOADS[op], it)
@@ -178,6 +184,14 @@ class Function:
         if op not in STEPS:
             raise Refused('instruction 0x%02x in function %d' % (op, self.index))
         return STEPS[op](self, op, it) is not False
+
+    def comparison(self, op, places):
+        """What is known of a number that this instruction makes of others."""
+        if op == IS_ZERO_32 and isinstance(places[0], Comparison):
+            return places[0].opposite()
+        if op == IS_ZERO_64:
+            return Comparison(places[0], Place(NOTHING, 0), True)
+        return Comparison(*places, False) if op == IS_OTHER_64 else None
 
     def sum(self, op):
         """A sum or a difference of 64 bits, of which more is known than that it is a number. What is taken from the stack
@@ -198,7 +212,8 @@ class Function:
 
     def access(self, address, place, size, offset, writes):
         """The mark of a pointer to these octets, which the next line has."""
-        return self.accesses.add(len(self.lines), address, place, size, writes, len(self.blocks), offset)
+        moves = place.base > max([it['bases'] for it in self.blocks if it['kind'] == 'loop'], default=place.base)
+        return self.accesses.add(len(self.lines), address, place, size, writes, len(self.blocks), offset, moves)
 
     def load(self, size, sign, kind, it):
         it.number()
@@ -224,9 +239,22 @@ class Function:
         self.begin('block', self.block_type(it))
 
     def loop(self, op, it):
-        self.begin('loop', self.block_type(it))
-        self.forget(assigned_in(it))
+        results, assigned = self.block_type(it), assigned_in(it)
+        if is_straight(it):
+            self.settle()
+        self.begin('loop', results)
+        self.forget(assigned)
+        if is_straight(it):
+            self.blocks[-1]['loop'] = Loop(len(self.lines), list(self.places), assigned)
         self.say('l%d:;' % self.labels)
+
+    def end_turn(self, condition):
+        """The end of a straight loop, which goes on where this holds. Returns what moves pointers on."""
+        loop = self.blocks[-1].get('loop')
+        if not loop:
+            return []
+        loop.measure(self.places)
+        return self.accesses.settle_turns(loop, loop.turns(condition), self.lines)
 
     def condition(self, op, it):
         results = self.block_type(it)
@@ -240,9 +268,10 @@ class Function:
         return False
 
     def go_if(self, op, it):
-        condition, mark = self.pop(I32), len(self.lines)
-        go = self.branch(it.number())
-        moves = self.lines[mark:]
+        (condition, place), depth = self.pop_entry(I32), it.number()
+        moved, mark = self.end_turn(place), len(self.lines)
+        go = self.branch(depth)
+        moves = moved + self.lines[mark:]
         del self.lines[mark:]
         self.say('if (%s) { %s }' % (condition, ' '.join(moves + [go])))
 
@@ -282,20 +311,23 @@ class Function:
         index = it.number()
         self.push(self.locals[index], 'v%d' % index, self.places[index])
 
-    def set_local(self, op, it):
-        index = it.number()
-        name, self.places[index] = self.pop_entry(self.locals[index])
+    def put(self, index, name, place):
+        """A number is put into a local."""
+        self.places[index] = place if isinstance(place, Place) else self.accesses.fresh()
+        self.accesses.named(self.places[index], index)
         self.blocks[-1]['assigned'].add(index)
         self.say('v%d = %s;' % (index, name))
 
+    def set_local(self, op, it):
+        index = it.number()
+        self.put(index, *self.pop_entry(self.locals[index]))
+
     def tee_local(self, op, it):
-        index, (_, name, self.places[index]) = it.number(), self.stack[-1]
-        self.blocks[-1]['assigned'].add(index)
-        self.say('v%d = %s;' % (index, name))
+        self.put(it.number(), *self.stack[-1][1:])
 
     def get_global(self, op, it):
         index = it.number()
-        is_same = index == 0 and not (self.is_moved or self.calls or any(it['kind'] == 'loop' for it in self.blocks))
+        is_same = index == 0 and not (self.is_moved or self.calls or self.is_in_loop())
         self.push(self.module.globals[index][0], 'm->g%d' % index, self.stack_pointer if is_same else None)
 
     def set_global(self, op, it):
@@ -341,6 +373,7 @@ class Function:
                 lines.append('uint8_t *%s;' % pointer)
             else:
                 del self.lines[self.frame_test]
+        lines += ['OBJECT(%s)' % name for name in self.accesses.objects.values()]
         unused = [name for name in ['m'] + ['v%d' % n for n in range(len(self.locals))] if not uses(words, name)]
         return '\n'.join(lines + ['(void)%s;' % name for name in unused] + self.lines + ['}'])
 

@@ -12,10 +12,12 @@
 #define HOT static inline __attribute__((always_inline))
 #define COLD __attribute__((noinline, cold, noreturn))
 #define COLD_PLACE __attribute__((noinline, cold))
+#define LOOKED_UP __attribute__((noinline))
 #else
 #define HOT static inline
 #define COLD
 #define COLD_PLACE
+#define LOOKED_UP
 #endif
 
 /* The module is proved not to come here. A watchdog finds a call that never returns. */
@@ -71,6 +73,50 @@ PLACE uint8_t *write_at(uint64_t address, const struct machine *m, uint32_t size
     trap();
     return m->windows[0].octets;
 }
+
+/* How many turns a loop takes until a number is another one, by steps of this. Where it would take 2^64 it is 0. */
+HOT uint64_t turns(uint64_t to, uint64_t from, uint32_t step) { if ((to - from) % step) trap(); return (to - from) / step; }
+/* How many octets so many turns reach, each some octets beyond the one before. */
+HOT uint32_t run(uint32_t size, uint32_t step, uint64_t turns) { if (turns - 1 > 0xFFFFFFFFu || (turns - 1) * step > 0xFFFFFFFFu - size) trap(); return size + step * (uint32_t)(turns - 1); }
+
+/* An object, and how many places of it some octets may begin at. A loop has it in a variable for its accesses. */
+#if defined(FIO2070_FAST) && !defined(FIO2070_UNCHECKED) && UINTPTR_MAX > 0xFFFFFFFFu
+struct object {
+    uint8_t *octets;
+    uint64_t first, places;
+};
+#define OBJECT(name) struct object name = {0, 0, 0};
+
+/* The object that these octets are in, which are read, or which are written. */
+LOOKED_UP static struct object object_at(uint64_t address, const struct machine *m, uint32_t size, int writes) {
+    struct object found;
+    uint32_t number = (uint32_t)(address >> 32);
+    const struct window *it = &m->windows[number <= WINDOWS ? number : 0];
+    uint32_t length = writes ? it->writable : it->length;
+    found.octets = it->octets;
+    found.first = ((uint64_t)number << 32) + it->first;
+    if (number > WINDOWS || (uint32_t)address - it->first > length || size > length - ((uint32_t)address - it->first)) {
+        if (writes) trap();
+        found.octets = data_at(address, size);
+        found.first = address;
+        length = size;
+    }
+    found.places = (uint64_t)length - size + 1;
+    return found;
+}
+HOT uint8_t *read_near(struct object *it, uint64_t address, const struct machine *m, uint32_t size) {
+    if (address - it->first >= it->places) *it = object_at(address, m, size, 0);
+    return it->octets + (size_t)(address - it->first);
+}
+HOT uint8_t *write_near(struct object *it, uint64_t address, const struct machine *m, uint32_t size) {
+    if (address - it->first >= it->places) *it = object_at(address, m, size, 1);
+    return it->octets + (size_t)(address - it->first);
+}
+#else
+#define OBJECT(name)
+#define read_near(it, address, m, size) read_at(address, m, size)
+#define write_near(it, address, m, size) write_at(address, m, size)
+#endif
 
 HOT uint32_t load8(const uint8_t *p) {
     return *p;

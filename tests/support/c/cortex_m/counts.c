@@ -124,7 +124,7 @@ static void content_heard(void) { fio2070_content_heard(&content, block, block_l
 static uint32_t __attribute__((noinline)) stack_under(void (*call)(void)) {
     uint32_t place = 0;
     volatile uint8_t *lowest = (volatile uint8_t *)__builtin_frame_address(0) - PAINTED;
-    for (place = 0; place < PAINTED - 128; place++) lowest[place] = PAINT;
+    for (place = 0; place < PAINTED; place++) lowest[place] = PAINT;
     call();
     for (place = 0; place < PAINTED && lowest[place] == PAINT; place++) {}
     return PAINTED - place;
