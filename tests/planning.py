@@ -225,8 +225,8 @@ class Densest:
 
 
 class Configured(Densest):
-    """The same traffic, in which after each filter a configuration opens the next so many inputs in place of those that
-    were open. It is delivered twice, as one is whose answer was lost."""
+    """Traffic like `Densest`, in which after each filter a configuration opens the next inputs instead of those that were
+    open. It is delivered twice, as one is whose answer was lost."""
 
     def configure(self):
         first = (self.scans // self.filter - 1) * self.inputs
