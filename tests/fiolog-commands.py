@@ -1,7 +1,6 @@
 #!/usr/bin/env python3
 """The commands of `fiolog`, run as a user runs them: the words of `show`, the rows of docs/PLANNING.md, texts that the
-program reads again, answers while the input goes on, and lines that talk: a process, a pseudo-terminal, datagrams and a
-pipe, with the proved module and poller on the other side. Last line: `N passed, M failed`."""
+program reads again, answers while the input goes on; at a terminal too. Last line: `N passed, M failed`."""
 
 import csv
 import glob
@@ -9,26 +8,22 @@ import gzip
 import io
 import json
 import os
-import pty
 import random
 import re
-import socket
-import struct
 import subprocess
 import sys
 import tempfile
-import time
 
 sys.dont_write_bytecode = True
 
 from support.check import Check
-from support.fiolog import ENVIRONMENT, fiolog, has_library, use_library
+from support.fiolog import ENVIRONMENT, fiolog, has_library, on_terminal, use_library
 from support.loggers import LOGGERS
+from support.pcapng import frames_of
 from support.sessions import SESSION, timed
 from support.tables import TOP
 
 EXAMPLES = os.path.join(TOP, 'examples')
-TALK = os.path.join(TOP, 'tests', 'support', 'talking.py')
 LINE = re.compile(r'^\d+: +(?:\S+ \S+ |\d+\.\d+ )?[<>] ')
 LOG = LOGGERS['ISO times'](timed(SESSION))
 
@@ -99,20 +94,6 @@ def check_numbers(check):
     check.holds('6 rounds after the longest outage', re.search(r'nothing between the rounds +6 rounds', rounds), rounds)
 
 
-def frames_of(capture):
-    """The octets and directions of a pcapng file, by the blocks of its format."""
-    place, found = 0, []
-    while place < len(capture):
-        kind, length = struct.unpack_from('<II', capture, place)
-        if kind == 6:
-            size = struct.unpack_from('<I', capture, place + 20)[0]
-            data = capture[place + 28:place + 28 + size]
-            flags = struct.unpack_from('<I', capture, place + 28 + size + -size % 4 + 4)[0]
-            found.append(('>' if flags & 3 == 2 else '<', data[16:]))
-        place += length
-    return found
-
-
 def check_convert(check):
     """The texts that it writes are read again, and the capture has the frames."""
     transcript = fiolog('convert', '--to', 'transcript', text=LOG).out
@@ -169,28 +150,6 @@ def without(folder, name):
     with open(os.path.join(folder, 'none', name + '.py'), 'w', encoding='ascii') as file:
         file.write('raise ImportError(%r)\n' % name)
     return {'PYTHONPATH': os.path.join(folder, 'none') + os.pathsep + ENVIRONMENT['PYTHONPATH']}
-
-
-def on_terminal(python, words, out=None, text='', **settings):
-    """What a run writes on a pseudo-terminal, where its standard error is, and its standard output without `out`."""
-    leader, follower = pty.openpty()
-    environment = {**ENVIRONMENT, 'TERM': 'xterm-256color', 'COLUMNS': '120', 'LINES': '40', **settings}
-    with subprocess.Popen([python, '-m', 'fiolog', *words], stdin=subprocess.PIPE, stdout=out or follower, stderr=follower,
-                          env={name: value for name, value in environment.items() if value is not None}) as done:
-        os.close(follower)
-        done.stdin.write(text.encode())
-        done.stdin.close()
-        written = b''
-        while True:
-            try:
-                part = os.read(leader, 1 << 16)
-            except OSError:
-                break
-            if not part:
-                break
-            written += part
-    os.close(leader)
-    return written.decode()
 
 
 def check_terminal(check, folder):
@@ -352,77 +311,6 @@ def check_closed(check):
         check.equal('with ' + words, (status, False), (done.returncode, 'Traceback' in done.stderr))
 
 
-def numbers_of(text):
-    """The numbers of a summary line."""
-    return {name: int(number) for name, number in re.findall(r'([a-z ]+) (\d+)(?:, |$)', text.strip().splitlines()[-1])}
-
-
-def fault_of_process():
-    """A process with the proved ends: 40 rounds, of which every fifth answer is lost."""
-    done = fiolog('live', '--exec', '%s %s' % (sys.executable, TALK), '--quiet')
-    found = numbers_of(done.out)
-    return None if (found['polls'], found['answers lost'], found['marks']) == (40, 8, 0) else found
-
-
-def fault_of_terminal():
-    """A pseudo-terminal as serial port: frames with checks, then a damaged one, then a device that babbles."""
-    from support.talking import rounds, stuffed
-    ours, theirs = pty.openpty()
-    command = subprocess.Popen([sys.executable, '-m', 'fiolog', 'live', '--serial', os.ttyname(theirs), '--quiet',
-                                '--seconds', '6'], stdout=subprocess.PIPE, stderr=subprocess.PIPE, env=ENVIRONMENT)
-    time.sleep(2)
-    frames = [octets for _, octets in rounds(20)]
-    for octets in frames:
-        os.write(ours, stuffed(octets))
-    os.write(ours, stuffed(b'\x36\x05')[:-3] + b'\x00\x00\x7e')
-    for _ in range(8):
-        os.write(ours, b'\x55' * 500)
-    os.write(ours, b'\x7e' + stuffed(b'\x36\x05'))
-    out = command.communicate(timeout=30)[0].decode()
-    os.close(ours)
-    os.close(theirs)
-    found = numbers_of(out)
-    return None if (found['frames'], found['wrong frame checks']) == (len(frames) + 1, 2) else out
-
-
-def fault_of_datagrams():
-    """Datagrams, one of them no message."""
-    from support.talking import rounds
-    probe = socket.socket(socket.AF_INET, socket.SOCK_DGRAM)
-    probe.bind(('127.0.0.1', 0))
-    port = probe.getsockname()[1]
-    probe.close()
-    command = subprocess.Popen([sys.executable, '-m', 'fiolog', 'live', '--udp', str(port), '--seconds', '5'],
-                               stdout=subprocess.PIPE, stderr=subprocess.PIPE, env=ENVIRONMENT)
-    time.sleep(2)
-    frames = [octets for _, octets in rounds(10)] + [b'\x30']
-    with socket.socket(socket.AF_INET, socket.SOCK_DGRAM) as sender:
-        for octets in frames:
-            sender.sendto(octets, ('127.0.0.1', port))
-    out = command.communicate(timeout=30)[0].decode()
-    found = numbers_of(out)
-    return None if found['frames'] == len(frames) and 'unknown type 48' in out else out
-
-
-def fault_of_pipe(folder):
-    """A named pipe, with a transcript and a capture beside, whose writer stops in the middle of a line."""
-    pipe, transcript, capture = [os.path.join(folder, name) for name in ('pipe', 'transcript', 'capture')]
-    os.mkfifo(pipe)
-    command = subprocess.Popen([sys.executable, '-m', 'fiolog', 'live', '--fifo', pipe, '--quiet', '--transcript',
-                                transcript, '--pcapng', capture], stdout=subprocess.PIPE, env=ENVIRONMENT)
-    with open(pipe, 'w') as file:
-        file.write(LOG + '2026-11-22T07:15:09.000Z tx 36')
-    out = command.communicate(timeout=30)[0].decode()
-    with open(transcript, encoding='ascii') as file:
-        lines = file.read().splitlines()
-    with open(capture, 'rb') as file:
-        frames = frames_of(file.read())
-    expected = [(direction, octets) for _, direction, octets in timed(SESSION)]
-    written = [(line[0], bytes.fromhex(line[2:])) for line in lines]
-    fits = written[:len(expected)] == frames[:len(expected)] == expected
-    return None if fits and numbers_of(out)['polls'] == 6 else out
-
-
 def main():
     check = Check()
     if not has_library():
@@ -438,11 +326,6 @@ def main():
         check_plot(check, folder)
     check.fault('answers while the input goes on', fault_of_following)
     check.fault('bounded memory', fault_of_memory)
-    check.fault('a process', fault_of_process)
-    check.fault('a pseudo-terminal', fault_of_terminal)
-    check.fault('datagrams', fault_of_datagrams)
-    with tempfile.TemporaryDirectory() as folder:
-        check.fault('a pipe', fault_of_pipe, folder)
     check.end()
 
 

@@ -97,6 +97,9 @@ DAMAGES = [lambda line, cut: line[:cut], lambda line, cut: line[cut:], lambda li
            lambda line, cut: line[:cut] + line[cut + 1:], lambda line, cut: line[:cut] + ' ' + line[cut:],
            lambda line, cut: line[:cut] + '?' + line[cut + 1:]]
 
+# The forms whose octets are numbers without zeros before them.
+NUMBERS = ('Python words', 'JSON of numbers')
+
 
 def fault_of_damage(name, seed):
     """In a log of which characters were changed, cut or doubled, no frame is read that was not written, but with a
@@ -115,6 +118,8 @@ def fault_of_damage(name, seed):
     strange = [event for event in read.frames if event.octets not in known]
     if strange and doubts.has_rows and 'in each row' in ''.join(doubts.words()):
         return None
+    if name in NUMBERS:
+        return None if not strange or doubts.numbers and 'a digit that is lost' in ''.join(doubts.words()) else 'no remark on lost digits'
     if any(is_loose(event.octets) for event in strange) and 'any length' not in ''.join(doubts.words()):
         return 'no remark on types of any length'
     silent = [event for event in strange if not is_loose(event.octets)

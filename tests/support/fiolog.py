@@ -1,6 +1,7 @@
 """Runs `fiolog` of the repository with the library at its top, or with the one that FIO2070_LIBRARY names."""
 
 import os
+import pty
 import subprocess
 import sys
 from typing import NamedTuple, Union
@@ -35,3 +36,25 @@ def fiolog(*words, text='', is_text=True):
     done = subprocess.run([sys.executable, '-m', 'fiolog', *words], input=text.encode('utf-8'), stdout=subprocess.PIPE,
                           stderr=subprocess.PIPE, env=ENVIRONMENT, timeout=300)
     return Done(done.stdout.decode() if is_text else done.stdout, done.stderr.decode(), done.returncode)
+
+
+def on_terminal(python, words, out=None, text='', **settings):
+    """What a run writes on a pseudo-terminal, where its standard error is, and its standard output without `out`."""
+    leader, follower = pty.openpty()
+    environment = {**ENVIRONMENT, 'TERM': 'xterm-256color', 'COLUMNS': '120', 'LINES': '40', **settings}
+    with subprocess.Popen([python, '-m', 'fiolog', *words], stdin=subprocess.PIPE, stdout=out or follower, stderr=follower,
+                          env={name: value for name, value in environment.items() if value is not None}) as done:
+        os.close(follower)
+        done.stdin.write(text.encode())
+        done.stdin.close()
+        written = b''
+        while True:
+            try:
+                part = os.read(leader, 1 << 16)
+            except OSError:
+                break
+            if not part:
+                break
+            written += part
+    os.close(leader)
+    return written.decode()

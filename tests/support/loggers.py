@@ -127,6 +127,25 @@ def putty(frames):
     return '\n'.join(lines) + '\n'
 
 
+def hdlc_rows(frames):
+    """As Saleae's analyser of HDLC writes a row for each octet, with what it is."""
+    lines = ['name,type,start_time,duration,data,error']
+    for seconds, direction, octets in frames:
+        frame = b'\x14\x83' + octets
+        check = '0x%04X' % int.from_bytes(frame_check(frame), 'big')
+        rows = [('flag', '0x7E'), ('address', '0x14'), ('control', '0x83'), *(('byte', '0x%02X' % octet) for octet in octets),
+                ('fcs', check), ('flag', '0x7E')]
+        lines += ['"%s","%s",%.9f,6e-05,%s,' % (words('CPU', 'FIO')[direction], kind, seconds + 0.000_065 * place, value)
+                  for place, (kind, value) in enumerate(rows)]
+    return '\n'.join(lines) + '\n'
+
+
+def columned(octets, indent):
+    """Octets wrapped at 16, with their characters."""
+    return [indent + '%-47s   %s' % (pairs(octets[place:place + 16], '%02x'), column(octets[place:place + 16]))
+            for place in range(0, len(octets), 16)]
+
+
 def docklight(frames):
     return 'Docklight Log File (HEX) started 22.11.2026 07:15:00.000\n\n' + ''.join(
         '%s [%s] - %s \n' % (stamp(seconds, '%d.%m.%Y %H:%M:%S'), words('TX', 'RX')[direction], pairs(octets))
@@ -172,6 +191,15 @@ LOGGERS = {
         '%s\t%s\t%s\r\n' % (stamp(t, '%H:%M:%S'), words('OUT', 'IN')[d], pairs(o)) for t, d, o in frames),
     '0x and commas': each_line(lambda t, d, o: '%s %s' % (words('>>', '<<')[d], octet_words(o))),
     'characters': each_line(lambda t, d, o: '%s %s   %s' % (words('T', 'R')[d], pairs(o, '%02x'), column(o))),
+    'RealTerm': each_line(lambda t, d, o: '"%s",%s ' % (stamp(t, '%Y/%m/%d %H:%M:%S'), pairs(o))),
+    'Saleae HDLC': hdlc_rows,
+    'Python logging': each_line(lambda t, d, o: 'DEBUG:fio.link:%s %s' % (words('tx', 'rx')[d], o.hex())),
+    'Python words': each_line(lambda t, d, o: 'INFO:root:%s %s' % (words('->', '<-')[d], [hex(octet) for octet in o])),
+    'socat -x -v': dumped(lambda octets: columned(octets, ' ') + ['--'], lambda t, d, o: '%s %s  length=%d from=0 to=%d' % (
+        d, stamp(t, '%Y/%m/%d %H:%M:%S', digits=6), len(o), len(o) - 1)),
+    'serial monitor': dumped(lambda octets: columned(octets, '\t'), lambda t, d, o: '[%s] %s data (COM3)' % (
+        stamp(t, '%d/%m/%Y %H:%M:%S'), words('Written', 'Read')[d])),
+    'JSON of numbers': each_line(lambda t, d, o: json.dumps([t, words('tx', 'rx')[d], list(o)])),
     'line numbers': lambda frames: ''.join('%6d  %s %s\n' % (number, words('TX', 'RX')[d], pairs(o))
                                            for number, (_, d, o) in enumerate(frames, 1)),
 }

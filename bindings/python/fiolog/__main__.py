@@ -15,7 +15,7 @@ COMMANDS = {
     'plan': 'how often to poll, how long an outage may last, how late a transition can be',
     'convert': 'the frames as a transcript, frames, pcapng or VCD',
     'record': 'what the CPU learned, and which entries break a rule on content',
-    'live': 'decodes and checks a line that talks now',
+    'live': 'decodes a line that talks now, and checks it by all these rules',
 }
 
 

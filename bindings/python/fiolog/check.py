@@ -125,6 +125,13 @@ def run(option):
     return end(option, read, counts, judge, breaches)
 
 
+def say_excused(judge):
+    """Says how many polls are not judged."""
+    if judge.excused:
+        terminal.say('%d polls repeat a block that was answered: where the CPU did not hear the answer they are right; '
+                     'this log was not taken at the CPU, so they are not judged' % judge.excused)
+
+
 def end(option, read, counts, judge, breaches):
     """The summary, and the hints."""
     numbers = {**counts.in_short(), 'breaches': breaches}
@@ -132,9 +139,7 @@ def end(option, read, counts, judge, breaches):
         print(json.dumps({'summary': numbers}))
     else:
         print(', '.join('%s %d' % (name.replace('_', ' '), number) for name, number in numbers.items()))
-    if judge.excused:
-        terminal.say('%d polls repeat a block that was answered: where the CPU did not hear the answer they are right; '
-                     'this log was not taken at the CPU, so they are not judged' % judge.excused)
+    say_excused(judge)
     if read.is_reversed and option.at in ('cpu', 'bus'):
         terminal.say('the directions are those of the other end: try --at module')
     if breaches and not option.start_at_poll and not counts.begins_with_poll:

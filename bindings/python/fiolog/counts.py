@@ -90,10 +90,10 @@ class Counts:
         lost = self.lost_answers + (self.open_poll is not None)
         return lost
 
-    def in_short(self):
-        """The numbers of a summary."""
-        return {'frames': self.frames, 'polls': self.polls, 'repeats': self.repeats, 'answers_lost': self.end(),
-                'marks': self.marks}
+    def in_short(self, is_over=True):
+        """The numbers of a summary; while more may come, the last poll still waits for its answer."""
+        lost = self.end() if is_over else self.lost_answers
+        return {'frames': self.frames, 'polls': self.polls, 'repeats': self.repeats, 'answers_lost': lost, 'marks': self.marks}
 
     @property
     def seconds(self):

@@ -30,6 +30,16 @@ def digits_of(text, octets):
     return False, False
 
 
+def may_lose_digits(text, octets):
+    """Whether a text writes these octets as numbers of which one may lose a digit, and still be an octet."""
+    words = re.findall('[0-9a-z]+', text.lower())
+    for form, is_whole in (('%d', False), ('%x', min(octets) >= 16), ('0x%x', min(octets) >= 16)):
+        run = [form % octet for octet in octets]
+        if not is_whole and any(words[start:start + len(run)] == run for start, word in enumerate(words) if word == run[0]):
+            return True
+    return False
+
+
 def has_head(reading):
     """Whether a line has a time, a direction or marks around its octets."""
     return bool(reading.direction) or reading.time is not None or reading.notation == 'marks'
@@ -40,7 +50,7 @@ class Doubts:
     that was known; who reads them takes them out."""
 
     def __init__(self):
-        self.counted, self.singles, self.padded, self.heads, self.loose = Counter(), 0, 0, 0, 0
+        self.counted, self.singles, self.padded, self.heads, self.loose, self.numbers = Counter(), 0, 0, 0, 0, 0
         self.early, self.remarks, self.has_rows = [], [], False
 
     def reason(self, number, text, same, octets, is_usual):
@@ -57,6 +67,7 @@ class Doubts:
         if single and self.padded > self.singles:
             return LOST_DIGIT
         self._learn(number, same, octets, single, padded)
+        self.numbers += may_lose_digits(text, octets)
         return ''
 
     def in_rows(self, octets, direction, is_uneven):
@@ -72,6 +83,8 @@ class Doubts:
         """What stays doubtful in the whole log."""
         if self.has_rows:
             yield 'an octet stands in each row: where a row is missing, the rest may spell another message'
+        if self.numbers:
+            yield '%d frames have octets as numbers without zeros before them: a digit that is lost is not seen' % self.numbers
         if self.loose:
             yield '%d frames are of types that have any length: a cut in one of them is not seen' % self.loose
 

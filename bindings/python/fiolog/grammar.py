@@ -75,7 +75,7 @@ class _Walk:
         yield 'offset'
         if so_far.count is None:
             yield from COUNTS if so_far.direction else COUNTS[:3]
-        yield from ('label', 'level', 'port', 'CAN', 'prompt', 'bracketed', 'priority', 'process', 'pair', 'sign')
+        yield from ('label', 'logger', 'level', 'port', 'CAN', 'prompt', 'bracketed', 'priority', 'process', 'pair', 'sign')
         if so_far.time is not None and not so_far.direction:
             yield 'host'
         if not so_far.direction and words < MOST_WORDS:

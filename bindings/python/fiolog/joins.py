@@ -3,7 +3,7 @@
 import re
 
 from . import judge
-from .notations import HEX_LIST, from_digits
+from .notations import HEX_LIST, from_digits, with_column
 
 # The longest frame with SDLC around it takes fewer octets, and an array of it fewer lines.
 MOST_OCTETS = 4096
@@ -93,7 +93,8 @@ def is_wrapped(reading):
     return at_width and is_open(reading.octets, reading.count, False)
 
 
-def bare(text):
-    """The octets of a line that has nothing but digits; None where it has more."""
+def bare(text, has_column):
+    """The octets of a line that has nothing but digits, and perhaps their characters; None where it has more."""
     text = text.strip()
-    return text if HEX_LIST.fullmatch(text) and from_digits(text) else None
+    octets = with_column(text) if has_column else None
+    return octets or (from_digits(text) if HEX_LIST.fullmatch(text) else None) or None

@@ -1,5 +1,5 @@
-"""`fiolog live`: decodes, checks and counts a line that talks now. It ends with the line, or at Ctrl-C, and then writes
-what it counted.
+"""`fiolog live`: decodes, checks and counts a line that talks now, by the nine rules and by those on content. It ends with
+the line, or at Ctrl-C, and then writes what it counted.
 
 The field line itself is synchronous (SDLC): a serial port reads it by an adapter that gives out octet-stuffed HDLC with
 frame check."""
@@ -15,12 +15,14 @@ import time
 from . import check, sdlc, terminal
 from .counts import Counts
 from .decode import as_text
-from .events import DAMAGED, FRAME, Line
+from .events import DAMAGED, FRAME, PASSED, Line
 from .judge import is_answer, words_of
 from .message import message_of
 from .options import number_in
 from .pcapng import Writer
 from .reader import Reader
+from .rules import Rules
+from .source import LONGEST
 
 CHUNK = 1 << 16
 LONGEST_DATAGRAM = 1 << 16
@@ -28,6 +30,10 @@ LONGEST_DATAGRAM = 1 << 16
 LONGEST_STUFFED = 2 * (773 + 4)
 # Seconds without a frame after which the status line says so.
 QUIET = 2.0
+# Seconds that a process has to end.
+PATIENCE = 0.2
+# What the status line names where it is 0 too.
+ALWAYS = ('frames', 'polls', 'breaches')
 
 
 def add_arguments(parser):
@@ -42,7 +48,8 @@ def add_arguments(parser):
     parser.add_argument('--pcapng', metavar='FILE', help='write it as pcapng; - for `| wireshark -k -i -`')
     parser.add_argument('--at', choices=('auto', 'cpu', 'module', 'bus'), default='auto', help='where it is heard')
     parser.add_argument('--seconds', type=float, metavar='N', help='end after so long')
-    parser.add_argument('--quiet', action='store_true', help='do not write the messages')
+    parser.add_argument('-v', '--verbose', action='store_true', help='name each line that is passed over, and why')
+    parser.add_argument('-q', '--quiet', action='store_true', help='do not write the messages')
 
 
 class Lines:
@@ -54,7 +61,7 @@ class Lines:
     def feed(self, chunk):
         """The events of the lines that are whole now."""
         lines = (self.left + chunk).split(b'\n')
-        self.left = lines.pop()[-CHUNK:]
+        self.left = lines.pop()[:LONGEST + 1]
         for line in lines:
             self.number += 1
             for event in self.reader.feed(self.number, line.decode('utf-8', 'replace').rstrip('\r')):
@@ -125,10 +132,13 @@ class Station:
     """What is done with each frame: written, checked, counted, kept."""
 
     def __init__(self, option, source):
-        self.option, self.source, self.counts, self.breaches = option, source, Counts(), 0
-        self.name, self.reader, self.out = '-', source.reader, sys.stderr if option.pcapng == '-' else sys.stdout
-        self.line = as_text(self.out.write, terminal.painter('auto'))
-        self.judge = check.Judge(option.at) if check.has_checker() else None
+        self.option, self.source, self.counts = option, source, Counts()
+        self.breaches, self.broken_entries, self.is_open = 0, 0, False
+        self.name, self.reader, self.form = '-', source.reader, ''
+        self.out = sys.stderr if option.pcapng == '-' else sys.stdout
+        self.paint, self.status = terminal.painter('auto'), terminal.Status()
+        self.line = as_text(self._write, self.paint)
+        self.rules = Rules(option.at) if check.has_checker() else None
         self.transcript = open(option.transcript, 'w') if option.transcript else None
         self.capture = None
         if option.pcapng:
@@ -138,7 +148,10 @@ class Station:
 
     def add(self, event):
         """A frame, good or damaged; other lines are passed over."""
+        self.remark()
         if event.kind not in (FRAME, DAMAGED):
+            if event.kind == PASSED and self.option.verbose:
+                self._say('line %d: %s: %s' % (event.number, event.note, event.text[:100]))
             return
         self.last = time.monotonic()
         message = message_of(event.octets) if event.kind == FRAME else None
@@ -152,28 +165,51 @@ class Station:
         if self.capture:
             self.capture.add(event.time, direction, event.octets)
 
+    def remark(self):
+        """Says, once it is known, which form the lines have, and what is doubtful in those above."""
+        if self.reader.taken != self.form:
+            self.form = self.reader.taken
+            self._say('form: %s' % self.form)
+        for words in self.reader.doubts.remarks:
+            self._say(words)
+        self.reader.doubts.remarks.clear()
+
+    def _say(self, words):
+        self.status.clear()
+        self.out.flush()
+        terminal.say(words)
+
+    def _write(self, text):
+        self.status.clear()
+        self.out.write(text)
+
     def _check(self, event):
-        found = self.judge.breach(self, event) if self.judge else None
+        """Says what a frame breaks. Answers above the first command are to what was sent before: they are not judged."""
+        self.is_open = self.is_open or self.rules and self.rules.judge.direction(self, event) == '>'
+        found = self.rules.breach(self, event) if self.is_open else None
         if found:
-            self.breaches += 1
-            self.out.write('line %d: %s: %s\n' % (event.number, found[0], found[1]))
+            self.breaches += not found.is_content
+            self.broken_entries += found.is_content
+            self._write('line %d: %s: %s\n' % (event.number, self.paint('fault', found.rule), found.says))
 
     def flush(self):
         """Writes out what is held, and the status line on a terminal."""
-        self.out.flush()
-        for one in (self.transcript, self.capture and self.file):
+        self._flush()
+        silence = time.monotonic() - self.last
+        numbers = self.numbers(silence > QUIET).items()
+        self.status.show(', '.join('%s %d' % pair for pair in numbers if pair[1] or pair[0] in ALWAYS)
+                         + (', silent for %d s' % silence if silence > QUIET else ''))
+
+    def _flush(self):
+        for one in (self.out, self.transcript, self.capture and self.file):
             if one:
                 one.flush()
-        if sys.stderr.isatty():
-            words = ', '.join('%s %d' % pair for pair in self.numbers().items())
-            silence = time.monotonic() - self.last
-            sys.stderr.write('\r\x1b[K%s%s\r' % (words, ', silent for %d s' % silence if silence > QUIET else ''))
 
-    def numbers(self):
+    def numbers(self, is_over=True):
         """What was counted."""
-        numbers = {name.replace('_', ' '): number for name, number in self.counts.in_short().items()}
-        if self.judge:
-            numbers['breaches'] = self.breaches
+        numbers = {name.replace('_', ' '): number for name, number in self.counts.in_short(is_over).items()}
+        if self.rules:
+            numbers.update({'breaches': self.breaches, 'breaches in content': self.broken_entries})
         passed = self.source.reader.kinds['passed']
         return {**numbers, **({'lines passed over': passed} if passed else {}),
                 **({'wrong frame checks': self.source.wrong} if getattr(self.source, 'wrong', 0) else {})}
@@ -182,30 +218,50 @@ class Station:
         """The summary; status 1 where a rule is broken or nothing came."""
         for event in self.source.end():
             self.add(event)
-        self.flush()
-        self.out.write(', '.join('%s %d' % pair for pair in self.numbers().items()) + '\n')
-        self.out.flush()
-        if not self.judge:
+        self.remark()
+        for words in self.reader.doubts.words():
+            self._say(words)
+        self._write(', '.join('%s %d' % pair for pair in self.numbers().items()) + '\n')
+        self._flush()
+        if self.rules:
+            check.say_excused(self.rules.judge)
+        else:
             terminal.say('this libfio2070 has no checker: nothing was checked')
         if not self.counts.frames:
             terminal.say('no frame came')
-        return 1 if self.breaches or not self.counts.frames else 0
+        return 1 if self.breaches or self.broken_entries or not self.counts.frames else 0
 
 
 def opened(option):
-    """What is read: a file descriptor or socket, the function that reads it, and what makes events of it."""
+    """What is read: a file descriptor or socket, the function that reads it, what makes events of it, and what ends it."""
     if option.exec:
         process = subprocess.Popen(shlex.split(option.exec), stdout=subprocess.PIPE)
-        return process.stdout, lambda: os.read(process.stdout.fileno(), CHUNK), Lines()
+        return process.stdout, lambda: os.read(process.stdout.fileno(), CHUNK), Lines(), lambda: end_of(process)
     if option.udp is not None:
         heard = socket.socket(socket.AF_INET, socket.SOCK_DGRAM)
         heard.bind((option.host, option.udp))
-        return heard, lambda: heard.recv(LONGEST_DATAGRAM), Datagrams()
+        return heard, lambda: heard.recv(LONGEST_DATAGRAM), Datagrams(), heard.close
     if option.fifo:
         descriptor = os.open(option.fifo, os.O_RDONLY)
-        return descriptor, lambda: os.read(descriptor, CHUNK), Lines()
+        return descriptor, lambda: os.read(descriptor, CHUNK), Lines(), lambda: os.close(descriptor)
     port = serial_port(option)
-    return port, lambda: os.read(port if isinstance(port, int) else port.fileno(), CHUNK), Hdlc()
+    if isinstance(port, int):
+        return port, lambda: os.read(port, CHUNK), Hdlc(), lambda: os.close(port)
+    return port, lambda: os.read(port.fileno(), CHUNK), Hdlc(), port.close
+
+
+def end_of(process):
+    """Ends a process that goes on. Where it failed, its status is said."""
+    for end in (process.terminate, process.kill):
+        try:
+            status = process.wait(PATIENCE)
+        except subprocess.TimeoutExpired:
+            end()
+            continue
+        if status > 0:
+            terminal.say('the process ended with status %d' % status)
+        return
+    process.wait()
 
 
 def serial_port(option):
@@ -213,40 +269,59 @@ def serial_port(option):
     try:
         import serial
     except ImportError:
-        import tty
-        terminal.say('pyserial is not installed (Debian package python3-serial): the rate stays as the device is set')
-        descriptor = os.open(option.serial, os.O_RDONLY | os.O_NOCTTY)
-        tty.setraw(descriptor)
-        return descriptor
+        return raw_port(option.serial)
     return serial.Serial(option.serial, option.rate, timeout=0)
 
 
-def run(option):
-    """Hears the line until it ends."""
+def raw_port(name):
+    """A serial port as it is set."""
+    import termios
+    import tty
+    terminal.say('pyserial is not installed (Debian package python3-serial): the rate stays as the device is set')
+    descriptor = os.open(name, os.O_RDONLY | os.O_NOCTTY)
     try:
-        file, read, source = opened(option)
-    except ValueError as fault:
-        raise OSError(str(fault)) from None
-    station, end = Station(option, source), time.monotonic() + option.seconds if option.seconds else None
-    is_datagram = isinstance(source, Datagrams)
+        tty.setraw(descriptor)
+    except termios.error as fault:
+        raise OSError('%s: %s' % (name, fault.args[1])) from None
+    return descriptor
+
+
+def chunks(file, read, is_ended):
+    """What is read, piece by piece, and None where nothing came for a while; until the line ends, or `is_ended`."""
     with selectors.DefaultSelector() as ready:
         try:
             ready.register(file, selectors.EVENT_READ)
             is_file = False
         except PermissionError:
             is_file = True      # a plain file is always ready
+        while not is_ended():
+            if not is_file and not ready.select(timeout=0.25):
+                yield None
+                continue
+            try:
+                chunk = read()
+            except OSError:
+                return      # the other end of a terminal is gone
+            if not chunk and not isinstance(file, socket.socket):
+                return
+            yield chunk
+
+
+def run(option):
+    """Hears the line until it ends."""
+    try:
+        file, read, source, end = opened(option)
+    except ValueError as fault:
+        raise OSError(str(fault)) from None
+    try:
+        station, begun = Station(option, source), time.monotonic()
         try:
-            while end is None or time.monotonic() < end:
-                if is_file or ready.select(timeout=0.25):
-                    try:
-                        chunk = read()
-                    except OSError:
-                        break   # the other end of a terminal is gone
-                    if not chunk and not is_datagram:
-                        break
-                    for event in source.feed(chunk):
-                        station.add(event)
+            for chunk in chunks(file, read, lambda: option.seconds and time.monotonic() - begun >= option.seconds):
+                for event in source.feed(chunk) if chunk is not None else ():
+                    station.add(event)
                 station.flush()
         except KeyboardInterrupt:
             pass
-    return station.end()
+        return station.end()
+    finally:
+        end()

@@ -5,7 +5,7 @@ import sys
 from collections import Counter
 
 from . import fitting, source
-from .events import FRAME, PASSED
+from .events import DAMAGED, FRAME, PASSED
 from .reader import FORMS, Reader
 from .terminal import Progress, say
 
@@ -97,7 +97,10 @@ class Log:
             reasons = ', '.join('%d %s' % (count, reason) for reason, count in self.reasons.most_common(MOST_REASONS))
             say('%d of %d lines passed over: %s%s' % (passed, self.lines, reasons,
                                                       '' if self.option.verbose else ' (-v names each)'))
-        if not self.kinds[FRAME] and not self.kinds['damaged']:
+        if self.kinds[DAMAGED] > self.kinds[FRAME] and not self.option.quiet:
+            say('%d lines in the form of a frame spell no message, and %d do: perhaps their octets are turned, or no hexadecimal '
+                'digits' % (self.kinds[DAMAGED], self.kinds[FRAME]))
+        if not self.kinds[FRAME] and not self.kinds[DAMAGED]:
             say('no frame in %d lines' % self.lines)
             return False
         return True

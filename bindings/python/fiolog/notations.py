@@ -9,6 +9,8 @@ _PAIRS = {'[': ']', '{': '}', '(': ')', '<': '>', '"': '"', "'": "'"}
 _SPLIT = re.compile(r'[ \t]{2,}|\t|[ \t]*\||[ \t]+(?=["\'<\[(:])')
 _QUOTED = re.compile(r'''(?P<prefix>\b(?:b|rb|br|u8))?(?P<quote>["'])(?P<text>(?:[^"'\\]|\\.|(?!(?P=quote))["'])*)(?P=quote)''')
 _LISTED = re.compile(r'\{(?P<braces>[^{}]*)\}|\[(?P<brackets>[^\[\]]*)\]|\((?P<rounds>[^()]*)\)')
+# Octets of a list, each in quotes.
+_WORDS = re.compile(r'''(["'])(?:0x)?[0-9a-f]{1,2}\1(?:[ \t]*,[ \t]*\1(?:0x)?[0-9a-f]{1,2}\1)+''', re.IGNORECASE)
 _COMMENT = re.compile(r'/\*.*?\*/|//.*$')
 _ESCAPE = re.compile(r'\\(?:x([0-9a-fA-F]{1,2})|([0-7]{1,3})|(.))', re.DOTALL)
 _HALF_ESCAPE = re.compile(r'(?<!\\)(?:\\\\)*\\x(?![0-9a-fA-F]{2})')
@@ -81,6 +83,11 @@ def _inside(text):
     return text
 
 
+def _unquoted(text):
+    """A text with blanks for the quotes around each octet of a list."""
+    return _WORDS.sub(lambda words: re.sub('["\']', ' ', words[0]), text)
+
+
 def readings(text):
     """How a text may be octets and nothing more but a tail: the notation, and the octets."""
     if HEX['plain'].fullmatch(text):
@@ -89,7 +96,7 @@ def readings(text):
         if column is not None:
             yield 'column', column
         return
-    inner = _inside(text)
+    inner = _inside(_unquoted(text))
     digits = _digits(text) or _digits(inner)
     octets = from_digits(digits or inner) if digits or HEX['single'].fullmatch(inner) else b''
     if octets:
@@ -118,12 +125,21 @@ def from_literal(text):
         return None
 
 
+def _is_of_list(text, start, end):
+    """Whether an octet in quotes is one of a list in brackets."""
+    before, after = text[:start].rstrip(), text[end:].lstrip()
+    has_comma = before.endswith(',') or after.startswith(',')
+    return has_comma and bool(re.search(r'[\[({]', before) or re.search(r'[\])}]', after))
+
+
 def delimited(text):
     """Octets in quotes, braces or brackets anywhere in a line: where they begin, and each way to read them."""
+    text = _unquoted(text)
     for quoted in _QUOTED.finditer(text):
         inner = quoted['text'].strip()
         if not quoted['prefix'] and HEX_LIST.fullmatch(inner) and '\\' not in inner and from_digits(inner):
-            yield quoted.start(), from_digits(inner)
+            if len(from_digits(inner)) > 1 or not _is_of_list(text, *quoted.span()):
+                yield quoted.start(), from_digits(inner)
         is_python = quoted['prefix'] and quoted['prefix'].lower() != 'u8'
         if is_python and _HALF_ESCAPE.search(quoted['text']):
             continue    # Python writes two digits behind each \x

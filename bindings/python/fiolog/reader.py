@@ -13,7 +13,6 @@ from .events import DAMAGED, FRAME, PART, PASSED, REMARK, Line
 from .fast import Quick
 from .fitting import AUTO, ORDERED, PLAIN, Framing
 from .grammar import BLANKS, Reading, head_of, heading, in_marks, in_pieces
-from .notations import from_digits
 
 MOST_WAITING = 256
 # So many lines above the first frame may be a heading.
@@ -335,6 +334,11 @@ class Reader:
                 self.taken = 'table with the columns ' + ', '.join(self.table.names)
                 self.queue.append(Line(number, REMARK, text, note='header'))
             return bool(self.table)
+        if self.table.is_around(text):
+            if self._open_join():
+                self._close(self._open_join())
+            self.queue.append(Line(number, PASSED, text, note='a flag, a header or a check of SDLC'))
+            return True
         found = list(self.table.readings(text))
         if found and all(len(reading.octets) == 1 for reading in found):
             self._octet(number, text, found[0])
@@ -392,9 +396,9 @@ class Reader:
 
     def _may_wrap(self, reading):
         """Whether a line can be the first of several: it says more than octets, or is of a known form."""
-        if judge.spells(reading.octets):
-            return bool(reading.direction) or reading.time is not None
-        return bool(reading.direction) or reading.time is not None or reading.shape in self.shapes or reading.shape in OWN
+        if reading.direction or reading.time is not None or reading.notation == 'column':
+            return True
+        return not judge.spells(reading.octets) and (reading.shape in self.shapes or reading.shape in OWN)
 
     def _goes_on(self, waiting, number, text):
         """Whether a line belongs to the frame that is open, and is put to it."""
@@ -418,10 +422,9 @@ class Reader:
 
     def _wraps(self, waiting, text):
         """Whether a line has the rest of wrapped octets and nothing else."""
-        octets = joins.bare(text)
+        octets = joins.bare(text, waiting.join.first.notation == 'column')
         if octets is None:
             return False
-        octets = from_digits(octets)
         is_marked = text[:1] in BLANKS or bool(waiting.join.first.prefix)
         if not is_marked and judge.spells(octets):
             return False

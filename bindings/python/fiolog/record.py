@@ -1,6 +1,5 @@
 """`fiolog record`: what the CPU learned: the record of the proved CPU's end, which heard the answers of the log, and each
-entry that breaks a rule on content. Those rules are judged where the nine rules are kept: below a breach from the next poll
-on."""
+entry that breaks a rule on content."""
 
 import json
 import shutil
@@ -11,15 +10,14 @@ from typing import NamedTuple
 import fio2070
 
 from . import log, plot, terminal
-from .check import Judge, add_place
+from .check import add_place
 from .decode import clock
 from .events import DAMAGED, FRAME, Line
 from .message import BLOCK, LOST, POLL, message_of
+from .rules import Breach, Rules
 from .waveform import Block, draw
 
 COLUMNS = ['line', 'time', 'input', 'state', 'stamp', 'wide']
-RULES = [None, 'order', 'alternate', 'apart']
-LOAD = 50
 
 
 def add_arguments(parser):
@@ -30,18 +28,6 @@ def add_arguments(parser):
     form.add_argument('--json', action='store_true', help='one object a line: an item, or with `breaks` a breach')
     form.add_argument('--vcd', action='store_true', help='a VCD file; breaches on standard error')
     form.add_argument('--plot', metavar='FILE', help='a picture of the inputs over time, as .png, .svg or .pdf (by matplotlib)')
-
-
-class Breach(NamedTuple):
-    """A breach in a line: of a rule on content by an entry, with its index in the block and its input, or of one of the nine
-    rules by the frame."""
-    rule: str
-    entry: int = -1
-    input: int = -1
-
-    def words(self, line):
-        """As `fio2070 record` says it."""
-        return 'line %d %sbreaks %s' % (line, 'input %d ' % self.input if self.input >= 0 else '', self.rule)
 
 
 class Taken(NamedTuple):
@@ -77,50 +63,14 @@ class Hearing:
         return heard.kind == 'taken', items
 
 
-class Rules:
-    """The library's two checkers over a log."""
-
-    def __init__(self, option):
-        self.judge, self.load = Judge(option.at), None
-        self.content = None if option.start_at_poll else fio2070.ContentChecker()
-
-    def breach(self, read, event):
-        """The breach of a frame; None where it keeps all rules."""
-        is_poll = len(event.octets) == 2 and event.octets[0] == POLL
-        found = self.judge.breach(read, event)
-        if found:
-            self.content = None
-            return Breach(found[0])
-        if self.judge.direction(read, event) == '<':
-            return self.heard(event.octets)
-        if self.content is None and is_poll:
-            self.begin()
-        if event.octets[:1] == bytes([LOAD]):
-            self.load = event.octets
-        if self.content is not None:
-            self.content.sent(event.octets)
-        return None
-
-    def heard(self, octets):
-        """The breach of an entry in a frame that the CPU heard."""
-        found = self.content and self.content.heard(octets)
-        return Breach(RULES[found.rule], found.entry, found.input) if found else None
-
-    def begin(self):
-        """Goes on below a breach. A load of the counter that was sent above still counts."""
-        self.content = fio2070.ContentChecker()
-        if self.load:
-            self.content.sent(self.load)
-
-
 def frames_judged(read, option):
     """Each frame with its breach, file after file; with --start-at-poll from the first poll on."""
-    rules, name, is_open = Rules(option), None, not option.start_at_poll
+    rules, name, is_open = Rules(option.at, not option.start_at_poll), None, not option.start_at_poll
     for event in read.events():
         if event.kind not in (FRAME, DAMAGED):
             continue
         if name != read.name:
-            rules, name, is_open = Rules(option), read.name, not option.start_at_poll
+            rules, name, is_open = Rules(option.at, not option.start_at_poll), read.name, not option.start_at_poll
         is_open = is_open or event.octets[:1] == bytes([POLL])
         if is_open:
             yield event, rules.breach(read, event)
@@ -192,7 +142,7 @@ def write_json(record):
     """An object a line."""
     for event, item, breach in record.parts():
         if breach:
-            fields = {'input': breach.input, 'entry': breach.entry} if breach.input >= 0 else {}
+            fields = {'input': breach.input, 'entry': breach.entry} if breach.is_content else {}
             fields['breaks'] = breach.rule
         else:
             fields = {'gap': True} if item.gap else {name: getattr(item, name) for name in COLUMNS[2:]}
@@ -206,7 +156,7 @@ def write_text(record):
     with tempfile.TemporaryFile('w+') as items:
         for event, item, breach in record.parts():
             words = breach.words(event.number) + '\n' if breach else ''
-            if breach and breach.input < 0:
+            if breach and not breach.is_content:
                 verdict = verdict or words
             broken = broken or words
             if not broken:

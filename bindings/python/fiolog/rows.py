@@ -91,6 +91,11 @@ class Table:
             for octets in octets_of(cell(place, '')):
                 yield Reading(('column ' + self.names[place],), 'cell', octets, time, sides.get(place, direction))
 
+    def is_around(self, text):
+        """Whether a row has a flag, a header or a check of SDLC, and no octet of a message."""
+        cells = dict(enumerate(self.cells(text)))
+        return any(COLUMNS['around'].match(cells.get(place, '').strip()) for place in self.directions)
+
     def channel(self, text):
         """What tells the octets of one line of a bus from those of another, where a row has one octet."""
         cells = dict(enumerate(self.cells(text)))

@@ -60,6 +60,32 @@ def table(title, names, rows):
         print('  ' + '  '.join(cell.ljust(width) for cell, width in zip(row, widths)).rstrip())
 
 
+class Status:
+    """A line below all that is written on a terminal. It goes before something is written, and is cut where it has no room."""
+
+    def __init__(self):
+        self.is_terminal, self.is_shown = sys.stderr.isatty(), False
+
+    def show(self, words):
+        """Writes the line anew."""
+        if not self.is_terminal:
+            return
+        try:
+            room = os.get_terminal_size(sys.stderr.fileno()).columns - 1
+        except OSError:
+            room = -1
+        self.is_shown = True
+        sys.stderr.write('\r\x1b[K%s\r' % words[:room if room > 0 else None])
+        sys.stderr.flush()
+
+    def clear(self):
+        """The line goes."""
+        if self.is_shown:
+            self.is_shown = False
+            sys.stderr.write('\r\x1b[K')
+            sys.stderr.flush()
+
+
 class Progress:
     """A bar for a long file on a terminal. Where standard output is the terminal too, a command that `writes` as it
     reads has none."""

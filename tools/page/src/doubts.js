@@ -27,9 +27,17 @@ function digitsOf(text, octets) {
   return { isSingle: false, isPadded: false };
 }
 
+// Whether a text writes these octets as numbers of which one may lose a digit, and still be an octet.
+function mayLoseDigits(text, octets) {
+  const words = text.toLowerCase().match(/[0-9a-z]+/g) || [], isWhole = octets.every((octet) => octet >= 16);
+  const numbers = Array.from(octets), hex = numbers.map((octet) => octet.toString(16));
+  return [numbers.map(String), ...isWhole ? [] : [hex, hex.map((digits) => '0x' + digits)]]
+    .some((run) => words.some((word, start) => word === run[0] && run.every((it, place) => it === words[start + place])));
+}
+
 export class Doubts {
   constructor(judge) {
-    Object.assign(this, { judge, counted: new Set(), singles: 0, padded: 0, heads: 0, loose: 0, early: [], remarks: [], hasRows: false });
+    Object.assign(this, { judge, counted: new Set(), singles: 0, padded: 0, heads: 0, loose: 0, numbers: 0, early: [], remarks: [], hasRows: false });
   }
 
   // Why the frame of a line's readings is not taken; empty where nothing speaks against it.
@@ -42,6 +50,7 @@ export class Doubts {
     const digits = digitsOf(text.slice(Math.min(...readings.map((it) => it.start || 0))), octets);
     if (digits.isSingle && this.padded > this.singles) return LOST_DIGIT;
     this.learn(line, readings, octets, digits);
+    this.numbers += mayLoseDigits(text, octets) ? 1 : 0;
     return '';
   }
 
@@ -103,6 +112,7 @@ export class Doubts {
     const more = this.remarks.length - MOST_NAMED;
     return [...this.remarks.slice(0, MOST_NAMED), ...more > 0 ? [`${more} more lines are doubtful`] : [],
       ...this.hasRows ? ['an octet stands in each row: where a row is missing, the rest may spell another message'] : [],
+      ...this.numbers > 0 ? [`frames with octets as numbers without zeros before them: ${this.numbers}, and a digit that is lost is not seen`] : [],
       ...this.loose > 0 ? [`frames of types that have any length: ${this.loose}, and a cut in one of them is not seen`] : []];
   }
 }

@@ -1,6 +1,6 @@
 // Frames that stand on several lines: dumps with offsets, octets wrapped at a width, and arrays.
 
-import { fromDigits } from './notations.js';
+import { fromDigits, withColumn } from './notations.js';
 
 const WIDTHS = [8, 16, 24, 32];
 const MOST_LINES = 1024;
@@ -36,19 +36,25 @@ function bestWithOffset(readings, offset) {
   return found.find((it) => it.notation === 'column') || found[0] || null;
 }
 
+// The octets of a line that has nothing but digits, and perhaps their characters; null where it has more.
+function bare(patterns, text, hasColumn) {
+  return (hasColumn ? withColumn(patterns, text) : null) || (patterns.wholeList.test(text) ? fromDigits(text) : null);
+}
+
 // Octets that end at a width, with the lines below that have nothing but octets, as long as the message needs more; one
 // that may have any length goes on where the line is indented.
 export function wrapAt(lines, place, reading, patterns, judge) {
-  const isHead = reading.direction !== '' || reading.time !== null, width = reading.octets.length;
+  const isColumn = reading.notation === 'column', isHead = reading.direction !== '' || reading.time !== null || isColumn;
+  const width = reading.octets.length;
   if (!isHead || !WIDTHS.includes(width)) return null;
   let { octets } = reading, next = place + 1, last = width;
-  const goesOn = (line) => patterns.wholeList.test(line.trim())
-    && (judge.missing(octets) > 0 || !judge.isSure(octets) && last === width && /^[ \t]/.test(line));
-  while (next < lines.length && goesOn(lines[next])) {
-    const more = fromDigits(lines[next].trim());
+  const mayGoOn = (line, more) => judge.missing(octets) > 0
+    || !judge.isSure(octets) && last === width && (/^[ \t]/.test(line) || isColumn && !judge.spells(more));
+  for (; next < lines.length; next += 1) {
+    const more = bare(patterns, lines[next].trim(), isColumn);
+    if (more === null || !mayGoOn(lines[next], more)) break;
     octets = joined(octets, more);
     last = more.length;
-    next += 1;
   }
   return next === place + 1 ? null : { reading: { ...reading, octets }, lines: next - place };
 }

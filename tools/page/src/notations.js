@@ -8,6 +8,8 @@ const PAIRS = { '[': ']', '{': '}', '(': ')', '<': '>', '"': '"', "'": "'" };
 const SPLIT = /[ \t]{2,}|\t|[ \t]*\||[ \t]+(?=["'<[(:])/g;
 const QUOTED = /(\b(?:b|rb|br|u8))?(["'])((?:[^"'\\]|\\.|(?!\2)["'])*)\2/g;
 const LISTED = /\{([^{}]*)\}|\[([^[\]]*)\]|\(([^()]*)\)/g;
+// Octets of a list, each in quotes.
+const WORDS = /(["'])(?:0x)?[0-9a-f]{1,2}\1(?:[ \t]*,[ \t]*\1(?:0x)?[0-9a-f]{1,2}\1)+/gi;
 const COMMENT = /\/\*.*?\*\/|\/\/.*$/g;
 const ESCAPE = /\\(?:x([0-9a-fA-F]{1,2})|([0-7]{1,3})|([^]))/g;
 // Python writes two digits behind each \x.
@@ -60,7 +62,7 @@ function shows(column, octets) {
 }
 
 // The octets before a column of their characters; null where there is no such column.
-function withColumn(patterns, text) {
+export function withColumn(patterns, text) {
   for (const split of [...text.matchAll(SPLIT)].slice(-MOST_TRIED)) {
     const left = text.slice(0, split.index), right = text.slice(split.index + split[0].length);
     if (!patterns.wholeList.test(left.trim())) continue;
@@ -83,6 +85,9 @@ function inside(text) {
   return found;
 }
 
+// A text with blanks for the quotes around each octet of a list.
+const unquoted = (text) => text.replace(WORDS, (words) => words.replace(/["']/g, ' '));
+
 // How a text may be octets and nothing more but a tail: the notation and the octets.
 export function readings(patterns, text) {
   const found = [];
@@ -92,7 +97,7 @@ export function readings(patterns, text) {
     if (column) found.push(['column', column]);
     return found;
   }
-  const inner = inside(text);
+  const inner = inside(unquoted(text));
   const digits = listIn(patterns, text) || listIn(patterns, inner);
   const octets = digits || patterns.single.test(inner) ? fromDigits(digits || inner) : [];
   if (octets.length > 0) found.push([digits ? 'hex' : 'digits', octets]);
@@ -114,12 +119,22 @@ function fromLiteral(text) {
   return fromNumbers(Array.from(plain, (letter) => letter.codePointAt(0)));
 }
 
+// Whether an octet in quotes is one of a list in brackets.
+function isOfList(text, start, end) {
+  const before = text.slice(0, start).trimEnd(), after = text.slice(end).trimStart();
+  return (before.endsWith(',') || after.startsWith(',')) && (/[[({]/.test(before) || /[\])}]/.test(after));
+}
+
 // Octets in quotes, braces or brackets anywhere in a line: where they begin, and each way to read them.
-export function delimited(patterns, text) {
-  const found = [];
+export function delimited(patterns, line) {
+  const text = unquoted(line), found = [];
   const add = (start, octets) => octets && octets.length > 0 && found.push({ start, octets });
-  for (const { index, 1: prefix, 3: quoted } of firstMatches(text, QUOTED)) {
-    if (!prefix && patterns.wholeList.test(quoted.trim()) && !quoted.includes('\\')) add(index, fromDigits(quoted));
+  for (const { index, 0: whole, 1: prefix, 3: quoted } of firstMatches(text, QUOTED)) {
+    if (!prefix && patterns.wholeList.test(quoted.trim()) && !quoted.includes('\\')) {
+      const octets = fromDigits(quoted);
+      if (octets.length === 1 && isOfList(text, index, index + whole.length)) continue;
+      add(index, octets);
+    }
     if (!prefix || !HALF_ESCAPE.test(quoted)) add(index, fromLiteral(quoted));
   }
   for (const { index, 1: braces, 2: brackets, 3: rounds } of firstMatches(text, LISTED)) {

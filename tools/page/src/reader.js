@@ -57,6 +57,8 @@ function readOwn(lines, [form, pattern], list) {
   return form;
 }
 
+const OCTET_A_ROW = 'an octet a row';
+
 // Reads the logs of other tools.
 class Reader {
   constructor(lines, patterns, judge, list, doubts) {
@@ -220,8 +222,13 @@ class Reader {
       this.table = this.shapes.size === 0 ? tableOf(this.patterns, text) : null;
       return this.table !== null;
     }
+    if (this.table.isAround(text)) {
+      this.endRow();
+      this.passed += 1;
+      return true;
+    }
     const readings = this.table.readings(text);
-    const isOctet = this.shapes.size === 0 || this.row !== null;
+    const isOctet = this.shapes.size === 0 || this.row !== null || this.shapes.has(OCTET_A_ROW);
     if (isOctet && readings.length > 0 && readings.every((it) => it.octets.length === 1)) {
       this.octet(place, readings[0]);
     } else if (!this.decide(place, text, readings)) {
@@ -234,7 +241,7 @@ class Reader {
   octet(place, reading) {
     const isPause = this.pauses.isOne(reading.time);
     if (this.row && (isPause || reading.channel !== this.row.channel)) this.endRow();
-    this.row = this.row || { ...reading, place, octets: [], shape: 'an octet a row', isRow: true, isUneven: false };
+    this.row = this.row || { ...reading, place, octets: [], shape: OCTET_A_ROW, isRow: true, isUneven: false };
     if (this.row.octets.push(reading.octets[0]) > 1) this.row.isUneven = this.row.isUneven || this.pauses.isLong;
   }
 

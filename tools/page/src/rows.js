@@ -71,6 +71,12 @@ export class Table {
       ({ ...reading('column ' + this.names[place], octets, time, sides.get(place) || direction), channel: this.channel(cells) })));
   }
 
+  // Whether a row has a flag, a header or a check of SDLC, and no octet of a message.
+  isAround(text) {
+    const cells = cellsOf(text, this.delimiter);
+    return this.directions.some((place) => this.patterns.columns.around.test((cells[place] || '').trim()));
+  }
+
   // What tells the octets of one line of a bus from those of another, where a row has one octet.
   channel(cells) {
     return this.directions.map((place) => cells[place] || '').join();

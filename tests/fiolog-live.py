@@ -1,0 +1,264 @@
+#!/usr/bin/env python3
+"""`fiolog live` on lines that talk: a process, a pseudo-terminal, datagrams and a pipe, with the proved module and poller on
+the other side, with losses, damage, a device that babbles, and entries that break a rule on content; the status line of a
+terminal; a capture in a pipe. Last line: `N passed, M failed`."""
+
+import glob
+import os
+import pty
+import re
+import shutil
+import socket
+import subprocess
+import sys
+import tempfile
+import time
+
+sys.dont_write_bytecode = True
+
+from support.check import Check
+from support.fiolog import ENVIRONMENT, fiolog, has_library, on_terminal, use_library
+from support.loggers import LOGGERS
+from support.pcapng import frames_of
+from support.sessions import SESSION, timed
+from support.tables import TOP
+
+EXAMPLES = os.path.join(TOP, 'examples')
+TALK = '%s %s' % (sys.executable, os.path.join(TOP, 'tests', 'support', 'talking.py'))
+LOG = LOGGERS['ISO times'](timed(SESSION))
+# An entry of input 12 twice.
+DOUBLED = ['33020c05030d0503', 'b300', '3600', 'b600000000000000', '3601', 'b601010c000a000000000b', '3602',
+           'b602010c00140000000015']
+REMARK = 'line 8: alternate: input 12: '
+
+
+def numbers_of(text):
+    """The numbers of a summary line."""
+    return {name: int(number) for name, number in re.findall(r'([a-z ]+) (\d+)(?:, |$)', text.strip().splitlines()[-1])}
+
+
+def started(*words):
+    """A run that goes on."""
+    return subprocess.Popen([sys.executable, '-m', 'fiolog', 'live', *words], stdout=subprocess.PIPE, stderr=subprocess.PIPE,
+                            env=ENVIRONMENT)
+
+
+def fault_of_process():
+    """A process with the proved ends: 40 rounds, of which every fifth answer is lost."""
+    done = fiolog('live', '--exec', TALK, '--quiet')
+    found = numbers_of(done.out)
+    return None if (found['polls'], found['answers lost'], found['marks'], done.status) == (40, 8, 0, 0) else done
+
+
+def on_serial(write, *words):
+    """What a run writes whose serial port is a pseudo-terminal, at which this is written, and its status."""
+    ours, theirs = pty.openpty()
+    command = started('--serial', os.ttyname(theirs), '--quiet', '--seconds', '6', *words)
+    time.sleep(2)
+    write(lambda octets: os.write(ours, octets))
+    out = command.communicate(timeout=30)[0].decode()
+    os.close(ours)
+    os.close(theirs)
+    return out, command.returncode
+
+
+def fault_of_serial():
+    """A pseudo-terminal as serial port: frames with checks, then a damaged one, then a device that babbles."""
+    from support.talking import rounds, stuffed
+    frames = [octets for _, octets in rounds(20)]
+
+    def write(put):
+        for octets in frames:
+            put(stuffed(octets))
+        put(stuffed(b'\x36\x05')[:-3] + b'\x00\x00\x7e')
+        for _ in range(8):
+            put(b'\x55' * 500)
+        put(b'\x7e' + stuffed(b'\x36\x05'))
+    out, _ = on_serial(write)
+    found = numbers_of(out)
+    return None if (found['frames'], found['wrong frame checks']) == (len(frames) + 1, 2) else out
+
+
+def fault_of_doubled():
+    """A doubled entry at a pseudo-terminal is named as it comes, and counted."""
+    from support.talking import stuffed
+
+    def write(put):
+        for digits in DOUBLED:
+            put(stuffed(bytes.fromhex(digits)))
+    out, status = on_serial(write)
+    found = numbers_of(out)
+    fits = out.startswith(REMARK) and (found['breaches'], found['breaches in content'], status) == (0, 1, 1)
+    return None if fits else (out, status)
+
+
+def fault_of_datagrams():
+    """Datagrams, one of them no message."""
+    from support.talking import rounds
+    probe = socket.socket(socket.AF_INET, socket.SOCK_DGRAM)
+    probe.bind(('127.0.0.1', 0))
+    port = probe.getsockname()[1]
+    probe.close()
+    command = started('--udp', str(port), '--seconds', '5')
+    time.sleep(2)
+    frames = [octets for _, octets in rounds(10)] + [b'\x30']
+    with socket.socket(socket.AF_INET, socket.SOCK_DGRAM) as sender:
+        for octets in frames:
+            sender.sendto(octets, ('127.0.0.1', port))
+    out = command.communicate(timeout=30)[0].decode()
+    return None if numbers_of(out)['frames'] == len(frames) and 'unknown type 48' in out else out
+
+
+def heard(folder, text, *words):
+    """What a run writes of a named pipe with this text, of which the writer then is gone, and its status."""
+    pipe = os.path.join(folder, 'pipe')
+    if not os.path.exists(pipe):
+        os.mkfifo(pipe)
+    command = started('--fifo', pipe, *words)
+    with open(pipe, 'w') as file:
+        file.write(text)
+    out, err = (octets.decode() for octets in command.communicate(timeout=30))
+    return out, err, command.returncode
+
+
+def fault_of_pipe(folder):
+    """A named pipe, with a transcript and a capture beside, whose writer stops in the middle of a line."""
+    transcript, capture = [os.path.join(folder, name) for name in ('transcript', 'capture')]
+    out = heard(folder, LOG + '2026-11-22T07:15:09.000Z tx 36', '--quiet', '--transcript', transcript, '--pcapng', capture)[0]
+    with open(transcript, encoding='ascii') as file:
+        lines = file.read().splitlines()
+    with open(capture, 'rb') as file:
+        frames = frames_of(file.read())
+    expected = [(direction, octets) for _, direction, octets in timed(SESSION)]
+    written = [(line[0], bytes.fromhex(line[2:])) for line in lines]
+    fits = written[:len(expected)] == frames[:len(expected)] == expected
+    return None if fits and numbers_of(out)['polls'] == 6 else out
+
+
+def check_content(check, folder):
+    """The examples whose record breaks a rule on content are accused of it, and no other is."""
+    for path in sorted(glob.glob(os.path.join(EXAMPLES, '*.record'))):
+        with open(path, encoding='ascii') as file:
+            expected = re.findall(r'^line (\d+) input (\d+) breaks (\w+)$', file.read(), re.M)
+        with open(path[:-len('record')] + 'transcript', encoding='ascii') as file:
+            out, _, status = heard(folder, file.read(), '--quiet')
+        found = re.findall(r'^line (\d+): (\w+): input (\d+): ', out, re.M)
+        numbers = numbers_of(out)
+        check.equal('live on ' + os.path.basename(path), ([(line, rule, number) for line, number, rule in expected], 0, len(expected),
+                                                          int(bool(expected))),
+                    (found, numbers['breaches'], numbers['breaches in content'], status))
+
+
+def check_beginning(check, folder):
+    """A line that is joined in the middle of traffic, and a log of the bus, accuse nobody."""
+    middle = '< b6050000000003e8\n> 3606\n< b6060000000003e9\n'
+    out, _, status = heard(folder, middle, '--quiet')
+    check.equal('an answer to what was sent before', (0, 0), (numbers_of(out)['breaches'], status))
+    with open(os.path.join(EXAMPLES, 'lost-answer.frames'), encoding='ascii') as file:
+        out, err, status = heard(folder, file.read(), '--quiet')
+    check.equal('the bus', (0, 0, 0, True), (numbers_of(out)['breaches'], numbers_of(out)['breaches in content'], status, 'not judged' in err))
+
+
+def check_passed(check, folder):
+    """What is passed over, and what is doubtful, is said."""
+    out, err, _ = heard(folder, LOG + 'link down\n', '--quiet', '-v')
+    check.holds('a line that is passed over', 'line %d: no octets: link down' % (len(SESSION) + 1) in err, err)
+    check.equal('and counted', 1, numbers_of(out)['lines passed over'])
+    check.holds('the form', 'form: year first, direction, hex\n' in err, err)
+    early = 'TX (3): 36 05\n' + 'TX (2): 36 06\nRX (8): B6 06 00 00 00 00 00 01\n' * 3
+    check.holds('a count that does not fit', 'line 1 may be damaged: its count says 3' in heard(folder, early, '--quiet')[1])
+    out = heard(folder, '> ' + 'b6' * 200_000 + '\n> 3605\n')[0]
+    check.equal('below a line of 400 KB', (1, 'poll block 5'), (numbers_of(out)['frames'], out.splitlines()[0][-12:]))
+
+
+def screen(text):
+    """The lines that a terminal shows of a text, without colours."""
+    lines, place = [''], 0
+    for part in re.findall(r'\r|\n|\x1b\[K|[^\r\n\x1b]+', re.sub(r'\x1b\[[0-9;]*m', '', text)):
+        if part == '\r':
+            place = 0
+        elif part == '\n':
+            lines.append('')
+            place = 0
+        elif part == '\x1b[K':
+            lines[-1] = lines[-1][:place]
+        else:
+            lines[-1] = lines[-1][:place] + part + lines[-1][place + len(part):]
+            place += len(part)
+    return lines
+
+
+def check_status_line(check, folder):
+    """On a terminal the status line goes before each message, and the summary follows the last."""
+    path = os.path.join(folder, 'slow')
+    with open(path, 'w', encoding='ascii') as file:
+        file.write('import time\n' + ''.join('print("%s %s", flush=True); time.sleep(0.1)\n' % ('<' if digits[0] == 'b' else '>', digits)
+                                             for digits in DOUBLED) + 'time.sleep(3)\n')
+    text = on_terminal(sys.executable, ['live', '--exec', '%s %s' % (sys.executable, path)])
+    shown = screen(text)
+    messages = [line[re.match(r'\d+: +\S+ \S+ ', line).end():] for line in shown if re.match(r'\d+: ', line)]
+    expected = [line.split(None, 1)[1] for line in fiolog('decode', '-q', text=''.join(
+        '%s %s\n' % ('<' if digits[0] == 'b' else '>', digits) for digits in DOUBLED)).out.splitlines() if line[0] != ' ']
+    check.equal('the messages on a terminal', expected, messages)
+    check.equal('the last lines', [True, 'frames 8, polls 3, repeats 0, answers lost 0, marks 0, breaches 0, breaches in content 1', ''],
+                [shown[-3].startswith(REMARK), *shown[-2:]])
+    check.holds('the status line while it talks', 'frames 7, polls 3, breaches 0\r' in text, text[-900:])
+    check.holds('the status line in silence', 'frames 8, polls 3, breaches 0, breaches in content 1, silent for 2 s\r' in text, text[-400:])
+
+
+def check_process_ends(check):
+    """A process that fails is named; one that goes on is ended."""
+    done = fiolog('live', '--exec', 'sh -c "echo 3605; exit 3"', '--quiet')
+    check.equal('a process that fails', (0, True), (done.status, 'the process ended with status 3' in done.err))
+    with tempfile.TemporaryDirectory() as folder:
+        path = os.path.join(folder, 'number')
+        done = fiolog('live', '--exec', "sh -c 'echo $$ > %s; exec sleep 60'" % path, '--seconds', '1')
+        with open(path, encoding='ascii') as file:
+            number = int(file.read())
+    time.sleep(0.2)
+    check.equal('a process that goes on is ended', (1, False), (done.status, os.path.exists('/proc/%d' % number)))
+    for words in (['--exec', 'no-such-command'], ['--exec', '"'], ['--fifo', 'no-such-pipe'], ['--serial', '/dev/no-such-port'],
+                  ['--serial', __file__]):
+        done = fiolog('live', *words)
+        check.equal('live %s' % ' '.join(words), (3, False), (done.status, 'Traceback' in done.err))
+
+
+def check_capture_in_pipe(check):
+    """A capture in a pipe is read as it comes."""
+    if not shutil.which('tshark'):
+        check.skip('a capture in a pipe', 'no tshark here')
+        return
+    expected = subprocess.run([sys.executable, os.path.join(TOP, 'tests', 'support', 'talking.py')], stdout=subprocess.PIPE,
+                              env=ENVIRONMENT, universal_newlines=True).stdout
+    live = subprocess.Popen([sys.executable, '-m', 'fiolog', 'live', '--exec', TALK, '--quiet', '--pcapng', '-'],
+                            stdout=subprocess.PIPE, stderr=subprocess.DEVNULL, env=ENVIRONMENT)
+    done = subprocess.run(['tshark', '-X', 'lua_script:' + os.path.join(TOP, 'tools', 'wireshark', 'fio2070.lua'), '-r', '-', '-T',
+                           'fields', '-e', 'frame.packet_flags_direction', '-e', 'fio2070.octets'], stdin=live.stdout,
+                          stdout=subprocess.PIPE, stderr=subprocess.DEVNULL, universal_newlines=True)
+    live.stdout.close()
+    live.wait()
+    rows = [line.split('\t') for line in done.stdout.splitlines()]
+    found = ''.join('%s %s\n' % ({'2': '>', '1': '<'}.get(str(int(way, 0)), way), octets.replace(':', '')) for way, octets in rows)
+    check.equal('a capture in a pipe', expected, found)
+
+
+def main():
+    check = Check()
+    if not has_library():
+        check.skip('fiolog live', 'no libfio2070.so here (make library)')
+        check.end()
+    use_library()
+    check.fault('a process', fault_of_process)
+    check.fault('a pseudo-terminal', fault_of_serial)
+    check.fault('a doubled entry at a pseudo-terminal', fault_of_doubled)
+    check.fault('datagrams', fault_of_datagrams)
+    with tempfile.TemporaryDirectory() as folder:
+        check.fault('a pipe', fault_of_pipe, folder)
+        for part in (check_content, check_beginning, check_passed, check_status_line):
+            part(check, folder)
+    check_process_ends(check)
+    check_capture_in_pipe(check)
+    check.end()
+
+
+main()
