@@ -1,6 +1,6 @@
 """`fiolog record`: what the CPU learned: the record of the proved CPU's end, which heard the answers of the log, and each
-entry that breaks a rule on content. Those rules are judged where the nine rules are kept: below a breach from the next poll
-on."""
+entry that breaks a rule on content. Those rules are judged where those of `check` are kept: below a breach from the next
+poll on."""
 
 import json
 import shutil
@@ -18,7 +18,8 @@ from .message import BLOCK, LOST, POLL, message_of
 from .waveform import Block, draw
 
 COLUMNS = ['line', 'time', 'input', 'state', 'stamp', 'wide']
-RULES = [None, 'order', 'alternate', 'apart']
+RULES = {number: name[len('CONTENT_'):].lower() for name, number in vars(fio2070.constants).items()
+         if name.startswith('CONTENT_')}
 LOAD = 50
 
 
@@ -33,8 +34,8 @@ def add_arguments(parser):
 
 
 class Breach(NamedTuple):
-    """A breach in a line: of a rule on content by an entry, with its index in the block and its input, or of one of the nine
-    rules by the frame."""
+    """A breach in a line: of a rule on content by an entry, with its index in the block and its input, or of
+    one of the rules of `check` by the frame."""
     rule: str
     entry: int = -1
     input: int = -1
@@ -201,7 +202,7 @@ def write_json(record):
 
 def write_text(record):
     """What `fio2070 record` writes: the items above the first entry that breaks a rule, then that breach; where one of the
-    nine rules is broken, the first such breach alone."""
+    rules of `check` is broken, the first such breach alone."""
     count, broken, verdict = 0, '', ''
     with tempfile.TemporaryFile('w+') as items:
         for event, item, breach in record.parts():
