@@ -433,7 +433,7 @@ struct fio2070_checker {
 
 /** The first rule that a frame breaks, and what was due. */
 struct fio2070_breach {
-    /** 0 none; 1 readable; 2 pair; 3 number; 4 advance; 5 same; 6 sequence; 7 limits; 8 rest; 9 refusal. */
+    /** 0 for none, else the number of the rule: one of `FIO2070_RULE_READABLE` and those after it. */
     uint8_t rule;
     /** 1 where `due` and `got` are set: for advance and number, and for pair below a command. */
     uint8_t has_due;

@@ -131,7 +131,7 @@ def check_course(check):
     check.equal('one more breach in each block', (['line 8 input 12 breaks alternate', 'line 10 input 12 breaks alternate'], 1),
                 breaches(text=START + FIRST + AGAIN + AGAIN.replace('3602', '3603').replace('b602', 'b603')))
     later = SKIP + '> 360b\n< b60b010c00280000000029\n> 360c\n< b60c010c003c000000003d\n'
-    check.equal('below a breach of the nine rules from the next poll on',
+    check.equal('below a breach of the rules of `check` from the next poll on',
                 (['line 7 breaks advance', 'line 14 input 12 breaks alternate'], 1), breaches(text=START + FIRST + later))
     load = '> 3200000000\n< b200\n'
     back = '> 360b\n< b60b010c00280000000029\n> 360c\n< b60c018c00010000000002\n'

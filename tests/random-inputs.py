@@ -21,6 +21,15 @@ PROGRAM = os.path.join(TOP, 'crates', 'fio2070', 'out', 'fio2070')
 TOOLS = ('show', 'simulate', 'check', 'record')
 SECONDS = 10
 
+
+
+def rules():
+    """The rules of transcripts, as docs/FORMATS.md names them."""
+    with open(os.path.join(TOP, 'docs', 'FORMATS.md'), encoding='utf-8') as file:
+        table = file.read().partition('| RULE | Broken by a line that |\n|---|---|\n')[2].partition('\n\n')[0]
+    return re.findall(r'^\| `(\w+)` \|', table, re.M)
+
+
 FAULT = r'(?:empty|too long got \d+|unknown type \d+|wrong length needed \d+ got \d+)'
 FAULTY_LINE = re.compile(r'line (\d+): (?:bad line|%s)' % FAULT)
 SHOWN = re.compile('|'.join([
@@ -39,8 +48,7 @@ REFUSED_EVENT = re.compile(r'(\d+) refused (?:not sent \d+|out of order \d+ afte
 ITEM = re.compile(r'gap|input \d+ state [01] stamp \d+ wide \d+')
 ENDS = [re.compile(word + r' \d+') for word in ('counter', 'number', 'waiting', 'record')]
 VERDICT = re.compile(r'good \d+ frames')
-BROKEN = re.compile(r'line \d+ breaks (?:readable|pair|number|advance|same|sequence|limits|rest|refusal)'
-                    r'|line \d+: bad line')
+BROKEN = re.compile(r'line \d+ breaks (?:%s)|line \d+: bad line' % '|'.join(rules()))
 BROKEN_ENTRY = re.compile(r'line \d+ input \d+ breaks (?:order|alternate|apart)')
 
 

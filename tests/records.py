@@ -127,7 +127,7 @@ WORKED = [
      block(2, 300, entry(12, 0, 9), *FULL[1:], status=12),
      'record 257\n' + ONE + 'gap\ninput 12 state 0 stamp 9 wide 9\n' +
      ''.join('input 0 state %d stamp %d wide %d\n' % (place % 2, place + 11, place + 11) for place in range(1, 255))),
-    # The nine rules come first, also below an entry that breaks a rule on content.
+    # The rules of `check` come first, also below an entry that breaks a rule on content.
     ('a rule broken below', START + block(1, 11, entry(12, 0, 10), entry(12, 0, 10)) + '> 3604\n', 'line 7 breaks advance\n'),
     ('a bad line below', START + block(1, 11, entry(12, 0, 10), entry(12, 0, 10)) + '> zz\n', 'line 7: bad line\n'),
 ]
@@ -152,7 +152,7 @@ def longest():
 
 
 def random_transcript(draw):
-    """A transcript that keeps the nine rules: few inputs, states that mostly alternate, times that mostly rise."""
+    """A transcript that keeps the rules of `check`: few inputs, states that mostly alternate, times that mostly rise."""
     lines, number, clock, states, more = [], draw.randrange(256), draw.choice((0, 0xffff_ff00, 70_000)), {}, False
     for _ in range(draw.randrange(4, 40)):
         what = draw.random()

@@ -1,4 +1,4 @@
-"""The rules on content, as an independent model: what `fio2070 record` writes of a transcript that keeps the nine rules.
+"""The rules on content, as an independent model: what `fio2070 record` writes of a transcript that keeps those of `check`.
 It looks back over all lines at each entry, as docs/FORMATS.md states the rules, and shares nothing with the program."""
 
 import struct

@@ -39,8 +39,8 @@ class RecordItem(NamedTuple):
 
 
 class Breach(NamedTuple):
-    """The first rule that a frame breaks: 1 readable, 2 pair, 3 number, 4 advance, 5 same, 6 sequence, 7 limits, 8 rest,
-    9 refusal. Where `has_due`, the number or the type that was due, and the one that came."""
+    """The first rule that a frame breaks, one of `constants.RULE_READABLE` and those after it. Where `has_due`, the number
+    or the type that was due, and the one that came."""
     rule: int
     has_due: bool
     due: int

@@ -1,4 +1,4 @@
-"""`fiolog check`: every breach of the nine rules, with what was due and what came."""
+"""`fiolog check`: every breach of the rules of transcripts, with what was due and what came."""
 
 import json
 import sys
@@ -12,7 +12,8 @@ from .events import DAMAGED, FRAME
 from .judge import words_of
 from .message import POLL, message_of
 
-RULES = [None, 'readable', 'pair', 'number', 'advance', 'same', 'sequence', 'limits', 'rest', 'refusal']
+# The rules by their numbers.
+RULES = {number: name[len('RULE_'):].lower() for name, number in vars(fio2070.constants).items() if name.startswith('RULE_')}
 # What was due and what came, by rule, where the library says both.
 DUE = {
     'pair': 'an answer %d was due, %d came', 'number': 'block %d was asked for, %d came',
@@ -88,7 +89,7 @@ class Judge:
             return words_of(event.octets) or WORDS[rule]
         if found.has_due and rule in DUE:
             return DUE[rule] % (found.due, found.got)
-        return WORDS[rule]
+        return WORDS.get(rule, '')
 
 
 def due_of(found):

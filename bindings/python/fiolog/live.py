@@ -1,4 +1,4 @@
-"""`fiolog live`: decodes, checks and counts a line that talks now, by the nine rules and by those on content. It ends with
+"""`fiolog live`: decodes, checks and counts a line that talks now, by the rules of `check` and by those on content. It ends with
 the line, or at Ctrl-C, and then writes what it counted.
 
 The field line itself is synchronous (SDLC): a serial port reads it by an adapter that gives out octet-stuffed HDLC with

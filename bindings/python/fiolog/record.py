@@ -151,7 +151,7 @@ def write_json(record):
 
 def write_text(record):
     """What `fio2070 record` writes: the items above the first entry that breaks a rule, then that breach; where one of the
-    nine rules is broken, the first such breach alone."""
+    rules of `check` is broken, the first such breach alone."""
     count, broken, verdict = 0, '', ''
     with tempfile.TemporaryFile('w+') as items:
         for event, item, breach in record.parts():

@@ -1,5 +1,5 @@
-"""All rules over a log, frame by frame, by the library's two checkers. Those on content are judged where the nine rules are
-kept: below a breach from the next poll on."""
+"""All rules over a log, frame by frame, by the library's two checkers. Those on content are judged where the others
+are kept: below a breach from the next poll on."""
 
 from typing import NamedTuple
 
@@ -8,7 +8,9 @@ import fio2070
 from .check import Judge
 from .message import POLL
 
-CONTENT = [None, 'order', 'alternate', 'apart']
+# The rules on content by their numbers.
+CONTENT = {number: name[len('CONTENT_'):].lower() for name, number in vars(fio2070.constants).items()
+           if name.startswith('CONTENT_')}
 # What a breach of a rule on content says of the entries of an input.
 WORDS = {
     'order': 'its time is before that of the entry above: two are swapped, or the module restarted',
@@ -18,8 +20,8 @@ LOAD = 50
 
 
 class Breach(NamedTuple):
-    """A breach in a line: of a rule on content by an entry, with its index in the block and its input, or of one of the nine
-    rules by the frame. `says` is what was due and what came."""
+    """A breach in a line: of a rule on content by an entry, with its index in the block and its input, or of one of the
+    others by the frame. `says` is what was due and what came."""
     rule: str
     says: str = ''
     entry: int = -1

@@ -5,10 +5,8 @@ use Rattle.fio_check.specs.declared.checker.Breach.{Breach as BreachOf}
 use Rattle.fio_check.specs.declared.checker.Checker.{Checker as CheckerOf}
 use Rattle.fio_check.specs.declared.checker.Due.{Due}
 use Rattle.fio_check.specs.declared.content.ContentBreach.{ContentBreach as ContentBreachOf}
-use Rattle.fio_check.specs.declared.content_rules.ContentRule.{ContentRule}
-use Rattle.fio_check.specs.declared.content_rules.ContentRule.TheVariants as content_rules
-use Rattle.fio_check.specs.declared.rules.Rule.{Rule}
-use Rattle.fio_check.specs.declared.rules.Rule.TheVariants as rules
+use Rattle.fio_check.specs.ContentRules.{content_rule_number}
+use Rattle.fio_check.specs.Rules.{rule_number}
 use Rattle.fio_c.specs.declared.checker.Breach.{Breach}
 use Rattle.fio_c.specs.declared.checker.Checker.{Checker}
 use Rattle.fio_c.specs.declared.content.ContentBreach.{ContentBreach}
@@ -55,18 +53,6 @@ flat_checker checker = record {
   skips = bit_of checker.skips;
 }
 
--- the place of a rule in the order in which they are tried, from 1
-abbrev pub rule_number : Rule → ℕ
-rule_number rules.Readable = 1
-rule_number rules.Pair = 2
-rule_number rules.Number = 3
-rule_number rules.Advance = 4
-rule_number rules.Same = 5
-rule_number rules.Sequence = 6
-rule_number rules.Limits = 7
-rule_number rules.Rest = 8
-rule_number rules.Refusal = 9
-
 -- a breach of this rule
 abbrev pub with_due : ℕ → Option Due → Breach
 with_due rule None = record { rule = rule; has_due = 0; due = 0; got = 0 }
@@ -76,12 +62,6 @@ with_due rule (Some due) = record { rule = rule; has_due = 1; due = due.due; got
 abbrev pub flat_breach : Option BreachOf → Breach
 flat_breach None = record { rule = 0; has_due = 0; due = 0; got = 0 }
 flat_breach (Some breach) = with_due (rule_number breach.rule) breach.due
-
--- the place of a rule on content in the order in which they are tried, from 1
-abbrev pub content_rule_number : ContentRule → ℕ
-content_rule_number content_rules.Order = 1
-content_rule_number content_rules.Alternate = 2
-content_rule_number content_rules.Apart = 3
 
 -- a breach of a rule on content as C sees it, with its numbers 0 where there is none
 abbrev pub flat_content_breach : Option ContentBreachOf → ContentBreach

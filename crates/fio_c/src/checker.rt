@@ -1,10 +1,10 @@
-//! The checker of the nine rules, in memory of the caller.
+//! The checker of the rules of transcripts, in memory of the caller.
 ghost use Rattle.std.specs.Prelude.{◌≡◌, true, false};
 ghost use Rattle.fio_check.specs.Checkers.{checker_with, found_by, new_checker};
 ghost use Rattle.fio_check.specs.Observations.{observation_in};
-ghost use Rattle.fio_c.specs.Checkers.{checker_in, flat_breach, flat_checker, flat_more, more_in, octet_in, rule_number};
+ghost use Rattle.fio_c.specs.Checkers.{checker_in, flat_breach, flat_checker, flat_more, more_in, octet_in};
 
-use fio_check::{Breach as BreachFound, Checker as CheckerOf, Facts, Rule};
+use fio_check::{Breach as BreachFound, Checker as CheckerOf, Facts};
 
 /// A checker. Its fields are the library's own: what it keeps of the frames that it took.
 #[derive(Clone, Copy)]
@@ -34,8 +34,7 @@ pub struct Checker {
 #[derive(Clone, Copy)]
 #[repr(C)]
 pub struct Breach {
-    /// 0 none; 1 readable; 2 pair; 3 number; 4 advance; 5 same; 6 sequence; 7 limits; 8 rest;
-    /// 9 refusal.
+    /// 0 for none, else the number of the rule: one of `FIO2070_RULE_READABLE` and those after it.
     pub rule: u8,
     /// 1 where `due` and `got` are set: for advance and number, and for pair below a command.
     pub has_due: u8,
@@ -175,7 +174,7 @@ fn breach_from(found: Option<BreachFound>) -> Breach
     match found {
         None => NO_BREACH,
         Some(breach) => {
-            let rule = rule_number(breach.rule);
+            let rule = breach.rule.number();
             match breach.due {
                 None => Breach { rule, ..NO_BREACH },
                 Some(due) => Breach {
@@ -186,22 +185,5 @@ fn breach_from(found: Option<BreachFound>) -> Breach
                 },
             }
         }
-    }
-}
-
-/// The place of a rule in their order, from 1.
-fn rule_number(rule: Rule) -> u8
-    ensures { result ≡ rule_number rule }
-{
-    match rule {
-        Rule::Readable => 1,
-        Rule::Pair => 2,
-        Rule::Number => 3,
-        Rule::Advance => 4,
-        Rule::Same => 5,
-        Rule::Sequence => 6,
-        Rule::Limits => 7,
-        Rule::Rest => 8,
-        Rule::Refusal => 9,
     }
 }

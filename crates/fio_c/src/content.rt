@@ -2,9 +2,9 @@
 ghost use Rattle.std.specs.Prelude.{◌≡◌, true, false};
 ghost use Rattle.fio_check.specs.ContentCheckers.{content_found, kept_with, nothing_kept};
 ghost use Rattle.fio_check.specs.ContentKept.{content_at_start, content_kept};
-ghost use Rattle.fio_c.specs.Checkers.{content_rule_number, flat_content_breach};
+ghost use Rattle.fio_c.specs.Checkers.{flat_content_breach};
 
-use fio_check::{ContentBreach as BreachFound, ContentChecker, ContentRule};
+use fio_check::{ContentBreach as BreachFound, ContentChecker};
 
 /// The first entry of a block that breaks a rule on content.
 #[derive(Clone, Copy)]
@@ -66,20 +66,9 @@ fn breach_from(found: Option<BreachFound>) -> ContentBreach
     match found {
         None => NO_BREACH,
         Some(breach) => ContentBreach {
-            rule: content_rule_number(breach.rule),
+            rule: breach.rule.number(),
             entry: breach.entry,
             input: breach.input,
         },
-    }
-}
-
-/// The place of a rule on content in their order, from 1.
-fn content_rule_number(rule: ContentRule) -> u8
-    ensures { result ≡ content_rule_number rule }
-{
-    match rule {
-        ContentRule::Order => 1,
-        ContentRule::Alternate => 2,
-        ContentRule::Apart => 3,
     }
 }

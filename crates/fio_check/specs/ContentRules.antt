@@ -1,4 +1,4 @@
--- The rules on content: what an entry of the record may break, of a transcript that keeps the nine rules.
+-- The rules on content: what an entry of the record may break, of a transcript that keeps those of `Rules`.
 --
 -- Each rule is stated once, by what stands above an entry and what the entry says.
 use Rattle.std.specs.Prelude.{ℕ, ◌+◌, ◌-◌, ◌%◌, ◌^◌, Bool, true, false, ◌&&◌, List, [], ◌∷◌, Option, Some, None, codes, find, length, nat_le, nat_lt, not, option_map, option_and_then, slice_get, take, if◌then◌else◌}
@@ -55,6 +55,12 @@ abbrev pub content_rule_name : ContentRule → List ℕ
 content_rule_name Order = codes "order"
 content_rule_name Alternate = codes "alternate"
 content_rule_name Apart = codes "apart"
+
+-- the place of a rule on content in the order in which they are tried, from 1
+abbrev pub content_rule_number : ContentRule → ℕ
+content_rule_number Order = 1
+content_rule_number Alternate = 2
+content_rule_number Apart = 3
 
 -- in the order in which they are tried
 abbrev pub content_rules : List ContentRule

@@ -70,6 +70,18 @@ rule_name Limits = codes "limits"
 rule_name Rest = codes "rest"
 rule_name Refusal = codes "refusal"
 
+-- the place of a rule in the order in which they are tried, from 1
+abbrev pub rule_number : Rule → ℕ
+rule_number Readable = 1
+rule_number Pair = 2
+rule_number Number = 3
+rule_number Advance = 4
+rule_number Same = 5
+rule_number Sequence = 6
+rule_number Limits = 7
+rule_number Rest = 8
+rule_number Refusal = 9
+
 -- in the order in which they are tried
 abbrev pub rules : List Rule
 rules = Readable ∷ Pair ∷ Number ∷ Advance ∷ Same ∷ Sequence ∷ Limits ∷ Rest ∷ Refusal ∷ []

@@ -1,9 +1,9 @@
 //! The rules on content, by what stands above an entry and what the entry says.
 ghost use Rattle.std.specs.Prelude.{◌≡◌};
-ghost use Rattle.fio_check.specs.ContentRules.{content_rule_name};
+ghost use Rattle.fio_check.specs.ContentRules.{content_rule_name, content_rule_number};
 
 /// What an entry of the record may break, in the order in which the rules are tried (own profile).
-/// They judge a transcript that keeps the nine rules.
+/// They judge a transcript that keeps the rules of `Rule`.
 #[derive(Clone, Copy, Debug, PartialEq, Eq, PartialOrd, Ord, Hash)]
 pub enum ContentRule {
     /// The wide time of an entry is not before that of the entry before it in the record. A gap mark
@@ -35,6 +35,17 @@ impl ContentRule {
             ContentRule::Order => "order",
             ContentRule::Alternate => "alternate",
             ContentRule::Apart => "apart",
+        }
+    }
+
+    /// The place of the rule among `ContentRule::ALL`, from 1, by which C and the bindings know it.
+    pub fn number(self) -> u8
+        ensures { result ≡ content_rule_number self }
+    {
+        match self {
+            ContentRule::Order => 1,
+            ContentRule::Alternate => 2,
+            ContentRule::Apart => 3,
         }
     }
 }

@@ -1,6 +1,6 @@
 //! The rules of a transcript, by what stands above a line and what the line says.
 ghost use Rattle.std.specs.Prelude.{◌≡◌};
-ghost use Rattle.fio_check.specs.Rules.{breaks, first_broken, is_overfull, rule_name};
+ghost use Rattle.fio_check.specs.Rules.{breaks, first_broken, is_overfull, rule_name, rule_number};
 
 use crate::facts::Facts;
 use crate::observation::Observation;
@@ -60,6 +60,23 @@ impl Rule {
             Rule::Limits => "limits",
             Rule::Rest => "rest",
             Rule::Refusal => "refusal",
+        }
+    }
+
+    /// The place of the rule among `Rule::ALL`, from 1, by which C and the bindings know it.
+    pub fn number(self) -> u8
+        ensures { result ≡ rule_number self }
+    {
+        match self {
+            Rule::Readable => 1,
+            Rule::Pair => 2,
+            Rule::Number => 3,
+            Rule::Advance => 4,
+            Rule::Same => 5,
+            Rule::Sequence => 6,
+            Rule::Limits => 7,
+            Rule::Rest => 8,
+            Rule::Refusal => 9,
         }
     }
 

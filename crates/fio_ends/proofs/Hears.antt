@@ -19,7 +19,8 @@ use Rattle.fio_module.specs.Log.{Transition, entry_of}
 use Rattle.fio_module.specs.Blocks.{MadeBlock, blocks_of}
 use Rattle.fio_check.specs.Facts.{facts_with}
 use Rattle.fio_check.specs.Observations.{answer_type_to, is_absent, observation_in, observation_of}
-use Rattle.fio_check.specs.Rules.{first_broken, is_overfull}
+use Rattle.fio_check.specs.Rules.{breaks, first_broken, is_overfull}
+use Rattle.fio_check.specs.declared.rules.Rule.TheVariants as tried
 use Rattle.fio_check.specs.declared.facts.Facts.{Facts}
 use Rattle.fio_check.specs.declared.observation.Observation.TheVariants as seen
 use Rattle.fio_world.specs.declared.event.Event.TheVariants.{ToCpu}
@@ -45,6 +46,13 @@ is_asked : (awaited : Option ℕ) (code : ℕ) → awaited ≡ Some code
 is_asked awaited code is =
     let same : (code == code) ≡ true = grind (arith, nat_tests) in
     ap (λ a. not (option_map_or (λ b. b == code) a false)) is ∙ ap not same
+
+-- an answer to the command directly above, which takes no configuration of an absent input, breaks no rule
+answer_keeps : (facts : Facts) (code : ℕ) (accepted : Bool) → facts.awaited ≡ Some code
+    → (accepted && facts.absent_named) ≡ false → KeepsRules facts (seen.Answer code accepted)
+answer_keeps facts code accepted asked fair tried.Pair = is_asked facts.awaited code asked
+answer_keeps facts code accepted asked fair tried.Refusal = fair
+answer_keeps facts code accepted asked fair rule = refl
 
 has_number : (polled : Option ℕ) (number n : ℕ) → polled ≡ Some number → n ≡ number
     → option_map_or (λ p. not (n == p)) polled false ≡ false
@@ -124,17 +132,9 @@ module _ (settings : Settings) (range : AreInRange settings) (first : ℕ) (mach
       let code = answer_type_to command in
       let none : block_in octets ≡ None = no_block_said (answer_in octets) code h.accepted h.heard in
       let kept : first_broken facts (seen.Answer code h.accepted) ≡ None =
-      no_rule_broken facts (seen.Answer code h.accepted) (record {
-        readable = refl;
-        pair = is_asked facts.awaited code r.asked.awaited;
-        number = refl;
-        advance = refl;
-        same = refl;
-        sequence = refl;
-        limits = refl;
-        rest = refl;
-        refusal = ap (λ named. h.accepted && named) r.asked.named ∙ h.fair;
-      }) in
+      no_rule_broken facts (seen.Answer code h.accepted)
+      (answer_keeps facts code h.accepted r.asked.awaited
+      (ap (λ named. h.accepted && named) r.asked.named ∙ h.fair)) in
       let follows : Follows settings first (record machine { last_to_cpu = place + 1 }) due (facts_with facts (seen.Answer code h.accepted)) =
       record {
         number = f.number;
@@ -150,40 +150,42 @@ module _ (settings : Settings) (range : AreInRange settings) (first : ℕ) (mach
 
   -- ---- a block answer
 
+  entries_of_made : (b : BlockOf) (c : CarriesBlockOf first blocks b machine.round)
+      → length b.entries ≡ length c.block.transitions
+  entries_of_made b c = ap length c.carried.entries ∙ length-map c.block.transitions entry_of
+
   -- what the rules ask of a block answer that carries the block of the CPU's round
   block_keeps : settings.per_block ≡ 255 → (number : ℕ) (b : BlockOf) → IsAsked first facts machine.round (commands.Poll number)
       → b.number ≡ number → (facts.advanced ≡ true → says_again b.status ≡ false)
       → CarriesBlockOf first blocks b machine.round
       → KeepsRules facts (seen.Block b.number b.status (length b.entries) (list_any (λ entry. is_absent entry.input) b.entries))
-  block_keeps full number b asked numbered again c =
+  block_keeps full number b asked numbered again c tried.Pair = is_asked facts.awaited 182 asked.awaited
+  block_keeps full number b asked numbered again c tried.Number =
+      let polled = asked.polled number refl in
+      has_number facts.polled number b.number polled.0 numbered
+  block_keeps full number b asked numbered again c tried.Same = not_both facts.advanced (says_again b.status) again
+  block_keeps full number b asked numbered again c tried.Sequence =
+      ap (λ out. out && (says_again b.status || is_some facts.more)) c.in_sequence
+  block_keeps full number b asked numbered again c tried.Limits =
       let m = c.block in
       let limits = each-at (KeepsLimits settings.per_block) blocks machine.round m
       (blocks_keep settings (omega (arith, range.many_waiting)) life) c.is_made in
+      let over : is_overfull b.status (length b.entries) ≡ false =
+      within_limits (says_lost b.status) (says_more b.status) (length b.entries)
+      (λ lost. c.carried.more ∙ limits.lost (sym c.carried.lost ∙ lost))
+      (λ more. entries_of_made b c ∙ limits.more (sym c.carried.more ∙ more) ∙ full) in
+      let absent : list_any (λ entry. is_absent entry.input) b.entries ≡ false =
+      ap (list_any (λ entry. is_absent entry.input)) c.carried.entries ∙ none_absent m.transitions limits.inputs in
+      ap (λ o. o || list_any (λ entry. is_absent entry.input) b.entries) over ∙ absent
+  block_keeps full number b asked numbered again c tried.Rest =
+      let m = c.block in
       let leaves = blocks_leave settings range.some_per_block (omega (arith, range.many_waiting)) life in
-      let count : length b.entries ≡ length m.transitions =
-      ap length c.carried.entries ∙ length-map m.transitions entry_of in
-      let polled = asked.polled number refl in
-      record {
-        readable = refl;
-        pair = is_asked facts.awaited 182 asked.awaited;
-        number = has_number facts.polled number b.number polled.0 numbered;
-        advance = refl;
-        same = not_both facts.advanced (says_again b.status) again;
-        sequence = ap (λ out. out && (says_again b.status || is_some facts.more)) c.in_sequence;
-        limits =
-            (let over : is_overfull b.status (length b.entries) ≡ false =
-            within_limits (says_lost b.status) (says_more b.status) (length b.entries)
-            (λ lost. c.carried.more ∙ limits.lost (sym c.carried.lost ∙ lost))
-            (λ more. count ∙ limits.more (sym c.carried.more ∙ more) ∙ full) in
-            let absent : list_any (λ entry. is_absent entry.input) b.entries ≡ false =
-            ap (list_any (λ entry. is_absent entry.input)) c.carried.entries ∙ none_absent m.transitions limits.inputs in
-            ap (λ o. o || list_any (λ entry. is_absent entry.input) b.entries) over ∙ absent);
-        rest = has_rest facts.more (length b.entries) (λ is.
-            (let t = f.more true is in
-            let some = leaves.next t.earlier t.block m t.at_place (ap (slice_get blocks) (sym t.next) ∙ c.is_made) t.same in
-            omega (arith, count, some)));
-        refusal = refl;
-      }
+      let count = entries_of_made b c in
+      has_rest facts.more (length b.entries) (λ is.
+      (let t = f.more true is in
+      let some = leaves.next t.earlier t.block m t.at_place (ap (slice_get blocks) (sym t.next) ∙ c.is_made) t.same in
+      omega (arith, count, some)))
+  block_keeps full number b asked numbered again c rule = refl
 
   follows-block : (number : ℕ) (place : ℕ) (b : BlockOf) (entries : ℕ) (absent : Bool) → IsReceived first facts machine.to_module machine.to_cpu machine.last_to_module machine.round due (commands.Poll number)
       → due ≤ place + 1

@@ -20,6 +20,7 @@ use Rattle.fio_check.specs.Facts.{facts_at, facts_with, number_due, number_polle
 use Rattle.fio_check.specs.Lines.{TranscriptLine}
 use Rattle.fio_check.specs.Observations.{observation_in, observation_of, observation_on}
 use Rattle.fio_check.specs.Rules.{first_broken, rule_broken}
+use Rattle.fio_check.specs.declared.rules.Rule.TheVariants as tried
 use Rattle.fio_check.specs.Verdicts.{IsVerdict, KeepsRulesAbove}
 use Rattle.fio_check.specs.declared.facts.Facts.{Facts}
 use Rattle.fio_check.specs.declared.observation.Observation.{Observation}
@@ -90,7 +91,7 @@ module _ (facts : Facts) (poller : Option Polling) (agrees : Agrees facts poller
   goes-poll : (number : ℕ) → KeepsRules facts (Poll number)
       → Goes (Poll number) None facts poller (poller_by poller (Some number) None)
   goes-poll number k =
-      let met = poll_due poller number (λ d is. same_as (number_due facts) number k.advance d (agrees.due ∙ is)) in
+      let met = poll_due poller number (λ d is. same_as (number_due facts) number (k tried.Advance) d (agrees.due ∙ is)) in
       record {
         agrees = record { due = sym met; awaiting = λ is. (number, refl, refl) };
         polls = λ n is. met ∙ is;
@@ -125,8 +126,8 @@ module _ (facts : Facts) (poller : Option Polling) (agrees : Agrees facts poller
       → KeepsRules facts (Block number status entries absent)
       → Goes (Block number status entries absent) (Some b) facts poller (poller_by poller None (Some b))
   goes-block number status entries absent b of_block k =
-      let asked = agrees.awaiting (is_awaited facts.awaited k.pair) in
-      let met : number ≡ asked.0 = same_as facts.polled number k.number asked.0 asked.1 in
+      let asked = agrees.awaiting (is_awaited facts.awaited (k tried.Pair)) in
+      let met : number ≡ asked.0 = same_as facts.polled number (k tried.Number) asked.0 asked.1 in
       let due : number_due facts ≡ Some asked.0 =
       ap (option_map (λ polled. if facts.answered then (polled + 1) % 256 else polled)) asked.1
       ∙ ap (λ answered. Some (if answered then (asked.0 + 1) % 256 else asked.0)) asked.2 in
@@ -160,7 +161,7 @@ module _ (facts : Facts) (poller : Option Polling) (agrees : Agrees facts poller
   goes-sent : (command : Option Command) → KeepsRules facts (observation_of command None)
       → Goes (observation_of command None) None facts poller
       (poller_by poller (number_polled (observation_of command None)) None)
-  goes-sent None k = absurd (cc (k.readable))
+  goes-sent None k = absurd (cc (k tried.Readable))
   goes-sent (Some (commands.Poll number)) k = goes-poll number k
   goes-sent (Some (commands.Status clear)) k = goes-command 177 (λ is. absurd (omega arith)) false
   goes-sent (Some (commands.LoadCounter load)) k = goes-command 178 (λ is. absurd (omega arith)) false
@@ -177,7 +178,7 @@ module _ (facts : Facts) (poller : Option Polling) (agrees : Agrees facts poller
   goes-heard : (answer : Option Answer) → KeepsRules facts (observation_of None answer)
       → Goes (observation_of None answer) (answered_block answer) facts poller
       (poller_by poller (number_polled (observation_of None answer)) (answered_block answer))
-  goes-heard None k = absurd (cc (k.readable))
+  goes-heard None k = absurd (cc (k tried.Readable))
   goes-heard (Some (answers.Block number entries status stamp)) k =
       goes-block number status _ _ (record { number = number; entries = entries.items; status = status; stamp = stamp }) refl k
   goes-heard (Some other) k = goes-other (observation_of None (Some other)) refl refl (λ is. absurd (cc is))

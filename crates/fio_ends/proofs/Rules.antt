@@ -1,4 +1,4 @@
--- A line breaks no rule exactly if it breaks none of the nine.
+-- No first rule is broken exactly if none is.
 use Rattle.std.proofs.Common.{◌≡◌, ◌∙◌, Bool, true, false, List, [], ◌∷◌, Some, None, refl, ap, if◌then◌else◌}
 use Rattle.std.specs.Prelude.{find}
 use Rattle.std.specs.List.{AllByRecursion}
@@ -28,38 +28,35 @@ none_broken broken [] kept = refl
 none_broken broken (rule ∷ tried) kept =
     ap (λ here. if here then Some rule else find broken tried) kept.0 ∙ none_broken broken tried kept.1
 
--- a line that says this breaks none of the nine rules, below lines of which these facts hold
-pub record KeepsRules (facts : Facts) (observation : Observation) : Type 0 where
-  pub readable : breaks facts observation Readable ≡ false
-  pub pair : breaks facts observation Pair ≡ false
-  pub number : breaks facts observation Number ≡ false
-  pub advance : breaks facts observation Advance ≡ false
-  pub same : breaks facts observation Same ≡ false
-  pub sequence : breaks facts observation Sequence ≡ false
-  pub limits : breaks facts observation Limits ≡ false
-  pub rest : breaks facts observation Rest ≡ false
-  pub refusal : breaks facts observation Refusal ≡ false
+kept_each : (broken : Rule → Bool) (tried : List Rule) → ((rule : Rule) → broken rule ≡ false)
+    → KeepsEachOf broken tried
+kept_each broken [] kept = tt
+kept_each broken (rule ∷ tried) kept = (kept rule, kept_each broken tried kept)
 
--- where no rule is broken, none of the nine is
+-- each rule is tried
+kept_of : (broken : Rule → Bool) → KeepsEachOf broken rules → (rule : Rule) → broken rule ≡ false
+kept_of broken k Readable = k.0
+kept_of broken k Pair = k.1.0
+kept_of broken k Number = k.1.1.0
+kept_of broken k Advance = k.1.1.1.0
+kept_of broken k Same = k.1.1.1.1.0
+kept_of broken k Sequence = k.1.1.1.1.1.0
+kept_of broken k Limits = k.1.1.1.1.1.1.0
+kept_of broken k Rest = k.1.1.1.1.1.1.1.0
+kept_of broken k Refusal = k.1.1.1.1.1.1.1.1.0
+
+-- a line that says this breaks none of the rules of transcripts, below lines of which these facts hold
+abbrev pub KeepsRules : Facts → Observation → Type 0
+KeepsRules facts observation = (rule : Rule) → breaks facts observation rule ≡ false
+
+-- where no first rule is broken, none is
 pub rules_kept : (facts : Facts) (observation : Observation) → first_broken facts observation ≡ None
     → KeepsRules facts observation
 rules_kept facts observation none =
-    let k = each_kept (breaks facts observation) rules none in
-    record {
-      readable = k.0;
-      pair = k.1.0;
-      number = k.1.1.0;
-      advance = k.1.1.1.0;
-      same = k.1.1.1.1.0;
-      sequence = k.1.1.1.1.1.0;
-      limits = k.1.1.1.1.1.1.0;
-      rest = k.1.1.1.1.1.1.1.0;
-      refusal = k.1.1.1.1.1.1.1.1.0;
-    }
+    kept_of (breaks facts observation) (each_kept (breaks facts observation) rules none)
 
 -- and conversely
 pub no_rule_broken : (facts : Facts) (observation : Observation) → KeepsRules facts observation
     → first_broken facts observation ≡ None
-no_rule_broken facts observation k =
-    none_broken (breaks facts observation) rules
-    (k.readable, (k.pair, (k.number, (k.advance, (k.same, (k.sequence, (k.limits, (k.rest, (k.refusal, tt)))))))))
+no_rule_broken facts observation kept =
+    none_broken (breaks facts observation) rules (kept_each (breaks facts observation) rules kept)

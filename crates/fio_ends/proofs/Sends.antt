@@ -13,6 +13,7 @@ use Rattle.fio_module.specs.Settings.{Settings}
 use Rattle.fio_check.specs.Facts.{facts_with, number_due}
 use Rattle.fio_check.specs.Observations.{answer_type_to, names_absent, observation_in, observation_of, observation_of_command}
 use Rattle.fio_check.specs.Rules.{first_broken}
+use Rattle.fio_check.specs.declared.rules.Rule.TheVariants as tried
 use Rattle.fio_check.specs.declared.facts.Facts.{Facts}
 use Rattle.fio_check.specs.declared.observation.Observation.{Observation}
 use Rattle.fio_check.specs.declared.observation.Observation.TheVariants as seen
@@ -22,7 +23,7 @@ use Rattle.fio_world.proofs.RoundNumbers.{number_of-fits}
 use Rattle.fio_world.proofs.SentMessages.{none_more}
 use Rattle.fio_world.proofs.Spelled.{no_poll_in}
 use Rattle.fio_ends.specs.Transcripts.{CpuFrame}
-use Rattle.fio_ends.proofs.Rules.{no_rule_broken}
+use Rattle.fio_ends.proofs.Rules.{KeepsRules, no_rule_broken}
 use Rattle.fio_ends.proofs.Following.{AreBefore, IsAsked, Stage, Follows, Keeps, last_is_sent}
 
 -- a command within its ranges is read back
@@ -64,6 +65,12 @@ is_due : (due : Option ℕ) (number : ℕ) → ((n : ℕ) → due ≡ Some n →
     → option_map_or (λ n. not (number == n)) due false ≡ false
 is_due None number same = refl
 is_due (Some n) number same = let is : n ≡ number = same n refl in grind (arith, nat_tests)
+
+-- a poll with the number that is due breaks no rule
+poll_keeps : (facts : Facts) (number : ℕ) → ((n : ℕ) → number_due facts ≡ Some n → n ≡ number)
+    → KeepsRules facts (seen.Poll number)
+poll_keeps facts number same tried.Advance = is_due (number_due facts) number same
+poll_keeps facts number same rule = refl
 
 -- a poll that has another number than the poll before it comes after a block answer
 was_answered : (polled : Option ℕ) (answered : Bool) (number : ℕ)
@@ -144,17 +151,7 @@ module _ (settings : Settings) (first : ℕ) (machine : Machine) (due : ℕ) (fa
       let fits : number < 256 = omega (arith, number_of-fits first machine.round) in
       let said = said_of (commands.Poll number) fits in
       let kept : first_broken facts (seen.Poll number) ≡ None =
-      no_rule_broken facts (seen.Poll number) (record {
-        readable = refl;
-        pair = refl;
-        number = refl;
-        advance = is_due (number_due facts) number f.number;
-        same = refl;
-        sequence = refl;
-        limits = refl;
-        rest = refl;
-        refusal = refl;
-      }) in
+      no_rule_broken facts (seen.Poll number) (poll_keeps facts number f.number) in
       record {
         rules = λ full. (ap (first_broken facts) said ∙ kept, tt);
         follows = subst (λ o. Follows settings first (after_sending machine (commands.Poll number)) 0 (facts_with facts o)) (sym said) follows-poll;

@@ -2,21 +2,11 @@
  * written, and no call reads what was there. For valgrind. The last line is `N passed, M failed`. */
 #include "fio2070.h"
 
+#include "checks.h"
+
 #include <stdio.h>
 #include <stdlib.h>
 #include <string.h>
-
-static int passed, failed;
-#define CHECK(condition) check((condition) != 0, #condition, __LINE__)
-
-static void check(int holds, const char *text, int line) {
-    if (holds) {
-        passed++;
-    } else {
-        failed++;
-        printf("line %d: %s\n", line, text);
-    }
-}
 
 /* What was taken, which stays until the end. */
 static void *taken[64];
@@ -108,6 +98,5 @@ int main(void) {
     reads();
     writes();
     ends();
-    printf("%d passed, %d failed\n", passed, failed);
-    return failed != 0;
+    return end_of_checks();
 }

@@ -1,20 +1,10 @@
 /* The worked examples, call by call. The last line is `N passed, M failed`. */
 #include "fio2070.h"
 
+#include "checks.h"
+
 #include <stdio.h>
 #include <string.h>
-
-static int passed, failed;
-#define CHECK(condition) check((condition) != 0, #condition, __LINE__)
-
-static void check(int holds, const char *text, int line) {
-    if (holds) {
-        passed++;
-    } else {
-        failed++;
-        printf("line %d: %s\n", line, text);
-    }
-}
 
 static int same_fault(struct fio2070_fault fault, int kind, unsigned code, size_t needed, size_t got) {
     return fault.kind == kind && fault.code == code && fault.needed == needed && fault.got == got;
@@ -523,6 +513,5 @@ int main(void) {
     overflows();
     takes_nulls();
     ends_take_nulls();
-    printf("%d passed, %d failed\n", passed, failed);
-    return failed != 0;
+    return end_of_checks();
 }

@@ -2,20 +2,12 @@
  * it. Where a module is not started it keeps what it held. The last line is `N passed, M failed`. */
 #include "fio2070.h"
 
+#include "checks.h"
+
 #include <stdio.h>
 #include <string.h>
 
-static int passed, failed;
 static unsigned char first[sizeof(struct fio2070_module)], second[sizeof(struct fio2070_module)];
-
-static void check(int holds, const char *what) {
-    if (holds) {
-        passed++;
-    } else {
-        failed++;
-        printf("%s\n", what);
-    }
-}
 
 static void fill(void *one, void *other, size_t size) {
     memset(one, 0x5a, size);
@@ -34,7 +26,7 @@ static void counters(void) {
     fill(&one, &other, sizeof one);
     fio2070_counter_start(&one);
     fio2070_counter_start(&other);
-    check(same(&one, &other, sizeof one), "counter");
+    check(same(&one, &other, sizeof one), "counter", __LINE__);
 }
 
 static void checkers(void) {
@@ -42,7 +34,7 @@ static void checkers(void) {
     fill(&one, &other, sizeof one);
     fio2070_checker_start(&one);
     fio2070_checker_start(&other);
-    check(same(&one, &other, sizeof one), "checker");
+    check(same(&one, &other, sizeof one), "checker", __LINE__);
 }
 
 static void contents(void) {
@@ -50,7 +42,7 @@ static void contents(void) {
     fill(&one, &other, sizeof one);
     fio2070_content_start(&one);
     fio2070_content_start(&other);
-    check(same(&one, &other, sizeof one), "content_checker");
+    check(same(&one, &other, sizeof one), "content_checker", __LINE__);
 }
 
 static void filters(void) {
@@ -58,15 +50,15 @@ static void filters(void) {
     fill(&one, &other, sizeof one);
     fio2070_filters_start(&one);
     fio2070_filters_start(&other);
-    check(same(&one, &other, sizeof one), "filters");
+    check(same(&one, &other, sizeof one), "filters", __LINE__);
 }
 
 static void modules(void) {
     static struct fio2070_module one, other;
     fill(&one, &other, sizeof one);
-    check(fio2070_module_start(&one, 2, 0) == 1 && memchr(&one, 0, sizeof one) == NULL, "module that is not started");
-    check(fio2070_module_start(&one, 2, 255) == 0 && fio2070_module_start(&other, 2, 255) == 0, "module");
-    check(same(&one, &other, sizeof one), "octets of the module");
+    check(fio2070_module_start(&one, 2, 0) == 1 && memchr(&one, 0, sizeof one) == NULL, "module that is not started", __LINE__);
+    check(fio2070_module_start(&one, 2, 255) == 0 && fio2070_module_start(&other, 2, 255) == 0, "module", __LINE__);
+    check(same(&one, &other, sizeof one), "octets of the module", __LINE__);
 }
 
 int main(void) {
@@ -75,6 +67,5 @@ int main(void) {
     contents();
     filters();
     modules();
-    printf("%d passed, %d failed\n", passed, failed);
-    return failed != 0;
+    return end_of_checks();
 }

@@ -2,6 +2,8 @@
  * `N passed, M failed`. */
 #include "fio2070.h"
 
+#include "checks.h"
+
 #include <stdio.h>
 #include <string.h>
 
@@ -155,21 +157,14 @@ static int holds(struct fio2070_module *module, const struct call *call) {
     return 0;
 }
 
-static int passed, failed;
-
 /* The calls of a new module whose blocks have so many entries at most. */
 static void run(const char *name, uint8_t per_block, const struct call *calls, size_t count) {
     static struct fio2070_module module;
     size_t place;
     memset(&module, 0xa5, sizeof module);
-    if (fio2070_module_start(&module, 2, per_block) != 0) failed++;
+    check(fio2070_module_start(&module, 2, per_block) == 0, name, 0);
     for (place = 0; place < count; place++) {
-        if (holds(&module, &calls[place])) {
-            passed++;
-        } else {
-            failed++;
-            printf("%s, call %u\n", name, (unsigned)place);
-        }
+        check(holds(&module, &calls[place]), name, (unsigned)place);
     }
 }
 
@@ -180,6 +175,5 @@ int main(void) {
     RUN(255, polls);
     RUN(255, restart);
     RUN(1, one_entry_a_block);
-    printf("%d passed, %d failed\n", passed, failed);
-    return failed != 0;
+    return end_of_checks();
 }

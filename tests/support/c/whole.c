@@ -2,19 +2,10 @@
  * them, which are 0. The octets are those of docs/PROTOCOL.md. The last line is `N passed, M failed`. */
 #include "fio2070.h"
 
+#include "checks.h"
+
 #include <stdio.h>
 #include <string.h>
-
-static int passed, failed;
-
-static void check(int holds, const char *what, unsigned place) {
-    if (holds) {
-        passed++;
-    } else {
-        failed++;
-        printf("%s, row %u\n", what, place);
-    }
-}
 
 #define ROWS(table) (sizeof(table) / sizeof(table)[0])
 
@@ -243,6 +234,5 @@ int main(void) {
     hears();
     records();
     says_faults();
-    printf("%d passed, %d failed\n", passed, failed);
-    return failed != 0;
+    return end_of_checks();
 }

@@ -138,7 +138,7 @@ export class Log {
   }
 }
 
-// Judges the entries by the rules on content, where the nine rules are kept: below a breach from the next poll on. A load of
+// Judges the entries by the rules on content, where those of `check` are kept: below a breach from the next poll on. A load of
 // the counter that was sent above still counts then.
 class Contents {
   constructor(log) {

@@ -89,7 +89,7 @@ export function recordOf(log) {
 }
 
 // The lines that `fio2070 record` writes of a log: the record, to the first entry that breaks a rule on content, where the
-// log keeps the nine rules, else the line of `check`. Null where the rules are not judged.
+// log keeps the rules of `check`, else the line of `check`. Null where the rules are not judged.
 export function recordLines(log) {
   if (!log.isJudged) return null;
   if (!log.verdict.startsWith('good ')) return [log.verdict];
