@@ -1,8 +1,8 @@
 -- The first entry that breaks a rule on content, found line by line.
-use Rattle.std.proofs.Common.{◌≡◌, ◌<◌, ◌≤◌, ◌∙◌, ℕ, ◌+◌, ◌-◌, inl, inr, Bool, true, false, List, [], ◌∷◌, ◌++◌, length, drop, take, map, Option, Some, None, refl, sym, ap, ap₂, arith, append-nil, length-append, length-drop}
-use Rattle.std.specs.Prelude.{◌==◌, ◌%◌, fold, option_map, if◌then◌else◌}
+use Rattle.std.proofs.Common.{◌≡◌, ◌<◌, ◌≤◌, ◌∙◌, ℕ, ◌+◌, ◌-◌, inl, inr, Bool, true, false, List, [], ◌∷◌, ◌++◌, length, drop, take, map, Option, Some, None, refl, sym, ap, arith, append-nil, length-append, length-drop}
+use Rattle.std.specs.Prelude.{◌==◌, ◌%◌, option_map, if◌then◌else◌}
 use Rattle.std.specs.List.{flat_map}
-use Rattle.std.specs.Option.{ok_or, option_or, option_map_or}
+use Rattle.std.specs.Option.{ok_or, option_or}
 use Rattle.std.proofs.lemmas.Bool.Decides.{eqb_tells, leb_tells}
 use Rattle.std.proofs.lemmas.List.{length-map, take-append-le, take_all}
 use Rattle.fio_message.specs.Answers.{answer_length}
@@ -21,10 +21,9 @@ use Rattle.fio_cpu.specs.Record.{item_of, items_of_block}
 use Rattle.fio_cpu.specs.declared.poller.Heard.TheVariants as Heard
 use Rattle.fio_cpu.specs.declared.record.Item.{Item}
 use Rattle.fio_cpu.specs.declared.record.Item.TheVariants.{Gap}
-use Rattle.fio_check.specs.ContentAbove.{ContentFacts, content_with}
+use Rattle.fio_check.specs.ContentAbove.{ContentFacts}
 use Rattle.fio_check.specs.ContentCheckers.{ContentKept, breach_among, content_found, kept_with, nothing_kept}
-use Rattle.fio_check.specs.ContentEvents.{ContentEvent, LineEvent, Polled, Loaded, Configured, Accepted, Recorded, Ended, events_below, events_in, events_of, events_of_answer, events_of_block, events_of_command, events_of_lines, is_taken, item_of_event, number_below, number_with, number_with_answer}
-use Rattle.fio_check.specs.ContentKept.{content_kept}
+use Rattle.fio_check.specs.ContentEvents.{ContentEvent, LineEvent, Polled, Accepted, Recorded, Ended, events_below, events_in, events_of, events_of_block, events_of_command, events_of_lines, item_of_event, number_below, number_with}
 use Rattle.fio_check.specs.ContentRules.{BrokenEntry, broken_entry_in, content_breach_at}
 use Rattle.fio_check.specs.Facts.{number_polled}
 use Rattle.fio_check.specs.Lines.{TranscriptLine}

@@ -7,7 +7,7 @@ use Rattle.fio_world.specs.FirstFaults.{values_or_fault, with_first}
 use Rattle.fio_world.specs.Lines.{lines_of, numbered, with_front, is_skipped}
 use Rattle.fio_check.specs.Facts.{facts_at, facts_with}
 use Rattle.fio_check.specs.Lines.{TranscriptLine}
-use Rattle.fio_check.specs.Observations.{observation_in, observation_on}
+use Rattle.fio_check.specs.Observations.{observation_on}
 use Rattle.fio_check.specs.Places.{earliest_above}
 use Rattle.fio_check.specs.Rules.{first_broken, rule_broken}
 use Rattle.fio_check.specs.Verdicts.{breach_at, verdict_on}
@@ -178,3 +178,10 @@ unbroken_end lines frames left facts breach verdict course same is =
 pub still_none : (breach breach' : Option Verdict) → (breach ≢ None → breach' ≡ breach) → breach' ≡ None → breach ≡ None
 still_none None breach' same none = refl
 still_none (Some verdict) breach' same none = let kept = same (λ e. absurd (cc)) in absurd (cc)
+
+-- where there is no breach with a line more, that line breaks nothing
+pub none_broken : (breach breach' : Option Verdict) (number : ℕ) (rule : Option Rule) → (breach ≢ None → breach' ≡ breach)
+    → (breach ≡ None → breach' ≡ option_map (Broken number) rule) → breach' ≡ None → rule ≡ None
+none_broken breach breach' number None same broken none = refl
+none_broken breach breach' number (Some rule) same broken none =
+    let is = broken (still_none breach breach' same none) in absurd (cc)

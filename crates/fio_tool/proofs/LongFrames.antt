@@ -1,12 +1,17 @@
 -- The frame that is read of a line: octets of more than 773 spell no message.
 use Rattle.std.proofs.Common.{◌≡◌, ◌∙◌, ◌≤◌, ℕ, ◌<◌, Bool, true, false, List, [], ◌∷◌, length, take, Option, Some, None, refl, ap, sym, arith}
 use Rattle.std.specs.Prelude.{nat_le, option_map}
+use Rattle.std.proofs.Common.{inl, inr}
+use Rattle.std.proofs.lemmas.Bool.Decides.{leb_tells}
 use Rattle.std.proofs.lemmas.Option.{same_Some}
 use Rattle.fio_message.specs.Decoding.{message_in}
 use Rattle.fio_message.specs.Commands.{command_length}
 use Rattle.fio_message.specs.Answers.{answer_length}
 use Rattle.fio_message.specs.Reading.{command_at, answer_at}
 use Rattle.fio_tool.specs.Transcript.{IsReadFrame, frame_in, observation_of_frame}
+use Rattle.fio_check.specs.declared.facts.Facts.{Facts}
+use Rattle.fio_check.specs.Rules.{first_broken}
+use Rattle.fio_check.specs.declared.observation.Observation.{Observation}
 use Rattle.fio_check.specs.declared.observation.Observation.TheVariants.{Unreadable}
 
 pub too_long-none : {V : Type 0} (length_of : List ℕ → Option ℕ) (read : ℕ → List ℕ → V) (octets : List ℕ) → 773 < length octets
@@ -32,6 +37,15 @@ module _ (line : List ℕ) (from_cpu : Bool) (count : ℕ) (room : List ℕ) (fr
   pub short_observed : count ≤ 773 → (octets : List ℕ) → octets ≡ take count room
       → observation_of_frame (from_cpu, octets) ≡ observation_of_frame (from_cpu, frame.octets)
   short_observed short octets is = ap (λ os. observation_of_frame (from_cpu, os)) (is ∙ sym (frame.read short))
+
+-- a frame that breaks no rule is not too long
+pub unbroken_short : (line : List ℕ) (from_cpu : Bool) (count : ℕ) (room : List ℕ) (frame : IsReadFrame line from_cpu count room)
+    (facts : Facts) (said : Observation) → said ≡ observation_of_frame (from_cpu, frame.octets) → first_broken facts said ≡ None → count ≤ 773
+unbroken_short line from_cpu count room frame facts said says unbroken = elim (leb_tells count 773) as (λ _. count ≤ 773) [
+  | inl short ↦ short.1
+  | inr long ↦ (let unreadable = says ∙ sym (long_observed line from_cpu count room frame long.1) in
+      let broken = ap (first_broken facts) (sym unreadable) ∙ unbroken in absurd (cc))
+]
 
 -- ---- a frame that is read
 

@@ -1,85 +1,44 @@
 -- One pass over a text, frame by frame, as the CPU of the lines that are read of it and the first entry that breaks a rule
 -- on content.
-use Rattle.std.proofs.Common.{◌≡◌, ◌<◌, ◌≤◌, ◌∙◌, ℕ, Bool, true, false, List, [], ◌∷◌, map, length, take, Option, Some, None, Result, Ok, Err, refl, sym, ap, arith}
-use Rattle.std.specs.Prelude.{fold, option_map}
-use Rattle.std.specs.Option.{option_or}
-use Rattle.fio_message.specs.Commands.{command_length}
-use Rattle.fio_message.specs.Answers.{answer_length}
-use Rattle.fio_message.specs.Reading.{command_at, answer_at}
-use Rattle.fio_cpu.specs.Poller.{Polling}
+use Rattle.std.proofs.Common.{◌≡◌, ◌≤◌, ◌∙◌, ℕ, Bool, List, [], ◌∷◌, map, take, Result, Ok, Err, refl, sym, ap}
+use Rattle.std.specs.Prelude.{fold}
 use Rattle.fio_world.specs.FirstFaults.{values_or_fault}
 use Rattle.fio_check.specs.Lines.{TranscriptLine}
-use Rattle.fio_check.specs.ContentCheckers.{ContentKept, content_found, kept_with}
+use Rattle.fio_check.specs.Observations.{observation_on}
+use Rattle.fio_check.specs.declared.observation.Observation.{Observation}
 use Rattle.fio_check.specs.ContentKept.{content_kept}
 use Rattle.fio_check.specs.Pollers.{poller_of, poller_with}
-use Rattle.fio_tool.specs.Record.{items_of_cpu}
-use Rattle.fio_tool.specs.Recordings.{IsNoRecording, IsRecordingOf, IsStep, entries_taken, item_broken}
+use Rattle.fio_tool.specs.Recordings.{IsNoRecording, IsRecordingOf, IsStep}
 use Rattle.fio_tool.specs.declared.transcript.recording.Recording.{Recording}
-use Rattle.fio_tool.specs.Transcript.{IsReadFrame, line_in}
+use Rattle.fio_tool.specs.Transcript.{IsReadFrame, line_in, observation_of_frame}
 use Rattle.fio_tool.specs.declared.transcript.lines.TraceError.{TraceError}
 use Rattle.fio_tool.proofs.CheckedLines.{first-left, line_read}
 use Rattle.fio_tool.proofs.BrokenEntries.{IsBrokenSoFar, broken_end, broken_first, broken_next}
-use Rattle.fio_tool.proofs.LongFrames.{too_long-none}
 
--- ---- a frame that is too long changes nothing
+-- ---- the line of a frame that is read
 
-option_or-none : {A : Type 0} (a : Option A) → a ≡ option_or a None
-option_or-none None = refl
-option_or-none (Some x) = refl
-
-long-cpu : (cpu : Option Polling) (number : ℕ) (from_cpu : Bool) (octets : List ℕ) → 773 < length octets
-    → cpu ≡ poller_with cpu (record { number = number; from_cpu = from_cpu; octets = octets })
-long-cpu None number true octets long = rw (too_long-none command_length command_at octets long) refl
-long-cpu None number false octets long = rw (too_long-none answer_length answer_at octets long) refl
-long-cpu (Some cpu) number true octets long = refl
-long-cpu (Some cpu) number false octets long = rw (too_long-none answer_length answer_at octets long) refl
-
-long-kept : (kept : ContentKept) (from_cpu : Bool) (octets : List ℕ) → 773 < length octets → kept ≡ kept_with kept from_cpu octets
-long-kept kept true octets long = rw (too_long-none command_length command_at octets long) refl
-long-kept kept false octets long = rw (too_long-none answer_length answer_at octets long) refl
-
-long-found : (kept : ContentKept) (from_cpu : Bool) (octets : List ℕ) → 773 < length octets → content_found kept from_cpu octets ≡ None
-long-found kept true octets long = rw (too_long-none command_length command_at octets long) refl
-long-found kept false octets long = rw (too_long-none answer_length answer_at octets long) refl
-
-long-step : (recording : Recording) (number : ℕ) (from_cpu : Bool) (octets : List ℕ) → 773 < length octets
-    → IsStep recording (record { number = number; from_cpu = from_cpu; octets = octets }) recording
-long-step recording number from_cpu octets long = record {
-  cpu = long-cpu recording.cpu number from_cpu octets long;
-  kept = long-kept (content_kept recording.checker) from_cpu octets long;
-  broken = option_or-none recording.broken
-      ∙ ap (λ found. option_or recording.broken (option_map (item_broken number (length (items_of_cpu recording.cpu)) (entries_taken recording.cpu octets)) found))
-      (sym (long-found (content_kept recording.checker) from_cpu octets long));
-}
-
--- the line of a frame that is read
 read-line : (number : ℕ) (line : List ℕ) (from_cpu : Bool) (count : ℕ) (room : List ℕ) (frame : IsReadFrame line from_cpu count room) (found : TranscriptLine)
     → line_in (number, line) ≡ Ok found → record { number = number; from_cpu = from_cpu; octets = frame.octets } ≡ found
 read-line number line from_cpu count room frame found is =
     let read = line_read number line from_cpu frame.octets frame.frame in cc
 
-pub long_passed : (recording : Recording) (number : ℕ) (line : List ℕ) (from_cpu : Bool) (count : ℕ) (room : List ℕ) (frame : IsReadFrame line from_cpu count room) (found : TranscriptLine)
-    → 773 < count → line_in (number, line) ≡ Ok found → IsStep recording found recording
-long_passed recording number line from_cpu count room frame found long is =
-    let same = read-line number line from_cpu count room frame found is in
-    let counted = frame.counted in
-    rw (← same) (long-step recording number from_cpu frame.octets (omega (arith, counted, long)))
-
--- ---- the line of a frame that is not too long
-
-pub record IsShortLine (number : ℕ) (from_cpu : Bool) (octets : List ℕ) (found : TranscriptLine) : Type 0 where
+-- it is not too long
+pub record IsShortLine (number : ℕ) (from_cpu : Bool) (octets : List ℕ) (said : Observation) (found : TranscriptLine) : Type 0 where
   pub numbered : found.number ≡ number
   pub directed : found.from_cpu ≡ from_cpu
   pub spelled : found.octets ≡ octets
+  pub says : said ≡ observation_on found
 
-pub short_line : (number : ℕ) (line : List ℕ) (from_cpu : Bool) (count : ℕ) (room octets : List ℕ) (frame : IsReadFrame line from_cpu count room) (found : TranscriptLine)
-    → count ≤ 773 → octets ≡ take count room → line_in (number, line) ≡ Ok found → IsShortLine number from_cpu octets found
-short_line number line from_cpu count room octets frame found short is reads =
+pub short_line : (number : ℕ) (line : List ℕ) (from_cpu : Bool) (count : ℕ) (room : List ℕ) (said : Observation) (frame : IsReadFrame line from_cpu count room) (found : TranscriptLine)
+    → count ≤ 773 → said ≡ observation_of_frame (from_cpu, frame.octets) → line_in (number, line) ≡ Ok found
+    → IsShortLine number from_cpu (take count room) said found
+short_line number line from_cpu count room said frame found short says reads =
     let same = read-line number line from_cpu count room frame found reads in
     record {
       numbered = sym (ap (λ one. one.number) same);
       directed = sym (ap (λ one. one.from_cpu) same);
-      spelled = sym (ap (λ one. one.octets) same) ∙ frame.read short ∙ sym is;
+      spelled = sym (ap (λ one. one.octets) same) ∙ frame.read short;
+      says = says ∙ ap observation_on same;
     }
 
 -- ---- the course of the pass

@@ -1,5 +1,5 @@
 -- What one pass over a transcript keeps: the CPU, and the first entry that breaks a rule on content.
-use Rattle.std.specs.Prelude.{◌≡◌, ℕ, ◌-◌, Bool, List, Option, Some, None, length, option_map, take}
+use Rattle.std.specs.Prelude.{◌≡◌, ℕ, ◌-◌, List, Option, None, length, option_map, take}
 use Rattle.std.specs.Option.{option_map_or, option_or}
 use Rattle.fio_message.specs.Decoding.{decoded_answer}
 use Rattle.fio_cpu.specs.Hearing.{heard_as}

@@ -1,5 +1,6 @@
 //! A transcript: the frames that the CPU's end of the link sent and heard, one a line, in order.
 
+mod cpu;
 mod lines;
 mod one_pass;
 mod recording;

@@ -1,6 +1,6 @@
 //! A transcript judged in one pass over its text: the verdict, and where it is asked for the record of its
 //! CPU. No line is kept.
-ghost use Rattle.std.specs.Prelude.{◌≡◌, ◌≢◌, ℕ, List, true, None, Ok, Err, IfOk, IfErr, IfSome, IfNone, option_map};
+ghost use Rattle.std.specs.Prelude.{◌≡◌, ◌≢◌, ℕ, List, true, None, Ok, Err, IfOk, IfErr, IfSome, IfNone, option_map, take};
 ghost use Rattle.fio_check.specs.Facts.{facts_with};
 ghost use Rattle.fio_check.specs.Lines.{TranscriptLine};
 ghost use Rattle.fio_check.specs.Rules.{first_broken};
@@ -46,7 +46,8 @@ pub(crate) fn judge_lines(
         let observation = observe(from_cpu, count, &room);
         breach = breach_with(breach, &mut facts, number, observation);
         if records && breach.is_none() {
-            recording.add(alloc, number, from_cpu, count, &room)?;
+            let octets = front(&room, count);
+            recording.add(alloc, number, from_cpu, observation, octets)?;
         }
         frames += 1;
     }
@@ -65,7 +66,17 @@ fn read_frame(line: &[u8], room: &mut [u8; FRAME_OCTETS]) -> Option<(bool, usize
     Some((from_cpu, count))
 }
 
-/// What a frame says whose octets were read into the room.
+/// So many octets at the front of the room, or all where it has fewer.
+#[tactic(auto, using(std::proofs::lemmas::List::take_min))]
+fn front(room: &[u8; FRAME_OCTETS], count: usize) -> &[u8]
+    ensures { result.now ≡ take count room.now }
+{
+    &room[..count.min(room.len())]
+}
+
+/// What a frame says whose octets were read into the room. It is not inlined: in the loop over the lines the one
+/// over a block's entries would have too few registers.
+#[inline(never)]
 fn observe(from_cpu: bool, count: usize, room: &[u8; FRAME_OCTETS]) -> Observation
     ensures { (line : List ℕ) (frame : IsReadFrame line from_cpu count room.now)
         → result ≡ observation_of_frame (from_cpu, frame.octets) }

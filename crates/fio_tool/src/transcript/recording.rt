@@ -1,15 +1,15 @@
 //! The record of a transcript's CPU, and the first entry of it that breaks a rule on content, frame by frame.
-ghost use Rattle.std.specs.Prelude.{◌≡◌, List, ℕ, None, true, false, IfOk, OnOk, Ok, option_map};
-ghost use Rattle.fio_message.specs.Decoding.{block_in};
-ghost use Rattle.fio_cpu.specs.Hearing.{after_hearing};
+ghost use Rattle.std.specs.Prelude.{◌≡◌, Some, true, false, OnOk, length};
+ghost use Rattle.std.specs.Option.{option_or};
 ghost use Rattle.fio_check.specs.Lines.{TranscriptLine};
+ghost use Rattle.fio_check.specs.Observations.{observation_on};
 ghost use Rattle.fio_tool.specs.Record.{items_of_cpu};
-ghost use Rattle.fio_tool.specs.Recordings.{IsNoRecording, IsStep, entries_heard, entries_taken, item_broken};
-ghost use Rattle.fio_tool.specs.Transcript.{IsReadFrame, line_in};
+ghost use Rattle.fio_tool.specs.Recordings.{IsNoRecording, IsStep, item_broken};
 
+use super::cpu::TranscriptCpu;
 use fio_check::{ContentBreach, ContentChecker, ContentRule, Observation};
-use fio_cpu::{Heard, Item, Poller};
-use fio_message::{FRAME_OCTETS, Memory};
+use fio_cpu::Item;
+use fio_message::Memory;
 use std::alloc::Global;
 
 /// An entry of the record that breaks a rule on content.
@@ -29,7 +29,7 @@ pub(crate) struct BrokenItem {
 #[derive(Drop)]
 pub(crate) struct Recording {
     /// The CPU: it starts at the first poll, and hears each frame below. `None` where nothing is polled.
-    pub(crate) cpu: Option<Poller>,
+    pub(crate) cpu: Option<TranscriptCpu>,
     /// What the rules on content keep.
     checker: ContentChecker,
     /// The first entry that breaks one.
@@ -48,30 +48,27 @@ impl Recording {
         }
     }
 
-    /// Adds the frame of the line with this number, whose octets were read into room for the longest.
+    /// Adds a frame that the CPU sent or heard, of the line with this number. It says this to the rules.
     ///
     /// # Errors
     /// `Memory` where the record could not grow. Nothing else allocates.
-    pub(crate) fn add(
+    pub(super) fn add(
         &mut self,
         alloc: Global,
         number: usize,
         from_cpu: bool,
-        count: usize,
-        room: &[u8; FRAME_OCTETS],
+        said: Observation,
+        octets: &[u8],
     ) -> Result<(), Memory>
-        ensures { (line : List ℕ) (found : TranscriptLine) → IsReadFrame line from_cpu count room.now
-            → line_in (number, line) ≡ Ok found → OnOk result (IsStep self.old found self.new) }
+        ensures { (line : TranscriptLine) → line.number ≡ number → line.from_cpu ≡ from_cpu
+            → line.octets ≡ octets.now → said ≡ observation_on line
+            → OnOk result (IsStep self.old line self.new) }
     {
-        if count > room.len() {
-            return Ok(());
-        }
-        let octets = &room[..count];
         if from_cpu {
-            self.send(alloc, octets);
+            self.send(alloc, said, octets);
             return Ok(());
         }
-        self.hear(number, octets)
+        self.hear(number, said, octets)
     }
 
     /// The record of the CPU.
@@ -84,75 +81,59 @@ impl Recording {
         }
     }
 
-    /// Adds a frame of the line with this number that the CPU sent.
-    fn send(&mut self, alloc: Global, octets: &[u8])
+    /// Adds a frame that the CPU sent.
+    fn send(&mut self, alloc: Global, said: Observation, octets: &[u8])
         ensures { (line : TranscriptLine) → line.from_cpu ≡ true → line.octets ≡ octets.now
-            → IsStep self.old line self.new }
+            → said ≡ observation_on line → IsStep self.old line self.new }
     {
         self.checker.sent(octets);
-        if self.cpu.is_none() {
-            if let Observation::Poll { number } = Observation::of(true, octets) {
-                self.cpu = Some(Poller::new(alloc, number));
+        if let Observation::Poll { number } = said {
+            if self.cpu.is_none() {
+                self.cpu = Some(TranscriptCpu::new(alloc, number));
             }
         }
     }
 
     /// Adds a frame of the line with this number that the CPU heard.
-    fn hear(&mut self, number: usize, octets: &[u8]) -> Result<(), Memory>
+    fn hear(&mut self, number: usize, said: Observation, octets: &[u8]) -> Result<(), Memory>
         ensures { (line : TranscriptLine) → line.number ≡ number → line.from_cpu ≡ false
-            → line.octets ≡ octets.now → OnOk result (IsStep self.old line self.new) }
+            → line.octets ≡ octets.now → said ≡ observation_on line
+            → OnOk result (IsStep self.old line self.new) }
     {
-        let entries = hear_with(&mut self.cpu, octets)?;
-        let breach = self.checker.heard(octets);
-        if self.broken.is_none() {
-            let items = self.items().len();
-            self.broken = broken_item(number, items, entries, breach);
+        let entries = match &mut self.cpu {
+            Some(cpu) => cpu.hear(said, octets)?,
+            None => 0,
+        };
+        if let Some(breach) = self.checker.heard(octets) {
+            self.add_breach(number, entries, breach);
         }
         Ok(())
     }
-}
 
-/// Has the CPU hear a frame, and returns how many entries it takes.
-fn hear_with(cpu: &mut Option<Poller>, octets: &[u8]) -> Result<usize, Memory>
-    ensures heard { OnOk result (cpu.new
-        ≡ option_map (λ known. after_hearing known (block_in octets.now)) cpu.old) }
-    ensures entries { IfOk result (λ entries. entries ≡ entries_taken cpu.old octets.now) }
-{
-    match cpu {
-        Some(cpu) => {
-            let heard = cpu.hear(octets)?;
-            Ok(entries_of(heard))
+    /// Adds a breach in the line with this number, of whose block so many entries were taken.
+    fn add_breach(&mut self, line: usize, entries: usize, breach: ContentBreach)
+        ensures { self.new ≡ (record self.old {
+          broken = option_or self.old.broken
+              (Some (item_broken line (length (items_of_cpu self.old.cpu)) entries breach));
+        }) }
+    {
+        if self.broken.is_none() {
+            let items = self.items().len();
+            self.broken = Some(broken_item(line, items, entries, breach));
         }
-        None => Ok(0),
-    }
-}
-
-/// How many entries a block has that was heard and taken.
-fn entries_of(heard: Heard) -> usize
-    ensures { result ≡ entries_heard heard }
-{
-    match heard {
-        Heard::Block { entries, .. } => entries,
-        _ => 0,
     }
 }
 
 /// A breach in a line, where the record has so many items below the line and its block has so many
 /// entries.
-fn broken_item(
-    line: usize,
-    items: usize,
-    entries: usize,
-    breach: Option<ContentBreach>,
-) -> Option<BrokenItem>
-    ensures { result ≡ option_map (item_broken line items entries) breach }
+fn broken_item(line: usize, items: usize, entries: usize, breach: ContentBreach) -> BrokenItem
+    ensures { result ≡ item_broken line items entries breach }
 {
-    let breach = breach?;
     let below = entries.saturating_sub(usize::from(breach.entry));
-    Some(BrokenItem {
+    BrokenItem {
         line,
         above: items.saturating_sub(below),
         input: breach.input,
         rule: breach.rule,
-    })
+    }
 }

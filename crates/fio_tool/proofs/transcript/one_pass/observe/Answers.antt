@@ -1,4 +1,4 @@
-use Rattle.std.proofs.Common.{◌<◌, ◌≤◌, ◌∙◌, arith, refl, take}
+use Rattle.std.proofs.Common.{◌<◌, ◌∙◌, arith, refl, take}
 use Rattle.fio_tool.proofs.LongFrames.{long_observed, short_observed}
 use Rattle.fio_tool.proofs.transcript.one_pass.observe.Goals as goal
 
