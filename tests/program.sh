@@ -49,7 +49,7 @@ given 'help on simulate' '3605' 0 'Runs a script of events on both ends*Usage: f
 Reads:   a script. *LINESYNC goes from 0 to 1*| fio2070 simulate
 *  record 0' simulate --help
 given 'help on check' '3605' 0 'Reports whether a transcript on standard input keeps*Usage: fio2070 check < FILE*
-Reads:   a transcript*readable, pair, number*| fio2070 check
+Reads:   a transcript*breaks RULE*first rule that it breaks*| fio2070 check
   line 3 breaks advance' check --help
 given 'help on record' '3605' 0 'Reports what the CPU of a transcript*Usage: fio2070 record < FILE*
 Reads:   a transcript*| fio2070 record

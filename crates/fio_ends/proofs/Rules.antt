@@ -1,12 +1,13 @@
 -- No first rule is broken exactly if none is.
-use Rattle.std.proofs.Common.{◌≡◌, ◌∙◌, Bool, true, false, List, [], ◌∷◌, Some, None, refl, ap, if◌then◌else◌}
+use Rattle.std.proofs.Common.{◌≡◌, ◌∙◌, ◌-◌, slice_get, Bool, true, false, List, [], ◌∷◌, Some, None, refl, ap, if◌then◌else◌}
 use Rattle.std.specs.Prelude.{find}
 use Rattle.std.specs.List.{AllByRecursion}
-use Rattle.fio_check.specs.Rules.{breaks, first_broken, rules}
+use Rattle.fio_check.specs.Rules.{breaks, first_broken, rule_number, rules}
 use Rattle.fio_check.specs.declared.facts.Facts.{Facts}
 use Rattle.fio_check.specs.declared.observation.Observation.{Observation}
 use Rattle.fio_check.specs.declared.rules.Rule.{Rule}
-use Rattle.fio_check.specs.declared.rules.Rule.TheVariants.{Readable, Pair, Number, Advance, Same, Sequence, Limits, Rest, Refusal}
+use Rattle.fio_check.specs.declared.rules.Rule.TheVariants.{Readable}
+use Rattle.fio_world.proofs.MadeBlocks.{each-at}
 
 -- none of these rules is broken
 abbrev KeepsEachOf : (Rule → Bool) → List Rule → Type 0
@@ -33,17 +34,13 @@ kept_each : (broken : Rule → Bool) (tried : List Rule) → ((rule : Rule) → 
 kept_each broken [] kept = tt
 kept_each broken (rule ∷ tried) kept = (kept rule, kept_each broken tried kept)
 
--- each rule is tried
+-- each rule is tried, at its number
+at_number : (rule : Rule) → slice_get rules (rule_number rule - 1) ≡ Some rule
+at_number Readable = refl
+at_number rule = refl
+
 kept_of : (broken : Rule → Bool) → KeepsEachOf broken rules → (rule : Rule) → broken rule ≡ false
-kept_of broken k Readable = k.0
-kept_of broken k Pair = k.1.0
-kept_of broken k Number = k.1.1.0
-kept_of broken k Advance = k.1.1.1.0
-kept_of broken k Same = k.1.1.1.1.0
-kept_of broken k Sequence = k.1.1.1.1.1.0
-kept_of broken k Limits = k.1.1.1.1.1.1.0
-kept_of broken k Rest = k.1.1.1.1.1.1.1.0
-kept_of broken k Refusal = k.1.1.1.1.1.1.1.1.0
+kept_of broken kept rule = each-at (λ one. broken one ≡ false) rules (rule_number rule - 1) rule kept (at_number rule)
 
 -- a line that says this breaks none of the rules of transcripts, below lines of which these facts hold
 abbrev pub KeepsRules : Facts → Observation → Type 0

@@ -86,11 +86,10 @@ Reads:   a transcript of what a CPU's end sent and heard, in order, a frame a li
          `> FRAME` for one that it sent, `< FRAME` for one that it heard. A line that is
          empty or begins with # is skipped.
 Writes:  `good N frames`, or `line N breaks RULE` for the first line that breaks a rule
-         and the first rule that it breaks: readable, pair, number, advance, same,
-         sequence, limits, rest or refusal. They suppose a bus that repeats no frame and
-         delivers an answer before the next command or never, a module with the standard
-         limits that was not restarted, and a CPU that never ran out of memory. Where a
-         line is no frame, `line N: bad line`.
+         and the first rule that it breaks, of those that fio2070(1) lists. They suppose a
+         bus that repeats no frame and delivers an answer before the next command or
+         never, a module with the standard limits that was not restarted, and a CPU that
+         never ran out of memory. Where a line is no frame, `line N: bad line`.
 
 Exit status:
   0  the transcript keeps the rules

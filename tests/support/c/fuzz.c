@@ -132,12 +132,12 @@ static int is_judged(struct fio2070_checker *checker, struct fio2070_content_che
     if (below(2)) {
         fio2070_content_sent(content, octets, length);
         rule = fio2070_checker_sent(checker, octets, length, &breach);
-        return rule == breach.rule && rule <= FIO2070_RULE_REFUSAL;
+        return rule == breach.rule;
     }
     rule = fio2070_content_heard(content, octets, length, &entry);
     if (rule != entry.rule || rule > FIO2070_CONTENT_APART || (rule != 0 && entry.entry >= octets[2])) return 0;
     rule = fio2070_checker_heard(checker, octets, length, &breach);
-    return rule == breach.rule && rule <= FIO2070_RULE_REFUSAL;
+    return rule == breach.rule;
 }
 
 int main(int arguments, char **words) {
