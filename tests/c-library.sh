@@ -198,7 +198,8 @@ for compiler in g++ clang++; do
         "$top/tests/support/c/wrapper.cpp" "$archive" -o "$room/wrapper"
     counts "rows of the wrapper by $compiler" "$room/wrapper"
 done
-holds 'a million random buffers' "$last/fuzz" 1000000 20260701
+last_rule=$(sed -n 's/^    FIO2070_RULE_[A-Z]* = \([0-9]*\),$/\1/p' "$top/include/fio2070.h" | tail -n 1)
+holds 'a million random buffers' "$last/fuzz" 1000000 20260701 "$last_rule"
 if [ -n "$(command -v python3)" ]; then
     holds 'Python' env -C "$top/bindings/python" PYTHONDONTWRITEBYTECODE=1 FIO2070_LIBRARY="$room/libfio2070.so" \
         python3 test.py

@@ -2,7 +2,9 @@
  * touched, so an access behind one ends the program. What is read must encode to the same octets.
  * The last line is `N passed, M failed`, N being the buffers.
  *
- *     fuzz BUFFERS SEED
+ *     fuzz BUFFERS SEED RULES
+ *
+ * RULES is the number of the last rule of transcripts.
  */
 #include "fio2070.h"
 #include "random_frames.h"
@@ -116,6 +118,8 @@ static int is_received(struct fio2070_module *device, const uint8_t *octets, siz
                           read.code == octets[0] + FIO2070_TYPE_ANSWER);
 }
 
+static unsigned long last_rule;
+
 /* Both checkers take the octets, as sent or as heard; now and then below a start and a poll for the block that they may be. */
 static int is_judged(struct fio2070_checker *checker, struct fio2070_content_checker *content, const uint8_t *octets,
                      size_t length) {
@@ -132,12 +136,12 @@ static int is_judged(struct fio2070_checker *checker, struct fio2070_content_che
     if (below(2)) {
         fio2070_content_sent(content, octets, length);
         rule = fio2070_checker_sent(checker, octets, length, &breach);
-        return rule == breach.rule;
+        return rule == breach.rule && rule <= last_rule;
     }
     rule = fio2070_content_heard(content, octets, length, &entry);
     if (rule != entry.rule || rule > FIO2070_CONTENT_APART || (rule != 0 && entry.entry >= octets[2])) return 0;
     rule = fio2070_checker_heard(checker, octets, length, &breach);
-    return rule == breach.rule;
+    return rule == breach.rule && rule <= last_rule;
 }
 
 int main(int arguments, char **words) {
@@ -148,6 +152,7 @@ int main(int arguments, char **words) {
     static struct fio2070_content_checker content;
     uint8_t octets[LONGEST + 1];
     random_state = arguments > 2 ? strtoul(words[2], NULL, 10) : 1;
+    last_rule = arguments > 3 ? strtoul(words[3], NULL, 10) : 0;
     fio2070_module_start(&device, 2, FIO2070_MOST_ENTRIES);
     fio2070_checker_start(&checker);
     fio2070_content_start(&content);
