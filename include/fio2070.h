@@ -12,9 +12,9 @@
  *  - What an argument with const points to is initialised. What a call writes need not be.
  *  - During a call no one else writes what an argument points to, and no one else reads what an
  *    argument without const points to. Such an argument overlaps no other.
- *  - The structs filters, counter, checker, content_checker and module are written by the calls of this header
- *    alone, _start first. Before _start they may hold any octets; _start sets each of them. They may be copied and
- *    moved by memcpy.
+ *  - The structs filters, counter, checker, content_checker, module and sized_module are written by the calls of
+ *    this header alone, _start first, and so is the array of a sized_module. Before _start they may hold any octets;
+ *    _start sets each of those of a struct. They may be copied and moved by memcpy.
  *
  * Sources: TEES 2009 is Caltrans TEES 2009. "Own profile" is a choice of this project where TEES
  * leaves one: 64 inputs, 64 outputs, and what docs/PROTOCOL.md marks so.
@@ -657,6 +657,68 @@ struct fio2070_error_counts fio2070_module_errors(const struct fio2070_module *m
 /** How many entries wait for a poll, 0 to 1,024. */
 size_t fio2070_module_waiting(const struct fio2070_module *module);
 
+/** A module whose waiting entries are in an array of the caller, three octets each. _scan and _receive are given it as
+ * `ring`, and its length, the limit of waiting entries, as `capacity`: always the same array, or one with its octets. With
+ * another array or capacity each call is safe, and the entries that wait are what it has. With capacity 0 none waits, each
+ * is lost, and `ring` may be null. The fields are the library's own. */
+struct fio2070_sized_module {
+    struct {
+        uint8_t id;
+        uint8_t per_block;
+        uint8_t flags;
+        uint8_t watchdog;
+        uint8_t pushed_out;
+        uint8_t reserved[7];
+        struct fio2070_counter counter;
+        struct fio2070_outputs outputs;
+        struct fio2070_filters filters;
+        struct {
+            uint8_t octets[773];
+            uint8_t reserved;
+            uint16_t length;
+        } sent;
+    } state;
+    struct {
+        uint64_t first;
+        uint64_t count;
+    } place;
+    struct fio2070_error_counts errors;
+    uint8_t reserved[6];
+};
+
+/** As fio2070_module_start. */
+uint8_t fio2070_sized_module_start(struct fio2070_sized_module *module, uint8_t id, uint8_t per_block);
+/** As fio2070_module_restart. */
+void fio2070_sized_module_restart(struct fio2070_sized_module *module);
+/** As fio2070_module_scan; where `capacity` entries wait, one more pushes out the oldest. */
+void fio2070_sized_module_scan(struct fio2070_sized_module *module, uint8_t (*ring)[3], size_t capacity,
+                               uint64_t raw);
+/** As fio2070_module_line_sync. */
+void fio2070_sized_module_line_sync(struct fio2070_sized_module *module);
+/** As fio2070_module_raise. */
+void fio2070_sized_module_raise(struct fio2070_sized_module *module, uint8_t mask);
+/** As fio2070_module_set_errors. */
+void fio2070_sized_module_set_errors(struct fio2070_sized_module *module, uint8_t receive, uint8_t transmit);
+/** As fio2070_module_receive. */
+size_t fio2070_sized_module_receive(struct fio2070_sized_module *module, uint8_t (*ring)[3], size_t capacity,
+                                    const uint8_t *octets, size_t length, uint8_t out[FIO2070_LONGEST_FRAME]);
+/** As fio2070_module_outputs. */
+struct fio2070_outputs fio2070_sized_module_outputs(const struct fio2070_sized_module *module);
+/** As fio2070_module_watchdog_ms. */
+uint8_t fio2070_sized_module_watchdog_ms(const struct fio2070_sized_module *module);
+/** As fio2070_module_counter. */
+uint32_t fio2070_sized_module_counter(const struct fio2070_sized_module *module);
+/** As fio2070_module_filtered. */
+uint64_t fio2070_sized_module_filtered(const struct fio2070_sized_module *module);
+/** As fio2070_module_raw. */
+uint64_t fio2070_sized_module_raw(const struct fio2070_sized_module *module);
+/** As fio2070_module_flags. */
+uint8_t fio2070_sized_module_flags(const struct fio2070_sized_module *module);
+/** As fio2070_module_errors. */
+struct fio2070_error_counts fio2070_sized_module_errors(const struct fio2070_sized_module *module);
+/** How many entries wait for a poll, 0 to `capacity`, which is that of its array. */
+size_t fio2070_sized_module_waiting(const struct fio2070_sized_module *module, size_t capacity);
+
 /* ---- Layout: written by tools/generate-layouts ---- */
 /* Each struct has this size and these offsets with every compiler. */
 #if defined(__cplusplus)
@@ -755,6 +817,8 @@ FIO2070_SAME(heard, sizeof(struct fio2070_heard) == 24 &&
              offsetof(struct fio2070_heard, reserved) == 5 &&
              offsetof(struct fio2070_heard, items) == 6 &&
              offsetof(struct fio2070_heard, fault) == 8);
+
+FIO2070_SAME(sized_module, sizeof(struct fio2070_sized_module) == 1056);
 
 FIO2070_SAME(content_checker, sizeof(struct fio2070_content_checker) == 1168);
 

@@ -420,6 +420,49 @@ private:
     ::fio2070_module module_{};
 };
 
+/// A module of which as many entries may wait as Capacity says; it holds the array for them.
+template <std::size_t Capacity>
+class SizedModule {
+public:
+    static_assert(Capacity > 0, "a module without room loses each transition");
+    /// None where `per_block` is 0.
+    static std::optional<SizedModule> start(std::uint8_t id, std::uint8_t per_block = FIO2070_MOST_ENTRIES) {
+        std::optional<SizedModule> module{SizedModule()};
+        if (::fio2070_sized_module_start(&module->module_, id, per_block) != 0) module.reset();
+        return module;
+    }
+    void restart() { ::fio2070_sized_module_restart(&module_); }
+    void scan(std::uint64_t raw) { ::fio2070_sized_module_scan(&module_, ring_, Capacity, raw); }
+    void line_sync() { ::fio2070_sized_module_line_sync(&module_); }
+    void raise(std::uint8_t mask) { ::fio2070_sized_module_raise(&module_, mask); }
+    void set_errors(std::uint8_t receive, std::uint8_t transmit) {
+        ::fio2070_sized_module_set_errors(&module_, receive, transmit);
+    }
+    /// The answer; none where there is none.
+    std::optional<Frame> receive(Octets octets) {
+        return Frame::of([&](auto *out, auto) {
+            return ::fio2070_sized_module_receive(&module_, ring_, Capacity, octets.data(), octets.size(), out);
+        });
+    }
+    Outputs outputs() const { return ::fio2070_sized_module_outputs(&module_); }
+    /// None before the first command 58.
+    std::optional<std::uint8_t> watchdog_ms() const {
+        std::uint8_t timeout = ::fio2070_sized_module_watchdog_ms(&module_);
+        return timeout != 0 ? std::optional<std::uint8_t>(timeout) : std::nullopt;
+    }
+    std::uint32_t counter() const { return ::fio2070_sized_module_counter(&module_); }
+    std::uint64_t filtered() const { return ::fio2070_sized_module_filtered(&module_); }
+    std::uint64_t raw() const { return ::fio2070_sized_module_raw(&module_); }
+    std::uint8_t flags() const { return ::fio2070_sized_module_flags(&module_); }
+    ErrorCounts errors() const { return ::fio2070_sized_module_errors(&module_); }
+    std::size_t waiting() const { return ::fio2070_sized_module_waiting(&module_, Capacity); }
+
+private:
+    SizedModule() = default;
+    ::fio2070_sized_module module_{};
+    std::uint8_t ring_[Capacity][3]{};
+};
+
 } // namespace fio2070
 
 // Equality of values, in the namespace of their types.

@@ -16,7 +16,7 @@ builds() {
         *) language="-x c -D_DEFAULT_SOURCE $*" ;;
     esac
     mkdir -p "$folder"
-    for source in support/c/rows support/c/turns support/c/whole support/c/started support/c/fresh support/c/fuzz ../examples/c/decode ../examples/c/poller; do
+    for source in support/c/rows support/c/turns support/c/whole support/c/started support/c/sized support/c/fresh support/c/fuzz ../examples/c/decode ../examples/c/poller; do
         # shellcheck disable=SC2086
         "$compiler" $language $strict -I "$top/include" "$top/tests/$source.c" -x none "$archive" \
             -o "$folder/$(basename "$source")" || return 1
@@ -169,6 +169,7 @@ for build in 'gcc -std=c99' 'g++ -std=c++11' 'clang -std=c99 -g -O1 -fsanitize=a
     counts "calls of a module in turn by $1" "$room/$1/turns"
     counts "whole structs by $1" "$room/$1/whole"
     counts "started structs by $1" "$room/$1/started"
+    counts "modules with an array of the caller by $1" "$room/$1/sized"
     counts "memory that nothing has written by $1" "$room/$1/fresh"
     holds "decode by $1" decodes "$room/$1"
     holds "poller by $1" polls "$room/$1"

@@ -125,7 +125,23 @@ class Messages(unittest.TestCase):
 
 class Ends(unittest.TestCase):
     def test_module_and_poller(self):
-        module, poller = fio2070.Module(id=2), fio2070.Poller(5)
+        for module in [fio2070.Module(id=2), fio2070.SizedModule(1, id=2)]:
+            with self.subTest(type(module).__name__):
+                self.answer_a_poller(module)
+
+    def test_sized_module(self):
+        # Four transitions of inputs 0 and 1 where three may wait: the first is pushed out.
+        module = fio2070.SizedModule(3)
+        module.receive(encode.configure_inputs([ConfigurationItem(input, False, 1, 1) for input in (0, 1)]))
+        module.scan(2**64 - 4)
+        module.scan(2**64 - 1)
+        self.assertEqual(module.waiting, 3)
+        self.assertEqual(module.receive(encode.poll(7)).hex(), 'b607030100018000028100020400000002')
+        self.assertEqual(fio2070.SizedModule(0).receive(encode.poll(7)).hex(), 'b607000000000000')
+        self.assertRaises(ValueError, fio2070.SizedModule, -1)
+
+    def answer_a_poller(self, module):
+        poller = fio2070.Poller(5)
         self.assertEqual(module.receive(encode.identify()), b'\xbc\2')
         self.assertIsNone(module.receive(b'\x38'))
         self.assertEqual(module.receive(encode.configure_inputs([ConfigurationItem(12, False, 1, 1)])), b'\xb3\0')

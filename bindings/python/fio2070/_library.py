@@ -100,6 +100,11 @@ class CModule(ctypes.Structure):
     _fields_ = [('words', c_uint64 * 514)]
 
 
+class CSizedModule(ctypes.Structure):
+    """The octets of struct fio2070_sized_module."""
+    _fields_ = [('words', c_uint64 * 132)]
+
+
 library = _load()
 
 
@@ -164,3 +169,19 @@ _declare('module_raw', c_uint64, POINTER(CModule))
 _declare('module_flags', c_uint8, POINTER(CModule))
 _declare('module_errors', CErrorCounts, POINTER(CModule))
 _declare('module_waiting', c_size_t, POINTER(CModule))
+_RING = (POINTER(c_uint8 * 3), c_size_t)
+_declare('sized_module_start', c_uint8, POINTER(CSizedModule), c_uint8, c_uint8)
+_declare('sized_module_restart', None, POINTER(CSizedModule))
+_declare('sized_module_scan', None, POINTER(CSizedModule), *_RING, c_uint64)
+_declare('sized_module_line_sync', None, POINTER(CSizedModule))
+_declare('sized_module_raise', None, POINTER(CSizedModule), c_uint8)
+_declare('sized_module_receive', c_size_t, POINTER(CSizedModule), *_RING, *_OCTETS, POINTER(c_uint8))
+_declare('sized_module_set_errors', None, POINTER(CSizedModule), c_uint8, c_uint8)
+_declare('sized_module_outputs', COutputs, POINTER(CSizedModule))
+_declare('sized_module_watchdog_ms', c_uint8, POINTER(CSizedModule))
+_declare('sized_module_counter', c_uint32, POINTER(CSizedModule))
+_declare('sized_module_filtered', c_uint64, POINTER(CSizedModule))
+_declare('sized_module_raw', c_uint64, POINTER(CSizedModule))
+_declare('sized_module_flags', c_uint8, POINTER(CSizedModule))
+_declare('sized_module_errors', CErrorCounts, POINTER(CSizedModule))
+_declare('sized_module_waiting', c_size_t, POINTER(CSizedModule), c_size_t)

@@ -6,3 +6,4 @@ pub mod Replies
 pub mod Checkers
 pub mod Calls
 mod Errors
+mod Started

@@ -4,5 +4,6 @@ pub mod Flat
 pub mod Hearing
 pub mod Checkers
 pub mod Module
+pub mod SizedModule
 pub mod Calls
 pub mod Version

@@ -2,13 +2,12 @@
 use Rattle.std.specs.Prelude.{◌≡◌, ℕ, List, [], ◌∷◌, replicate, Option, Some}
 use Rattle.fio_message.specs.declared.answers.Answer.{Answer}
 use Rattle.fio_message.specs.declared.answers.Answer.TheVariants as answers
-use Rattle.fio_message.specs.declared.commands.Command.{Command}
 use Rattle.fio_module.specs.Settings.{Settings}
 use Rattle.fio_module.specs.Life as lives
-use Rattle.fio_module.specs.Life.{Life, Commanded, Restart, life_of}
+use Rattle.fio_module.specs.Life.{Restart}
 use Rattle.fio_module.specs.Rings.{empty_ring, held_in}
-use Rattle.fio_module.specs.Replies.{answer_to, reply_to}
-use Rattle.fio_module.specs.State.{IsAfter, IsAfterHistory, state_at_start}
+use Rattle.fio_module.specs.Replies.{reply_to}
+use Rattle.fio_module.specs.State.{IsAfterHistory, state_at_start}
 use Rattle.fio_c.specs.Written.{WritesAnswer}
 use Rattle.fio_c.specs.declared.module.ErrorCounts.{ErrorCounts}
 use Rattle.fio_c.specs.declared.module.Module.{Module}
@@ -74,15 +73,3 @@ abbrev pub Replies : List ℕ → Module → List ℕ → List ℕ → ℕ → T
 Replies octets old before after count = (settings : Settings) (history : History)
     → IsModuleAfter settings old history
     → WritesAnswer (reply_after settings history octets) before after count
-
--- After a command the module has had it too, with the error counts of before, and the answer to it is
--- written. A private step cites it: the exports speak of histories.
-pub record Commands (old new : Module) (command : Command) (before after : List ℕ) (count : ℕ)
-    : Type 0 where
-  pub stands :
-      (settings : Settings) (life : Life) → IsAfter settings old.state (held_in old.waiting) life
-      → IsAfter settings new.state (held_in new.waiting) (Commanded command ∷ life)
-  pub errors : new.errors ≡ old.errors
-  pub reply :
-      (settings : Settings) (life : Life) → IsAfter settings old.state (held_in old.waiting) life
-      → WritesAnswer (with_errors old.errors (answer_to settings life command)) before after count

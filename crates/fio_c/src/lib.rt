@@ -13,17 +13,18 @@
 //! | write what `show` writes of a message | `fio2070_show`, `fio2070_show_length` |
 //! | judge what the CPU's end sends and hears | `fio2070_checker_..`, `fio2070_content_..` |
 //! | be the CPU's end | `fio2070_poller_poll`, `fio2070_poller_hear` |
-//! | be the module | `fio2070_module_..` |
+//! | be the module | `fio2070_module_..`; with another limit of waiting entries, `fio2070_sized_module_..` |
 //! | say which library it is | `fio2070_version` |
 //! | use its parts | `fio2070_counter_..`, `fio2070_filters_..`, `fio2070_widen` |
 //!
 //! The definitions stand in `specs/`: faults and what reading does (`Faults`), octets and lists in
 //! the caller's arrays (`Written`), flat forms of commands, answers and blocks (`Flat`), what a
-//! poller does (`Hearing`), which history a module stands for (`Module`), what a caller of both ends does (`Calls`),
+//! poller does (`Hearing`), which history a module stands for (`Module`, `SizedModule`), what a caller of both ends does (`Calls`),
 //! versions (`Version`).
 #![tactic(auto)]
 
 mod answer_frames;
+mod answering;
 mod answers;
 mod blocks;
 mod checker;
@@ -37,5 +38,6 @@ pub mod laws;
 mod module;
 mod poller;
 mod show;
+mod sized_module;
 mod version;
 mod written;

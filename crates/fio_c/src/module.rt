@@ -2,17 +2,16 @@
 ghost use Rattle.std.specs.Prelude.{◌≡◌, ◌≢◌, ◌<◌, ◌-◌, ℕ, List, ◌∷◌, [], length, min, unwrap_or};
 ghost use Rattle.fio_message.specs.declared.limits.TheConstants.{INPUTS};
 ghost use Rattle.fio_message.specs.Bits.{is_set};
-ghost use Rattle.fio_message.specs.Views.{command_of};
 ghost use Rattle.fio_input.specs.FilterHistory.{input_state, raw_levels};
 ghost use Rattle.fio_module.specs.Settings.{Settings};
 ghost use Rattle.fio_module.specs.Life.{Scan, LineSync, Raise, Received, Restart, life_of, counter_of, filter_events};
 ghost use Rattle.fio_module.specs.Log.{log_of};
 ghost use Rattle.fio_module.specs.Blocks.{newest_end};
 ghost use Rattle.fio_module.specs.Flags.{flags_of, watchdog_of, outputs_of};
-ghost use Rattle.fio_c.specs.Module.{Commands, ErrorsSet, AddsEvent, History, IsModuleAfter, Reached, Replies, errors_of, module_at_start, events_reached, settings_of};
+ghost use Rattle.fio_c.specs.Module.{ErrorsSet, AddsEvent, History, IsModuleAfter, Reached, Replies, errors_of, module_at_start, events_reached, settings_of};
 
-use crate::written::write_front;
-use fio_message::{CommandView, FRAME_OCTETS, Frame, read_command};
+use crate::answering::answer;
+use fio_message::FRAME_OCTETS;
 use fio_module::{ArrayRing, EntryRing, Limits, ModuleState, Outputs};
 
 /// How many entries may wait.
@@ -42,7 +41,7 @@ pub struct ErrorCounts {
 }
 
 /// The error counts at the start, and after a restart (own profile).
-const NO_ERRORS: ErrorCounts = ErrorCounts {
+pub(crate) const NO_ERRORS: ErrorCounts = ErrorCounts {
     receive: 0,
     transmit: 0,
 };
@@ -129,39 +128,13 @@ pub extern "C" fn fio2070_module_receive(
     ensures stands { AddsEvent (Reached (Received octets.now)) device.old device.new }
     ensures reply { Replies octets.now device.old out.old out.new result }
 {
-    match read_command(octets) {
-        Ok(CommandView::Poll { block }) => {
-            device.state.poll(&mut device.waiting, block);
-            write_front(device.state.block(), out)
-        }
-        Ok(command) => obey(device, command, out),
-        Err(_) => 0,
-    }
-}
-
-/// Carries out any command, and writes the answer. It stands apart, since its room for an answer is
-/// cleared at its entry, and a poll needs none.
-#[inline(never)]
-fn obey(device: &mut Module, command: CommandView<'_>, out: &mut [u8; FRAME_OCTETS]) -> usize
-    ensures { Commands device.old device.new (command_of command.entry) out.old out.new result }
-{
-    let mut frame = Frame::new();
-    match command {
-        CommandView::Status { clear } => {
-            let ErrorCounts { receive, transmit } = device.errors;
-            device
-                .state
-                .tell_status(clear, receive, transmit, &mut frame);
-            write_front(frame.as_slice(), out)
-        }
-        other => {
-            if device.state.obey(&mut device.waiting, other, &mut frame) {
-                write_front(frame.as_slice(), out)
-            } else {
-                0
-            }
-        }
-    }
+    answer(
+        &mut device.state,
+        &mut device.waiting,
+        &device.errors,
+        octets,
+        out,
+    )
 }
 
 /// As `fio_module::ModuleState::flags`.

@@ -40,15 +40,17 @@ impl ModuleState {
     ghost use Rattle.fio_message.specs.Bits.{is_set};
     ghost use Rattle.fio_message.specs.declared.limits.TheConstants.{INPUTS};
     ghost use Rattle.fio_input.specs.FilterHistory.{input_state, raw_levels};
-    ghost use Rattle.fio_module.specs.Settings.{Settings, settings_with};
+    ghost use Rattle.fio_module.specs.Settings.{Settings};
     ghost use Rattle.fio_module.specs.Life.{History, Scan, LineSync, Raise, Restart, life_of, counter_of, filter_events};
     ghost use Rattle.fio_module.specs.Flags.{flags_of, watchdog_of, outputs_of};
     ghost use Rattle.fio_module.specs.State.{IsAfter, IsAfterHistory, state_at_start};
 
-    /// A module with these limits whose ring is empty.
+    /// A module with these limits whose ring is empty, whatever room that has.
     #[tactic(auto, unfolding(crate::specs::Flags::word_of))]
     pub fn new(id: u8, limits: Limits) -> ModuleState
-        ensures life { IsAfter (settings_with id limits) result (buffer [] limits.waiting) [] }
+        ensures life { (waiting : ℕ)
+            → IsAfter (record { id = id; per_block = limits.per_block; waiting = waiting })
+            result (buffer [] waiting) [] }
         ensures cleared { result ≡ state_at_start id limits.per_block }
     {
         ModuleState {
@@ -66,27 +68,38 @@ impl ModuleState {
     }
 
     /// As `Module::restart`.
-    #[tactic(auto, unfolding(crate::specs::Flags::word_of))]
     pub fn restart<R: EntryRing>(&mut self, ring: &mut R)
-        ensures { (settings : Settings) (history : History)
+        ensures carried { (settings : Settings) (history : History)
             → IsAfterHistory settings self.old (R.held ring.old) history
             → IsAfterHistory settings self.new (R.held ring.new) (Restart ∷ history) }
+        ensures same_memory { R.memory ring.new ≡ R.memory ring.old }
+    {
+        self.start_anew();
+        ring.clear();
+    }
+
+    /// As `Module::restart`, but that the caller clears the ring.
+    #[tactic(auto, unfolding(crate::specs::Flags::word_of))]
+    pub fn start_anew(&mut self)
+        ensures { (settings : Settings) (ring : Buffer (List ℕ)) (history : History)
+            → IsAfterHistory settings self.old ring history
+            → IsAfterHistory settings self.new (buffer [] ring.capacity) (Restart ∷ history) }
     {
         self.counter = Counter::new();
         self.filters = Filters::new();
         self.flags = RESET;
         self.watchdog = 0;
         self.outputs = Outputs::OFF;
-        ring.clear();
         self.pushed_out = 0;
         self.sent = KeptBlock::new();
     }
 
     /// As `Module::scan`.
     pub fn scan<R: EntryRing>(&mut self, ring: &mut R, raw: u64)
-        ensures { (settings : Settings) (history : History)
+        ensures carried { (settings : Settings) (history : History)
             → IsAfterHistory settings self.old (R.held ring.old) history
             → IsAfterHistory settings self.new (R.held ring.new) (Scan raw ∷ history) }
+        ensures same_memory { R.memory ring.new ≡ R.memory ring.old }
     {
         self.counter.tick();
         let changed = self.filters.scan(raw);

@@ -83,9 +83,10 @@ static void has_values() {
     CHECK(poller.record().empty() && poller.number() == 6);
 }
 
+template <typename Module>
 static void polls_a_module() {
-    CHECK(!fio2070::Module::start(2, 0));
-    auto module = fio2070::Module::start(2);
+    CHECK(!Module::start(2, 0));
+    auto module = Module::start(2);
     fio2070::Poller poller(5);
     CHECK(module && !module->watchdog_ms() && module->filtered() == ~std::uint64_t(0));
     const fio2070::ConfigurationItem item[] = {{12, 0, 1, 1}};
@@ -122,6 +123,21 @@ static void polls_a_module() {
     CHECK(module->counter() == 0 && module->outputs().levels[7] == 0);
 }
 
+/* Four transitions of inputs 0 and 1 where three may wait: the first is pushed out. */
+static void has_little_room() {
+    auto module = fio2070::SizedModule<3>::start(2);
+    const fio2070::ConfigurationItem items[] = {{0, 0, 1, 1}, {1, 0, 1, 1}};
+    module->receive(*fio2070::encode::configure_inputs(items));
+    module->scan(~std::uint64_t(3));
+    module->scan(~std::uint64_t(0));
+    CHECK(module->waiting() == 3);
+    auto moved = module;
+    module.reset();
+    CHECK(octets(*moved->receive(fio2070::encode::poll(7))) ==
+          List({0xb6, 7, 3, 1, 0, 1, 0x80, 0, 2, 0x81, 0, 2, 4, 0, 0, 0, 2}));
+    CHECK(moved->waiting() == 0);
+}
+
 static void has_parts() {
     fio2070::Counter counter;
     counter.tick();
@@ -155,7 +171,9 @@ static void judges_content() {
 int main() {
     reads_and_writes();
     has_values();
-    polls_a_module();
+    polls_a_module<fio2070::Module>();
+    polls_a_module<fio2070::SizedModule<1>>();
+    has_little_room();
     has_parts();
     judges_content();
     std::printf("%d passed, %d failed\n", passed, failed);

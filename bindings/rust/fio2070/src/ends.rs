@@ -2,7 +2,7 @@
 
 use crate::raw::{
     self, Breach, ConfigurationItem, ContentBreach, ErrorCounts, Fault, Outputs, RawChecker,
-    RawContentChecker, RawCounter, RawFilters, RawModule, RawPoller, RecordItem,
+    RawContentChecker, RawCounter, RawFilters, RawModule, RawPoller, RawSizedModule, RecordItem,
 };
 use crate::LONGEST_FRAME;
 
@@ -311,5 +311,117 @@ impl Module {
     /// How many entries wait for a poll.
     pub fn waiting(&self) -> usize {
         unsafe { raw::fio2070_module_waiting(&self.0) }
+    }
+}
+
+/// A field I/O module of which `CAPACITY` entries may wait.
+#[derive(Clone)]
+pub struct SizedModule<const CAPACITY: usize> {
+    raw: RawSizedModule,
+    ring: [[u8; 3]; CAPACITY],
+}
+
+impl<const CAPACITY: usize> SizedModule<CAPACITY> {
+    /// It answers `id` to command 60; its blocks have at most `per_block` entries. `None` where that is 0.
+    pub fn new(id: u8, per_block: u8) -> Option<Self> {
+        let mut raw = RawSizedModule([0; 132]);
+        match unsafe { raw::fio2070_sized_module_start(&mut raw, id, per_block) } {
+            0 => Some(SizedModule {
+                raw,
+                ring: [[0; 3]; CAPACITY],
+            }),
+            _ => None,
+        }
+    }
+
+    /// Starts anew with the same id and per_block.
+    pub fn restart(&mut self) {
+        unsafe { raw::fio2070_sized_module_restart(&mut self.raw) }
+    }
+
+    /// Steps the counter by one millisecond, and samples each input; bit i of `raw` is input i.
+    pub fn scan(&mut self, raw: u64) {
+        unsafe {
+            raw::fio2070_sized_module_scan(&mut self.raw, self.ring.as_mut_ptr(), CAPACITY, raw)
+        }
+    }
+
+    /// LINESYNC goes from 0 to 1: a load of the counter that was asked for happens now.
+    pub fn line_sync(&mut self) {
+        unsafe { raw::fio2070_sized_module_line_sync(&mut self.raw) }
+    }
+
+    /// Sets the flags whose bits are one.
+    pub fn raise(&mut self, mask: u8) {
+        unsafe { raw::fio2070_sized_module_raise(&mut self.raw, mask) }
+    }
+
+    /// Sets the error counts that the answer 177 has from now on.
+    pub fn set_errors(&mut self, receive: u8, transmit: u8) {
+        unsafe { raw::fio2070_sized_module_set_errors(&mut self.raw, receive, transmit) }
+    }
+
+    /// The answer to a frame, written to the front of `out`; `None` where there is none.
+    pub fn receive<'a>(
+        &mut self,
+        octets: &[u8],
+        out: &'a mut [u8; LONGEST_FRAME],
+    ) -> Option<&'a [u8]> {
+        match unsafe {
+            raw::fio2070_sized_module_receive(
+                &mut self.raw,
+                self.ring.as_mut_ptr(),
+                CAPACITY,
+                octets.as_ptr(),
+                octets.len(),
+                out,
+            )
+        } {
+            0 => None,
+            count => out.get(..count),
+        }
+    }
+
+    /// What the outputs are set to.
+    pub fn outputs(&self) -> Outputs {
+        unsafe { raw::fio2070_sized_module_outputs(&self.raw) }
+    }
+
+    /// The timeout of the watchdog in milliseconds, `None` before the first command 58.
+    pub fn watchdog_ms(&self) -> Option<u8> {
+        match unsafe { raw::fio2070_sized_module_watchdog_ms(&self.raw) } {
+            0 => None,
+            timeout => Some(timeout),
+        }
+    }
+
+    /// The milliseconds counted, modulo 2^32.
+    pub fn counter(&self) -> u32 {
+        unsafe { raw::fio2070_sized_module_counter(&self.raw) }
+    }
+
+    /// The filtered states, also of ignored inputs.
+    pub fn filtered(&self) -> u64 {
+        unsafe { raw::fio2070_sized_module_filtered(&self.raw) }
+    }
+
+    /// The levels of the last scan, all 1 before any.
+    pub fn raw(&self) -> u64 {
+        unsafe { raw::fio2070_sized_module_raw(&self.raw) }
+    }
+
+    /// The flags that are up.
+    pub fn flags(&self) -> u8 {
+        unsafe { raw::fio2070_sized_module_flags(&self.raw) }
+    }
+
+    /// The error counts that the answer 177 has.
+    pub fn errors(&self) -> ErrorCounts {
+        unsafe { raw::fio2070_sized_module_errors(&self.raw) }
+    }
+
+    /// How many entries wait for a poll.
+    pub fn waiting(&self) -> usize {
+        unsafe { raw::fio2070_sized_module_waiting(&self.raw, CAPACITY) }
     }
 }

@@ -160,6 +160,10 @@ pub(crate) struct RawFilters(pub [u64; 27]);
 #[repr(C)]
 pub(crate) struct RawModule(pub [u64; 514]);
 
+#[derive(Clone)]
+#[repr(C)]
+pub(crate) struct RawSizedModule(pub [u64; 132]);
+
 extern "C" {
     pub(crate) fn fio2070_fault_text(fault: &Fault, out: *mut u8, room: usize) -> usize;
     pub(crate) fn fio2070_decode_command(
@@ -338,4 +342,39 @@ extern "C" {
     pub(crate) fn fio2070_module_counter(module: &RawModule) -> u32;
     pub(crate) fn fio2070_module_filtered(module: &RawModule) -> u64;
     pub(crate) fn fio2070_module_waiting(module: &RawModule) -> usize;
+    pub(crate) fn fio2070_sized_module_start(
+        module: &mut RawSizedModule,
+        id: u8,
+        per_block: u8,
+    ) -> u8;
+    pub(crate) fn fio2070_sized_module_restart(module: &mut RawSizedModule);
+    pub(crate) fn fio2070_sized_module_scan(
+        module: &mut RawSizedModule,
+        ring: *mut [u8; 3],
+        capacity: usize,
+        raw: u64,
+    );
+    pub(crate) fn fio2070_sized_module_line_sync(module: &mut RawSizedModule);
+    pub(crate) fn fio2070_sized_module_raise(module: &mut RawSizedModule, mask: u8);
+    pub(crate) fn fio2070_sized_module_receive(
+        module: &mut RawSizedModule,
+        ring: *mut [u8; 3],
+        capacity: usize,
+        octets: *const u8,
+        length: usize,
+        out: &mut [u8; 773],
+    ) -> usize;
+    pub(crate) fn fio2070_sized_module_set_errors(
+        module: &mut RawSizedModule,
+        receive: u8,
+        transmit: u8,
+    );
+    pub(crate) fn fio2070_sized_module_raw(module: &RawSizedModule) -> u64;
+    pub(crate) fn fio2070_sized_module_flags(module: &RawSizedModule) -> u8;
+    pub(crate) fn fio2070_sized_module_errors(module: &RawSizedModule) -> ErrorCounts;
+    pub(crate) fn fio2070_sized_module_outputs(module: &RawSizedModule) -> Outputs;
+    pub(crate) fn fio2070_sized_module_watchdog_ms(module: &RawSizedModule) -> u8;
+    pub(crate) fn fio2070_sized_module_counter(module: &RawSizedModule) -> u32;
+    pub(crate) fn fio2070_sized_module_filtered(module: &RawSizedModule) -> u64;
+    pub(crate) fn fio2070_sized_module_waiting(module: &RawSizedModule, capacity: usize) -> usize;
 }

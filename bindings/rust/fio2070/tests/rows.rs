@@ -176,6 +176,48 @@ fn faults_have_words() {
     assert_eq!(words(&[0x33]), "wrong length needed 2 got 1");
 }
 
+/// Four transitions of inputs 0 and 1 where three may wait: the first is pushed out.
+#[test]
+fn a_sized_module_keeps_the_latest_entries() {
+    assert!(SizedModule::<3>::new(2, 0).is_none());
+    let mut module = SizedModule::<3>::new(2, 255).unwrap();
+    let mut out = [0; LONGEST_FRAME];
+    let configuration = [0x33, 2, 0, 1, 1, 1, 1, 1];
+    assert_eq!(
+        module.receive(&configuration, &mut out),
+        Some(&[0xb3, 0][..])
+    );
+    module.scan(!3);
+    module.scan(!0);
+    assert_eq!((module.waiting(), module.counter()), (3, 2));
+    assert_eq!((module.filtered(), module.raw()), (!0, !0));
+    let mut moved = module.clone();
+    module.restart();
+    assert_eq!((module.waiting(), module.flags()), (0, 0x80));
+    assert_eq!(
+        moved.receive(&[0x36, 7], &mut out),
+        Some(&[0xb6, 7, 3, 1, 0, 1, 0x80, 0, 2, 0x81, 0, 2, 4, 0, 0, 0, 2][..])
+    );
+    moved.raise(1);
+    moved.set_errors(3, 4);
+    assert_eq!(
+        moved.receive(&[0x31, 0], &mut out),
+        Some(&[0xb1, 0x81, 3, 4, 0, 0, 0, 2][..])
+    );
+    assert_eq!((moved.errors().receive, moved.errors().transmit), (3, 4));
+    assert_eq!(moved.receive(&[0x3a, 200], &mut out), Some(&[0xba, 0][..]));
+    assert_eq!(
+        (moved.watchdog_ms(), module.watchdog_ms()),
+        (Some(100), None)
+    );
+    assert_eq!(moved.outputs().levels, [0; 8]);
+    moved.receive(&[0x32, 0, 0, 0, 9], &mut out);
+    moved.line_sync();
+    assert_eq!(moved.counter(), 9);
+    let mut none = SizedModule::<0>::new(2, 255).unwrap();
+    assert_eq!(none.receive(&[0x3c], &mut out), Some(&[0xbc, 2][..]));
+}
+
 #[test]
 fn a_poller_polls_a_module() {
     let (mut out, mut items) = (

@@ -1,5 +1,5 @@
 //! The commands that a module carries out, and its answers.
-ghost use Rattle.std.specs.Prelude.{ℕ, List, ◌∷◌, Some};
+ghost use Rattle.std.specs.Prelude.{◌≡◌, ℕ, List, ◌∷◌, Some};
 ghost use Rattle.circular_buffer.specs.Buffer.{Buffer};
 ghost use Rattle.fio_message.specs.Views.{command_of, items_of};
 ghost use Rattle.fio_message.specs.declared.commands.Command.TheVariants as commands;
@@ -30,8 +30,9 @@ impl ModuleState {
         command: CommandView<'_>,
         frame: &mut Frame,
     ) -> bool
-        ensures { Obeys self.old (R.held ring.old) self.new (R.held ring.new)
+        ensures obeyed { Obeys self.old (R.held ring.old) self.new (R.held ring.new)
             (command_of command.entry) (frame_if result frame.new) }
+        ensures same_memory { R.memory ring.new ≡ R.memory ring.old }
     {
         match command {
             CommandView::Status { clear } => self.tell_status(clear, 0, 0, frame),

@@ -25,8 +25,9 @@ impl ModuleState {
     // Not inlined, as two ways lead to it: a poll alone, and any command.
     #[inline(never)]
     pub fn poll<R: EntryRing>(&mut self, ring: &mut R, number: u8)
-        ensures { Obeys self.old (R.held ring.old) self.new (R.held ring.new)
+        ensures obeyed { Obeys self.old (R.held ring.old) self.new (R.held ring.new)
             (Poll number) (Some (sent_frame self.new)) }
+        ensures same_memory { R.memory ring.new ≡ R.memory ring.old }
     {
         if is_new(self.sent.number(), number) {
             self.send_new(ring, number);
@@ -36,11 +37,12 @@ impl ModuleState {
     }
 
     fn send_new<R: EntryRing>(&mut self, ring: &mut R, number: u8)
-        ensures { (settings : Settings) (life : Life)
+        ensures carried { (settings : Settings) (life : Life)
             → IsAfter settings self.old (R.held ring.old) life
             → blocks.is_new (latest_poll life) number ≡ true
             → IsAfter settings self.new (R.held ring.new)
             (Commanded (Poll number) ∷ life) }
+        ensures same_memory { R.memory ring.new ≡ R.memory ring.old }
     {
         let out_of_sequence = is_out_of_sequence(self.sent.number(), number);
         let per_block = usize::from(self.per_block);

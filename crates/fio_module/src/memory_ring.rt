@@ -1,0 +1,130 @@
+//! A ring of entries in an array of the caller.
+ghost use Rattle.std.specs.Prelude.{◌≡◌, ◌+◌, ◌<◌, ◌≤◌, [], ◌∷◌, List, ℕ, length};
+ghost use Rattle.fio_module.specs.Rings.{empty_place, entries_in, first_in, ring_in};
+
+use crate::ring::EntryRing;
+use fio_message::EntryOctets;
+
+/// Where in its array a ring has its entries. Any octets are such a place.
+#[derive(Clone, Copy, Debug)]
+#[repr(C)]
+pub struct RingPlace {
+    /// The index of the oldest entry; one that the array does not have is taken as 0.
+    first: u64,
+    /// How many entries there are; more than the array's length is taken as that.
+    count: u64,
+}
+
+impl Default for RingPlace {
+    ghost is_default = { λ place. place ≡ empty_place };
+
+    fn default() -> Self {
+        Self::new()
+    }
+}
+
+impl RingPlace {
+    /// The place of a ring with no entries, in whatever array.
+    pub fn new() -> RingPlace
+        ensures none { (slots : List (List ℕ)) → entries_in result slots ≡ [] }
+        ensures cleared { result ≡ empty_place }
+    {
+        RingPlace { first: 0, count: 0 }
+    }
+
+    /// How many entries there are in an array of this length.
+    pub fn len(&self, capacity: usize) -> usize
+        ensures { (slots : List (List ℕ)) → length slots ≡ capacity
+            → result ≡ length (entries_in self.now slots) }
+    {
+        (self.count as usize).min(capacity)
+    }
+}
+
+/// A ring in an array of the caller, whose length is its capacity. It takes no memory of its own.
+/// Whatever the array and the place have in them is a ring. With capacity 0 each entry is pushed
+/// out at once.
+#[derive(Debug, Drop)]
+pub struct MemoryRing<'a> {
+    entries: &'a mut [EntryOctets],
+    place: &'a mut RingPlace,
+}
+
+impl<'a> MemoryRing<'a> {
+    /// The ring that this array has at this place.
+    pub fn new(entries: &'a mut [EntryOctets], place: &'a mut RingPlace) -> MemoryRing<'a>
+        ensures same_entries { result.entries.ghost_name ≡ entries.entry.ghost_name }
+        ensures same_place { result.place.ghost_name ≡ place.entry.ghost_name }
+        ensures entries { result.entries.now ≡ entries.old }
+        ensures place { result.place.now ≡ place.old }
+    {
+        MemoryRing { entries, place }
+    }
+
+    /// The index of the oldest entry.
+    fn first(&self) -> usize
+        ensures { result ≡ first_in self.now.place.now.first (length self.now.entries.now) }
+    {
+        let first = self.place.first as usize;
+        if first < self.entries.len() { first } else { 0 }
+    }
+}
+
+/// The index so many steps, at most `room`, behind another one: index `room` is index 0 again.
+fn index_behind(first: usize, steps: usize, room: usize) -> usize
+    requires { first ≤ room }
+    ensures straight { first + steps < room → result ≡ first + steps }
+    ensures wrapped { room ≤ first + steps → room + result ≡ first + steps }
+{
+    let straight = room - first;
+    if steps < straight {
+        first + steps
+    } else {
+        steps - straight
+    }
+}
+
+impl EntryRing for MemoryRing<'_> {
+    ghost held = { λ ring. ring_in ring.place.now ring.entries.now };
+
+    ghost memory = { λ ring. ring.entries.ghost_name ∷ ring.place.ghost_name ∷ [] };
+
+    fn len(&self) -> usize {
+        self.place.len(self.entries.len())
+    }
+
+    fn push(&mut self, entry: EntryOctets) -> bool {
+        let room = self.entries.len();
+        if room == 0 {
+            return true;
+        }
+        let first = self.first();
+        let count = self.len();
+        self.entries[index_behind(first, count, room)] = entry;
+        if count < room {
+            self.place.count = (count + 1) as u64;
+            false
+        } else {
+            self.place.first = index_behind(first, 1, room) as u64;
+            true
+        }
+    }
+
+    fn parts(&self) -> (&[EntryOctets], &[EntryOctets]) {
+        let count = self.len();
+        let (wrapped, straight) = self.entries.split_at(self.first());
+        let from_first = straight.len().min(count);
+        (&straight[..from_first], &wrapped[..count - from_first])
+    }
+
+    fn remove_front(&mut self, count: usize) {
+        let held = self.len();
+        let removed = count.min(held);
+        self.place.first = index_behind(self.first(), removed, self.entries.len()) as u64;
+        self.place.count = (held - removed) as u64;
+    }
+
+    fn clear(&mut self) {
+        self.place.count = 0;
+    }
+}
