@@ -32,7 +32,8 @@ export class PlanView {
       element('table', { class: 'answers' }, element('thead', {}, headRow(HEADS)), element('tbody', {}, this.row))),
     element('p', { class: 'soft' }, 'A scan comes once a millisecond. A clean round is a poll that reaches the module and its answer '
       + 'that reaches the CPU before the CPU polls again. The numbers hold from a time on at which '
-      + 'the CPU has taken every block and nothing waits, until the next configuration, load of the counter or restart. '
+      + 'the CPU has taken every block and nothing waits, until the next load of the counter or restart, while '
+      + 'configurations open no more inputs, with no shorter filters. '
       + 'The clauses are proved; these formulas restate docs/PLANNING.md.'));
     this.draw();
   }
