@@ -19,7 +19,7 @@ use Rattle.fio_module.specs.Log.{Transition, entry_of}
 use Rattle.fio_module.specs.Blocks.{MadeBlock, blocks_of}
 use Rattle.fio_check.specs.Facts.{facts_with}
 use Rattle.fio_check.specs.Observations.{answer_type_to, is_absent, observation_in, observation_of}
-use Rattle.fio_check.specs.Rules.{breaks, first_broken, is_overfull}
+use Rattle.fio_check.specs.Rules.{first_broken, is_overfull}
 use Rattle.fio_check.specs.declared.rules.Rule.TheVariants as tried
 use Rattle.fio_check.specs.declared.facts.Facts.{Facts}
 use Rattle.fio_check.specs.declared.observation.Observation.TheVariants as seen
