@@ -1,4 +1,4 @@
-use Rattle.std.proofs.Common.{◌≡◌, [], List, ℕ, ap, sym, subst, ◌∙◌}
+use Rattle.std.proofs.Common.{◌≡◌, [], List, ℕ, sym, subst}
 use Rattle.circular_buffer.specs.Buffer.{Buffer, buffer}
 use Rattle.fio_module.specs.Settings.{settings_with}
 use Rattle.fio_module.specs.State.{IsAfter}
@@ -6,8 +6,6 @@ use Rattle.fio_module.proofs.module.Module.with_limits.Goals as goal
 
 pub returns : goal.returns
 returns c =
-    let room = c.from.ensures ∙ c.waiting.ensures in
-    let ring : c.in_ok-with_capacity.field-0 ≡ buffer [] c.args.limits.waiting =
-    c.in_ok-with_capacity.ensures ∙ ap (λ room. buffer [] room) room in
+    let ring : c.in_ok-with_capacity.field-0 ≡ buffer [] c.args.limits.waiting = cc (c.in_ok-with_capacity.ensures) in
     subst (λ (ring : Buffer (List ℕ)). IsAfter (settings_with c.args.id c.args.limits) c.new.result ring [])
     (sym ring) (c.new.ensures.life c.args.limits.waiting)
