@@ -323,7 +323,7 @@ def wires(check, room):
     with ThreadPoolExecutor(len(BY_BOUNDS)) as threads:
         for fault in BY_BOUNDS:
             threads.submit(over, check, 'own clock: ' + fault, [
-                tester, '--own-clock', '--command', "%s wire '%s' clock" % (faulty, fault), '8000', '--first'], differs)
+                tester, '--own-clock', '--command', "%s wire '%s' clock" % (faulty, fault), '40000', '--first'], differs)
     for end in ('module', 'cpu'):
         over(check, 'the proved end: ' + end, [tester, '--self', end, '300000'], same)
     over(check, 'no such end', [tester, '--self', 'x'], (2, "can't open x"))
