@@ -69,7 +69,7 @@ FOUND_WITHIN = {
 # The most events of a script that was shrunk, but for faults that need long runs.
 SHORT = 60
 
-# Faults that are found over a wire in a module with a clock of its own, within 8,000 events.
+# Faults that are found over a wire in a module with a clock of its own, within 40,000 events.
 BY_BOUNDS = ['E is not set', 'a repeat has a new stamp', 'state of an entry is turned', '1 comes after 255',
              'entries of a scan come in descending order', 'C is not set', 'counter steps by two',
              'stamp of a block has 16 bits', 'answer 183 has a stamp of 0', 'ignored inputs are reported',
