@@ -79,6 +79,16 @@ def of_growth(bench, pair):
     return table(['Input', *heads], rows)
 
 
+def of_record(bench, program):
+    """Instructions of `check` and of `record` for blocks with so many entries."""
+    rows = []
+    for count in workloads.RECORDED:
+        path = bench.keep(f'record-{count}', workloads.recorded(count))
+        judged, kept = [millions(bench, program, word, path) for word in ('check', 'record')]
+        rows.append([str(count), *compared([kept, judged], 2)])
+    return table(['Entries of a block', '`record`, millions', '`check`', 'ratio'], rows)
+
+
 def of_profile(bench, program):
     """The functions that take most of the instructions of each input, a function with those that it has inlined."""
     rows = []

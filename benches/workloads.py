@@ -38,11 +38,20 @@ def block_answer(number, entries, status, stamp):
     return f'b6{number % 256:02x}{len(entries):02x}{"".join(entries)}{status:02x}{stamp % 2**32:08x}'
 
 
+def dense_entries(number, count):
+    """So many entries for each block, from scans at each of which all 64 inputs change."""
+    places = range(count * number, count * (number + 1))
+    return [entry(place % INPUTS, place // INPUTS % 2, place // INPUTS + 1) for place in places]
+
+
 def full_block(number):
-    """A block of 255 entries, from scans at each of which all 64 inputs change."""
-    places = range(BLOCK_ENTRIES * number, BLOCK_ENTRIES * (number + 1))
-    entries = [entry(place % INPUTS, place // INPUTS % 2, place // INPUTS + 1) for place in places]
-    return block_answer(number, entries, 8, 4 * number + 4)
+    """A block of 255 entries, after which more wait."""
+    return block_answer(number, dense_entries(number, BLOCK_ENTRIES), 8, 4 * number + 4)
+
+
+def whole_block(number, count):
+    """A block of so many entries, after which none waits."""
+    return block_answer(number, dense_entries(number, count), 0, count * (number + 1) // INPUTS + 1)
 
 
 def varied_block(chance, number):
@@ -108,11 +117,21 @@ def check_short(chance):
 
 def check_long(_chance):
     """Lines of `check`: polls, each answered by a full block."""
+    return polled(full_block)
+
+
+def polled(block):
+    """Lines of `check` and `record`: polls, each answered by such a block."""
     number = 0
     while True:
         yield f'> 36{number % 256:02x}'
-        yield '< ' + full_block(number)
+        yield '< ' + block(number)
         number += 1
+
+
+def recorded(count):
+    """A transcript of polls, each answered by a block of so many entries."""
+    return at_most(INPUT_LIMIT, polled(lambda number: whole_block(number, count)))
 
 
 def script(filters, events, limit):
@@ -182,6 +201,9 @@ LINES = {
     'check-short': check_short,
     'check-long': check_long,
 }
+
+# How many entries the blocks have for which `record` is compared with `check`.
+RECORDED = [0, 2, 20, BLOCK_ENTRIES]
 
 NAMES = [
     'show-short', 'show-long', 'show-varied', 'simulate-scans', 'simulate-idle', 'simulate-blocks', 'check-short',
