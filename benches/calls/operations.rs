@@ -68,6 +68,30 @@ fn decode_commands(frames: &Both<Frame>, count: u32, place: usize) -> u32 {
 }
 
 #[inline(never)]
+fn read_commands(frames: &Both<Frame>, count: u32, place: usize) -> u32 {
+    let mut sum = 0u32;
+    for turn in 0..count {
+        match &read_command(&frames[(turn % 2) as usize]) {
+            Ok(view) => sum = sum.wrapping_add(weight_of_command_view(view, place)),
+            Err(_) => {}
+        }
+    }
+    sum
+}
+
+#[inline(never)]
+fn read_answers(frames: &Both<Frame>, count: u32, place: usize) -> u32 {
+    let mut sum = 0u32;
+    for turn in 0..count {
+        match &read_answer(&frames[(turn % 2) as usize]) {
+            Ok(view) => sum = sum.wrapping_add(weight_of_answer_view(view, place)),
+            Err(_) => {}
+        }
+    }
+    sum
+}
+
+#[inline(never)]
 fn encode_commands(commands: &Both<Command>, count: u32, place: usize) -> u32 {
     let mut sum = 0u32;
     for turn in 0..count {

@@ -22,6 +22,23 @@ macro_rules! timed {
     }};
 }
 
+/// The other implementation has no borrowed messages: what is read is decoded.
+fn read_command(octets: &[u8]) -> Result<Command, DecodeError> {
+    decode_command(octets)
+}
+
+fn weight_of_command_view(command: &Command, place: usize) -> u32 {
+    weight_of_command(command, place)
+}
+
+fn read_answer(octets: &[u8]) -> Result<Answer, DecodeError> {
+    decode_answer(octets)
+}
+
+fn weight_of_answer_view(answer: &Answer, place: usize) -> u32 {
+    weight_of_answer(answer, place)
+}
+
 /// The other implementation has no such call.
 fn write_command(command: &Command, frame: &mut Frame) {
     *frame = encode_command(command);

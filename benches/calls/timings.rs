@@ -33,6 +33,8 @@ fn time_command(rt: &HostRuntime, name: &str, octets: &[u8], count: u32, place: 
         let commands = [first, second];
         let _ = decode_commands(&frames, count, place.wrapping_add(1));
         timed!(rt, "decode_command", name, count, decode_commands(&frames, count, place));
+        let _ = read_commands(&frames, count, place.wrapping_add(1));
+        timed!(rt, "read_command", name, count, read_commands(&frames, count, place));
         let _ = encode_commands(&commands, count, place.wrapping_add(1));
         timed!(rt, "encode_command", name, count, encode_commands(&commands, count, place));
         let mut frame = Frame::new();
@@ -48,6 +50,8 @@ fn time_answer(rt: &HostRuntime, name: &str, octets: &[u8], count: u32, place: u
         let answers = [first, second];
         let _ = decode_answers(&frames, count, place.wrapping_add(1));
         timed!(rt, "decode_answer", name, count, decode_answers(&frames, count, place));
+        let _ = read_answers(&frames, count, place.wrapping_add(1));
+        timed!(rt, "read_answer", name, count, read_answers(&frames, count, place));
         let _ = encode_answers(&answers, count, place.wrapping_add(1));
         timed!(rt, "encode_answer", name, count, encode_answers(&answers, count, place));
         let mut frame = Frame::new();
