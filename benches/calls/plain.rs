@@ -4,7 +4,8 @@ use fio2070::{cpu as fio_cpu, input as fio_input, message as fio_message, module
 use fio_cpu::{Heard, Poller};
 use fio_input::Filters;
 use fio_message::{
-    Answer, Command, DecodeError, Frame, decode_answer, decode_command, encode_answer, encode_command, read_block,
+    Answer, AnswerView, Command, CommandView, DecodeError, Frame, decode_answer, decode_command, encode_answer, encode_command,
+    read_answer, read_block, read_command,
 };
 use fio_module::Module;
 use fio_world::{CommandFrame, Event, World};
@@ -22,21 +23,41 @@ macro_rules! timed {
     }};
 }
 
-/// The other implementation has no borrowed messages: what is read is decoded.
-fn read_command(octets: &[u8]) -> Result<Command, DecodeError> {
-    decode_command(octets)
+fn weight_of_command_view(view: &CommandView<'_>, place: usize) -> u32 {
+    match view {
+        CommandView::Status { clear } => u32::from(*clear),
+        CommandView::LoadCounter { load } => *load,
+        CommandView::ConfigureInputs { items } => match items.iter().next() {
+            Some(item) => u32::from(item.leading),
+            None => 0,
+        },
+        CommandView::RawInputs => 1,
+        CommandView::FilteredInputs => 2,
+        CommandView::Poll { block } => u32::from(*block),
+        CommandView::SetOutputs { levels, controls } => match levels.get(place) {
+            Some(level) => u32::from(*level),
+            None => u32::from(controls[0]),
+        },
+        CommandView::Watchdog { timeout } => u32::from(*timeout),
+        CommandView::Identify => 3,
+        CommandView::Other { body, .. } => octet_at(body, place),
+    }
 }
 
-fn weight_of_command_view(command: &Command, place: usize) -> u32 {
-    weight_of_command(command, place)
-}
-
-fn read_answer(octets: &[u8]) -> Result<Answer, DecodeError> {
-    decode_answer(octets)
-}
-
-fn weight_of_answer_view(answer: &Answer, place: usize) -> u32 {
-    weight_of_answer(answer, place)
+fn weight_of_answer_view(view: &AnswerView<'_>, place: usize) -> u32 {
+    match view {
+        AnswerView::Status { flags, stamp, .. } => stamp.wrapping_add(u32::from(*flags)),
+        AnswerView::LoadCounter { status } => u32::from(*status),
+        AnswerView::ConfigureInputs { status } => u32::from(*status),
+        AnswerView::RawInputs { inputs, stamp } => stamp.wrapping_add(u32::from(inputs[2])),
+        AnswerView::FilteredInputs { inputs, stamp } => stamp.wrapping_add(u32::from(inputs[2])),
+        AnswerView::Block(block) => match block.entries().next() {
+            Some(entry) => block.stamp().wrapping_add(u32::from(entry.stamp)),
+            None => block.stamp(),
+        },
+        AnswerView::Watchdog { status } => u32::from(*status),
+        AnswerView::Other { body, .. } => octet_at(body, place),
+    }
 }
 
 /// The other implementation has no such call.
