@@ -112,7 +112,7 @@ def check_runs(check, folder):
         check.holds('of %d runs with an entry %s most are accused' % (SEEDS, change), 2 * count > SEEDS, count)
 
 
-# An entry of input 12 twice, below whatever stands above.
+# An entry of input 12 twice, below whatever is above.
 START, FIRST = '> 33020c05030d0503\n< b300\n', '> 3600\n< b600000000000000\n> 3601\n< b601010c000a000000000b\n'
 AGAIN = '> 3602\n< b602010c00140000000015\n'
 EARLIER = '> 3602\n< b602010d0009000000000c\n'

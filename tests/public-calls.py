@@ -43,7 +43,7 @@ def untouched(crate):
     sources = sources_of(crate)
     functions = [one for path, text in sources.items() for one in functions_of(path, text)]
     names = exported(sources, os.path.join(TOP, 'crates', crate, 'src', 'lib.rt'))
-    # Those for C are public wherever they stand.
+    # Those for C are public wherever they are.
     for text in sources.values():
         names.update(re.findall(r'^pub extern +fn (\w+)', without_words(text), re.M))
     touched = set()

@@ -10,7 +10,7 @@ DAMAGED = [
     ('a digit lost above whole ones', 'TX 0x36, 0x5\nRX 0xB3, 0x00\nTX 0x36, 0x07\n', 3, 'line 1 may be damaged: an octet has one digit'),
     ('the beginning lost', '07:15:02.100 RX B6 05 00 00 00 00 00 01\n' * 9 + '36 05\n', 9, 'may be cut'),
     ('half an escape', "sent b'\\xb3\\x00'\nsent b'\\xb3\\x0'\n", 1, ''),
-    ('an octet a row', 'Time [s],Value\n0.1,0x36\n0.100065,0x05\n0.2,0x34\n', 2, 'an octet stands in each row'),
+    ('an octet a row', 'Time [s],Value\n0.1,0x36\n0.100065,0x05\n0.2,0x34\n', 2, 'an octet is in each row'),
     ('an octet a row, one missing', 'Time [s],Value\n0.1,0x36\n0.100065,0x05\n0.2,0xBB\n0.200065,0x01\n0.200195,0x02\n', 1,
      'a row may be missing'),
     ('an octet a row, the first missing', 'name,start_time,data\n' + ''.join('%s,%.6f,0x%02X\n' % (name, time, octet) for name, time, octet in [

@@ -82,7 +82,7 @@ class Doubts:
     def words(self):
         """What stays doubtful in the whole log."""
         if self.has_rows:
-            yield 'an octet stands in each row: where a row is missing, the rest may spell another message'
+            yield 'an octet is in each row: where a row is missing, the rest may spell another message'
         if self.numbers:
             yield '%d frames have octets as numbers without zeros before them: a digit that is lost is not seen' % self.numbers
         if self.loose:

@@ -12,7 +12,7 @@ SOME = 32
 
 
 class Head(NamedTuple):
-    """What stands before the octets: the direction, and where the time and its seconds are."""
+    """What is before the octets: the direction, and where the time and its seconds are."""
     direction: str
     time: Optional[Tuple[int, int]]
     second: Optional[Tuple[int, int]]

@@ -40,7 +40,7 @@ pub(crate) fn answer<R: EntryRing>(
     }
 }
 
-/// Carries out any command, and writes the answer. It stands apart, since its room for an answer is
+/// Carries out any command, and writes the answer. It is apart, since its room for an answer is
 /// cleared at its entry, and a poll needs none.
 #[inline(never)]
 fn obey<R: EntryRing>(

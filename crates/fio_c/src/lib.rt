@@ -17,7 +17,7 @@
 //! | say which library it is | `fio2070_version` |
 //! | use its parts | `fio2070_counter_..`, `fio2070_filters_..`, `fio2070_widen` |
 //!
-//! The definitions stand in `specs/`: faults and what reading does (`Faults`), octets and lists in
+//! The definitions are in `specs/`: faults and what reading does (`Faults`), octets and lists in
 //! the caller's arrays (`Written`), flat forms of commands, answers and blocks (`Flat`), what a
 //! poller does (`Hearing`), which history a module stands for (`Module`, `SizedModule`), what a caller of both ends does (`Calls`),
 //! versions (`Version`).

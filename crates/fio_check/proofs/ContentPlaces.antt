@@ -1,4 +1,4 @@
--- What is kept event by event is what stands above the next event.
+-- What is kept event by event is what is above the next event.
 use Rattle.std.proofs.Common.{◌≡◌, ◌<◌, ◌≤◌, ◌∙◌, ℕ, zero, suc, inl, inr, Bool, true, false, List, Option, Some, None, refl, sym, ap, ap₂, arith}
 use Rattle.std.specs.Prelude.{◌==◌, if◌then◌else◌, is_some, nat_lt, not, option_map, option_and_then, slice_get}
 use Rattle.std.specs.Option.{option_or}

@@ -1,4 +1,4 @@
--- What is kept line by line is what stands above the next line.
+-- What is kept line by line is what is above the next line.
 use Rattle.std.proofs.Common.{◌≡◌, ℕ, suc, List, Some, refl}
 use Rattle.std.specs.Prelude.{◌==◌, not, slice_get}
 use Rattle.fio_check.specs.Facts.{facts_at, facts_with, latest_poll}

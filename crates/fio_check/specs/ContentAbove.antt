@@ -1,4 +1,4 @@
--- What stands above an event, as far as the rules on content read it.
+-- What is above an event, as far as the rules on content read it.
 use Rattle.std.specs.Prelude.{ℕ, ◌==◌, Bool, true, false, List, Option, Some, None, is_some, not, nat_lt, option_map, option_and_then, if◌then◌else◌}
 use Rattle.fio_message.specs.declared.fields.InputItem.{InputItem}
 use Rattle.fio_input.specs.FilterHistory.{last_item_of}
@@ -37,9 +37,9 @@ pub record ContentFacts : Type 0 where
   pub accepted : Bool
   -- the filters that the latest configuration sent has for an input, if it names the input
   pub filters : ℕ → Option FilterPair
-  -- the wide time of the entry before, if no gap mark stands below it
+  -- the wide time of the entry before, if no gap mark is below it
   pub before : Option ℕ
-  -- the latest entry of an input, if no gap mark stands below it
+  -- the latest entry of an input, if no gap mark is below it
   pub latest : ℕ → Option LatestEntry
 
 -- ---- what an event says
@@ -135,7 +135,7 @@ latest_of events place found = option_map
 abbrev pub filters_of : InputItem → FilterPair
 filters_of item = record { leading = item.leading; trailing = item.trailing }
 
--- what stands above a place
+-- what is above a place
 abbrev pub content_at : List LineEvent → ℕ → ContentFacts
 content_at events place = record {
   asking = is_asking events place;
@@ -150,7 +150,7 @@ content_at events place = record {
 
 -- ---- event by event
 
--- nothing stands above the first event
+-- nothing is above the first event
 abbrev pub no_content : ContentFacts
 no_content = record {
   asking = false;

@@ -9,7 +9,7 @@ use Rattle.fio_check.specs.Lines.{TranscriptLine}
 use Rattle.fio_check.specs.declared.content.ContentBreach.{ContentBreach}
 use Rattle.fio_check.specs.declared.content_rules.ContentRule.{ContentRule}
 
--- what the checker keeps: the CPU's number, if there is a poll above, and what stands above
+-- what the checker keeps: the CPU's number, if there is a poll above, and what is above
 pub record ContentKept : Type 0 where
   pub number : Option ℕ
   pub facts : ContentFacts

@@ -27,7 +27,7 @@ abbrev pub filters_in : ℕ → ℕ → ℕ → Option FilterPair
 filters_in named leading trailing =
     if named == 0 then None else Some (record { leading = leading; trailing = trailing })
 
--- what stands above, as far as it is kept
+-- what is above, as far as it is kept
 abbrev pub facts_kept : ContentAbove → ContentFacts
 facts_kept above = record {
   asking = is_flagged above.asking;

@@ -3,7 +3,7 @@ use Rattle.std.specs.Prelude.{◌≡◌, ℕ, suc, List, Option, Some, slice_get
 use Rattle.fio_check.specs.ContentAbove.{content_at, content_with, no_content}
 use Rattle.fio_check.specs.ContentEvents.{LineEvent}
 
--- what is kept event by event is what stands above
+-- what is kept event by event is what is above
 pub record KeepsContent (events : List LineEvent) : Type 0 where
   pub first : content_at events 0 ≡ no_content
   pub next : (place : ℕ) (found : LineEvent) → slice_get events place ≡ Some found

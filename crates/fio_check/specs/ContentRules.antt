@@ -1,6 +1,6 @@
 -- The rules on content: what an entry of the record may break, of a transcript that keeps those of `Rules`.
 --
--- Each rule is stated once, by what stands above an entry and what the entry says.
+-- Each rule is stated once, by what is above an entry and what the entry says.
 use Rattle.std.specs.Prelude.{ℕ, ◌+◌, ◌-◌, ◌%◌, ◌^◌, Bool, true, false, ◌&&◌, List, [], ◌∷◌, Option, Some, None, codes, find, length, nat_le, nat_lt, not, option_map, option_and_then, slice_get, take, if◌then◌else◌}
 use Rattle.std.specs.Bool.{beq}
 use Rattle.fio_input.specs.FilterRule.{filter_in_force}

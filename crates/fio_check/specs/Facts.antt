@@ -1,4 +1,4 @@
--- What stands above a line, as far as the rules read it.
+-- What is above a line, as far as the rules read it.
 use Rattle.std.specs.Prelude.{ℕ, ◌+◌, ◌%◌, ◌==◌, Bool, true, false, List, Option, Some, None, not, option_map, option_and_then, if◌then◌else◌}
 use Rattle.fio_message.specs.Status.{says_more}
 use Rattle.fio_message.specs.declared.types.TheConstants.{BLOCK_ANSWER}
@@ -57,7 +57,7 @@ abbrev pub has_advanced : List TranscriptLine → Placed ℕ → Bool
 has_advanced lines poll =
     is_some_and (latest_poll lines poll.place) (λ earlier. not (poll.value == earlier.value))
 
--- what stands above a place
+-- what is above a place
 abbrev pub facts_at : List TranscriptLine → ℕ → Facts
 facts_at lines place = record {
   awaited = option_and_then (λ above. awaited_below (observation_at lines above)) (place_above place);
@@ -70,7 +70,7 @@ facts_at lines place = record {
 
 -- ---- line by line
 
--- nothing stands above the first line
+-- nothing is above the first line
 abbrev pub no_facts : Facts
 no_facts = record {
   awaited = None;

@@ -24,7 +24,7 @@ IsTheLatest {A} at =
 abbrev pub HasOneVerdict : List TranscriptLine → Type 0
 HasOneVerdict lines = (verdict : Verdict) → IsVerdict lines verdict ↔ (verdict ≡ verdict_on lines)
 
--- what is kept line by line is what stands above
+-- what is kept line by line is what is above
 pub record KeepsFacts (lines : List TranscriptLine) : Type 0 where
   pub first : facts_at lines 0 ≡ no_facts
   pub next : (place : ℕ) (line : TranscriptLine) → slice_get lines place ≡ Some line

@@ -1,4 +1,4 @@
--- In reading order: the lines of a transcript; what a line says to the rules; what stands above a
+-- In reading order: the lines of a transcript; what a line says to the rules; what is above a
 -- line; the rules; the verdict; the poller; the checker; the laws.
 pub mod Lines
 pub mod Observations

@@ -2,7 +2,7 @@
 -- an answer before the CPU's next command or never. The module is not restarted, and has the limits
 -- of 255 entries in a block and 1,024 waiting. The CPU's end never runs out of memory.
 --
--- Each rule is stated once, by what stands above a line and what the line says.
+-- Each rule is stated once, by what is above a line and what the line says.
 use Rattle.std.specs.Prelude.{ℕ, ◌==◌, ◌&&◌, ◌||◌, Bool, true, false, List, [], ◌∷◌, Option, codes, find, is_some, not}
 use Rattle.fio_message.specs.Status.{says_more, says_lost, says_again, says_out_of_sequence}
 use Rattle.fio_message.specs.declared.types.TheConstants.{BLOCK_ANSWER}

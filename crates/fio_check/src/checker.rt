@@ -30,7 +30,7 @@ pub struct Breach {
 /// A checker: what it keeps of the frames that it took.
 #[derive(Clone, Copy, Debug, PartialEq, Eq, Hash)]
 pub struct Checker {
-    /// What stands above the next frame.
+    /// What is above the next frame.
     pub facts: Facts,
     /// Whether it passes over all frames to the next poll, as it does below a breach.
     pub skips: bool,

@@ -32,9 +32,9 @@ pub struct ContentBreach {
 #[derive(Clone, Copy, Debug)]
 #[repr(C)]
 pub struct ContentChecker {
-    /// What stands above the next frame.
+    /// What is above the next frame.
     above: ContentAbove,
-    /// Whether a poll stands above.
+    /// Whether there is a poll above.
     has_number: u8,
     /// The number that the next block to be taken has.
     number: u8,

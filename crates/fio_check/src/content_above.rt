@@ -51,7 +51,7 @@ pub struct ContentAbove {
 }
 
 impl ContentAbove {
-    /// Nothing stands above.
+    /// Nothing is above.
     pub(crate) fn new() -> ContentAbove
         ensures kept { facts_kept result ≡ no_content }
         ensures octets { result ≡ above_at_start }

@@ -1,4 +1,4 @@
-//! The rules on content, by what stands above an entry and what the entry says.
+//! The rules on content, by what is above an entry and what the entry says.
 ghost use Rattle.std.specs.Prelude.{◌≡◌};
 ghost use Rattle.fio_check.specs.ContentRules.{content_rule_name, content_rule_number};
 

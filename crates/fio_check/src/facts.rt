@@ -1,4 +1,4 @@
-//! What stands above a line of a transcript, as far as the rules read it.
+//! What is above a line of a transcript, as far as the rules read it.
 ghost use Rattle.std.specs.Prelude.{◌≡◌};
 ghost use Rattle.fio_check.specs.Facts.{facts_with, number_due};
 
@@ -6,7 +6,7 @@ use crate::observation::Observation;
 use fio_message::BlockStatus;
 use fio_message::types::BLOCK_ANSWER;
 
-/// What the rules read of the lines above. `default()` is that nothing stands above.
+/// What the rules read of the lines above. `default()` is that nothing is above.
 #[derive(Clone, Copy, Debug, Default, PartialEq, Eq, Hash)]
 pub struct Facts {
     /// The type of the answer to the command directly above, if a command stands there.

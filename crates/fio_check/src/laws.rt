@@ -23,7 +23,7 @@ pub fn latest_is_latest_above()
         → IsTheLatest (λ place. is_answering (observation_at lines place)) }
 {}
 
-/// What is kept line by line while a transcript is checked is what stands above the next line.
+/// What is kept line by line while a transcript is checked is what is above the next line.
 pub fn facts_are_kept()
     ensures { (lines : List TranscriptLine) → KeepsFacts lines }
 {}
@@ -44,7 +44,7 @@ pub fn checkers_go_on()
     ensures { (lines : List TranscriptLine) → GoesOn lines }
 {}
 
-/// What a checker of the rules on content keeps event by event is what stands above the next event.
+/// What a checker of the rules on content keeps event by event is what is above the next event.
 pub fn content_is_kept()
     ensures { (events : List LineEvent) → KeepsContent events }
 {}

@@ -2,11 +2,11 @@
 //! them each line breaks, and the verdict. Nothing here takes memory.
 //!
 //! What the crates above use: `check_trace` gives the one verdict on a list of lines; `rule_broken`
-//! gives the first rule that a line breaks by what stands above it, and `Facts::add` keeps what the
+//! gives the first rule that a line breaks by what is above it, and `Facts::add` keeps what the
 //! rules read of the lines above. `Checker` takes a frame at a time, and goes on below a breach.
 //!
-//! The definitions stand in `specs/`, in this order: the lines (`Lines`), what a line says to the
-//! rules (`Observations`), the latest that is said above a place (`Places`), what stands above a line
+//! The definitions are in `specs/`, in this order: the lines (`Lines`), what a line says to the
+//! rules (`Observations`), the latest that is said above a place (`Places`), what is above a line
 //! (`Facts`), the rules (`Rules`), the verdict (`Verdicts`), the checker
 //! (`Checkers`). Their laws (`Laws`) are the contracts of
 //! the module `laws`.

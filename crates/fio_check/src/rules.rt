@@ -1,4 +1,4 @@
-//! The rules of a transcript, by what stands above a line and what the line says.
+//! The rules of a transcript, by what is above a line and what the line says.
 ghost use Rattle.std.specs.Prelude.{◌≡◌};
 ghost use Rattle.fio_check.specs.Rules.{breaks, first_broken, is_overfull, rule_name, rule_number};
 

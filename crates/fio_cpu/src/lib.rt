@@ -5,10 +5,10 @@
 //! whole, and changes nothing at any other octets. Only `hear` can ask for memory, and only where a
 //! block adds to the record.
 //!
-//! The definitions stand in `specs/`, in this order: the end as contracts see it (`Poller`), what a
+//! The definitions are in `specs/`, in this order: the end as contracts see it (`Poller`), what a
 //! block is in the record (`Record`), and what the CPU makes of octets (`Hearing`).
 //!
-//! The logic stands once, in `hear_frame`, which appends to any `Record`. `Poller` has its
+//! The logic is once, in `hear_frame`, which appends to any `Record`. `Poller` has its
 //! record on the heap.
 //!
 //! # Examples

@@ -72,7 +72,7 @@ all_present-push items item all inside =
 pub applied_items-all : (items : List InputItem) → all_present items ≡ true → applied_items items ≡ items
 applied_items-all items all = ap (λ b. if b then items else []) all
 
--- how many items stand before the first that is above 63
+-- how many items are before the first that is above 63
 abbrev pub front : List InputItem → ℕ
 front items = prefix_len (λ item. not (above item)) items
 

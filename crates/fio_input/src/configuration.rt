@@ -1,4 +1,4 @@
-//! The items of a configuration, wherever they stand.
+//! The items of a configuration, wherever they are.
 ghost use Rattle.std.specs.Prelude.{◌≡◌, ◌<◌, List, length, get_or};
 ghost use Rattle.fio_message.specs.declared.fields.InputItem.{InputItem as Item};
 

@@ -7,7 +7,7 @@ ghost use Rattle.fio_message.specs.declared.types.TheConstants.{BLOCK_ANSWER, CO
 use crate::types::{BLOCK_ANSWER, CONFIGURE_INPUTS};
 use byteorder::{BigEndian, ByteOrder};
 
-/// What stands before the items of a configuration: its type, and how many items follow.
+/// What is before the items of a configuration: its type, and how many items follow.
 #[inline]
 pub fn before_items(count: u8) -> [u8; 2]
     ensures { result ≡ CONFIGURE_INPUTS ∷ count ∷ [] }
@@ -15,7 +15,7 @@ pub fn before_items(count: u8) -> [u8; 2]
     [CONFIGURE_INPUTS, count]
 }
 
-/// What stands before the entries of a block answer: its type, its number, and how many entries follow.
+/// What is before the entries of a block answer: its type, its number, and how many entries follow.
 #[inline]
 pub fn before_entries(number: u8, count: u8) -> [u8; 3]
     ensures { result ≡ BLOCK_ANSWER ∷ number ∷ count ∷ [] }
@@ -23,7 +23,7 @@ pub fn before_entries(number: u8, count: u8) -> [u8; 3]
     [BLOCK_ANSWER, number, count]
 }
 
-/// A status and a stamp, most significant octet first: what stands behind the entries of a block answer.
+/// A status and a stamp, most significant octet first: what is behind the entries of a block answer.
 #[inline]
 pub fn status_and_stamp(status: u8, stamp: u32) -> [u8; 5]
     ensures { result ≡ status ∷ to_be_bytes w32 stamp }

@@ -19,7 +19,7 @@ use Rattle.fio_module.proofs.NewLevels.{reported_there}
 
 -- ---- the transitions of one scan
 
--- what stands in a list with one more element, or without, stood there before or is that one
+-- what is in a list with one more element, or without, was there before or is that one
 get_after_if : (xs : List Transition) (more : Bool) (x : Transition) (k : ℕ) (y : Transition)
     → slice_get (xs ++ (if more then x ∷ [] else [])) k ≡ Some y
     → (slice_get xs k ≡ Some y) ⊎ ((k ≡ length xs) × (y ≡ x) × (more ≡ true))

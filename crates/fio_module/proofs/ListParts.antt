@@ -32,7 +32,7 @@ pub each-from_get : {A : Type 0} (P : A → Type 0) (xs : List A) → ((k : ℕ)
 each-from_get P [] at = tt
 each-from_get P (x ∷ xs) at = (at 0 x refl, each-from_get P xs (λ k. at (suc k)))
 
--- what is left of a list stood there before
+-- what is left of a list was there before
 pub get_in_drop : {A : Type 0} (n : ℕ) (xs : List A) (k : ℕ) (x : A) → slice_get (drop n xs) k ≡ Some x
     → slice_get xs (n + k) ≡ Some x
 get_in_drop zero xs k x is = let same : 0 + k ≡ k = omega arith in ap (slice_get xs) same ∙ is

@@ -4,7 +4,7 @@
 //! What the crates above use: `put_frame` gives the text of a frame, as its first line and what follows
 //! it; `EntryLines` gives the line of an entry; `put_pieces!` puts a line together.
 //!
-//! The definitions stand in `specs/`, in this order: octets as digits (`Digits`), the line of an entry
+//! The definitions are in `specs/`, in this order: octets as digits (`Digits`), the line of an entry
 //! (`EntryLines`), the lines of commands (`CommandLines`), of answers (`AnswerLines`) and of frames
 //! (`FrameLines`), what follows a first line (`Shown`).
 //!

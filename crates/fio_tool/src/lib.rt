@@ -7,7 +7,7 @@
 //! `clap`'s own function of them names; and an exit status of 0 or 1 after such words says that the
 //! tool has done so, and it is never 2.
 //!
-//! The definitions stand in `specs/`. `Program` comes first: the text that each tool writes for an
+//! The definitions are in `specs/`. `Program` comes first: the text that each tool writes for an
 //! input, and the exit status; below it the command line (`CommandLine`). The four texts are `Show`
 //! above the lines of each frame (`FrameLines` of `fio_show`); `Simulate`; `Check`
 //! above the lines of a transcript (`Transcript`), whose rules and verdict are those of `fio_check`; and

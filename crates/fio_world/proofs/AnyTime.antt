@@ -31,7 +31,7 @@ use Rattle.fio_world.proofs.CleanRoundsInTime.{grows, scans_grown}
 use Rattle.fio_world.proofs.InAllRounds.{kept_up, has_chain, arrives}
 use Rattle.fio_world.proofs.Arrivals.{taken_end, waits_from_end}
 
--- what stands in a list from a place on
+-- what is in a list from a place on
 pub get_from_drop : {A : Type 0} (n : ℕ) (xs : List A) (k : ℕ) (x : A) → n ≤ k → slice_get xs k ≡ Some x
     → slice_get (drop n xs) (k - n) ≡ Some x
 get_from_drop zero xs k x low is = let same : k - 0 ≡ k = omega arith in ap (slice_get xs) same ∙ is

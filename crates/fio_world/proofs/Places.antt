@@ -3,7 +3,7 @@ use Rattle.std.proofs.Common.{◌≡◌, ℕ, zero, suc, ◌+◌, ◌<◌, ◌�
 use Rattle.std.proofs.lemmas.Option.{slice_get_within, get_or_from_slice_get}
 use Rattle.std.proofs.lemmas.List.{take_more}
 
--- what stands in a list stands there after a push
+-- what is in a list stands there after a push
 pub get_before_push : {A : Type 0} (xs ys : List A) (k : ℕ) (y : A) → slice_get xs k ≡ Some y
     → slice_get (xs ++ ys) k ≡ Some y
 get_before_push [] ys k y h = absurd cc
@@ -15,7 +15,7 @@ pub get_push : {A : Type 0} (xs : List A) (x : A) → slice_get (xs ++ x ∷ [])
 get_push [] x = refl
 get_push (z ∷ zs) x = get_push zs x
 
--- what stands in a list after a push stood there before, or is what was pushed
+-- what is in a list after a push was there before, or is what was pushed
 pub get_after_push : {A : Type 0} (xs : List A) (x : A) (k : ℕ) (y : A)
     → slice_get (xs ++ x ∷ []) k ≡ Some y → (slice_get xs k ≡ Some y) ⊎ ((k ≡ length xs) × (y ≡ x))
 get_after_push [] x zero y h = inr (refl, cc)
@@ -49,7 +49,7 @@ get_part (suc n) (suc p) (y ∷ xs) i x is =
     let shift : suc p + i ≡ suc (p + i) = omega arith in
     ap (λ k. slice_get (y ∷ xs) k) shift ∙ get_part (suc n) p xs i x is
 
--- what stands in a list stands behind another
+-- what is in a list stands behind another
 pub get_behind : {A : Type 0} (xs ys : List A) (k : ℕ) (y : A) → slice_get ys k ≡ Some y
     → slice_get (xs ++ ys) (length xs + k) ≡ Some y
 get_behind [] ys k y is = let same : 0 + k ≡ k = omega arith in ap (slice_get ys) same ∙ is

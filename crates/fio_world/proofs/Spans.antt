@@ -126,7 +126,7 @@ move low next round (Of (block ∷ blocks) base to ∷ spans) less c =
           (taken_from (round + 1) rest.moved) (omega arith) rest.none_moved;
     }
 
--- what stands in two lists, one behind the other, stands in one of them
+-- what is in two lists, one behind the other, is in one of them
 get_either : {A : Type 0} (xs ys : List A) (p : ℕ) (y : A) → slice_get (xs ++ ys) p ≡ Some y
     → ((p < length xs) × (slice_get xs p ≡ Some y)) ⊎ ((k : ℕ) × (p ≡ length xs + k) × (slice_get ys k ≡ Some y))
 get_either [] ys p y is = inr (p, omega arith, is)
@@ -148,7 +148,7 @@ round_at base [] p r is = absurd (cc is)
 round_at base (block ∷ blocks) zero r is = let same : base ≡ r = cc in omega arith
 round_at base (block ∷ blocks) (suc p) r is = omega (arith, round_at (base + 1) blocks p r is)
 
--- what stands in a list stands in what is left of it
+-- what is in a list is in what is left of it
 get_dropped : {A : Type 0} (d : ℕ) (xs : List A) (k : ℕ) (x : A) → slice_get xs (d + k) ≡ Some x
     → slice_get (drop d xs) k ≡ Some x
 get_dropped zero xs k x is = let same : k ≡ 0 + k = omega arith in ap (slice_get xs) same ∙ is

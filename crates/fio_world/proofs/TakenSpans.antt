@@ -156,7 +156,7 @@ all_recorded settings history =
     ∙ sym (map-append recorded_of (joined_lists (past_made settings history)) own)
     ∙ ap (map recorded_of) (sym (joined_lists-push (past_made settings history) own))
 
--- what stands in a list of what elements give is given by an element
+-- what is in a list of what elements give is given by an element
 from_map : {A B : Type 0} (f : A → B) (xs : List A) (p : ℕ) (y : B) → slice_get (map f xs) p ≡ Some y
     → (x : A) × (slice_get xs p ≡ Some x) × (f x ≡ y)
 from_map f [] p y is = absurd (cc is)

@@ -31,7 +31,7 @@ IsNeverLate settings first machine =
     LeadsInTime settings first scans (newest_of machine receipts) last now →
     LacksOnlyYoung (scans + behind_after untaken scans) filter settings now
 
--- The same with blocks counted whole: for some number j of them the record lacks nothing that is more than
+-- Like `LacksOnlyYoung`, with blocks counted whole: for some number j of them the record lacks nothing that is more than
 -- j s + m - 1 - f (j b / k) scans old, for k inputs, filters of f, blocks of b that each make up for s scans,
 -- and m scans behind.
 pub record LacksOnlyYoungExactly (settings : Settings) (opened filter scans behind : ℕ) (machine : Machine)

@@ -4,7 +4,7 @@
 //! What the crate above uses: a run is a run of the link machine, and of each machine that a run leads to
 //! the headline and the other promises hold; a report is that of its script.
 //!
-//! The definitions stand in `specs/`, in this order. What happens: the link machine, event by event
+//! The definitions are in `specs/`, in this order. What happens: the link machine, event by event
 //! (`Link`), and the outcome of an event (`Outcomes`). What is read and written: the lines of a text
 //! (`Lines`), the words of a line (`Words`), octets as hexadecimal digits (`Hexadecimal`), readings of
 //! which the first fault decides (`FirstFaults`), forms of lines (`Forms`), a script's first line

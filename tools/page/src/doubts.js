@@ -111,7 +111,7 @@ export class Doubts {
   words() {
     const more = this.remarks.length - MOST_NAMED;
     return [...this.remarks.slice(0, MOST_NAMED), ...more > 0 ? [`${more} more lines are doubtful`] : [],
-      ...this.hasRows ? ['an octet stands in each row: where a row is missing, the rest may spell another message'] : [],
+      ...this.hasRows ? ['an octet is in each row: where a row is missing, the rest may spell another message'] : [],
       ...this.numbers > 0 ? [`frames with octets as numbers without zeros before them: ${this.numbers}, and a digit that is lost is not seen`] : [],
       ...this.loose > 0 ? [`frames of types that have any length: ${this.loose}, and a cut in one of them is not seen`] : []];
   }

@@ -100,7 +100,7 @@ export function recordLines(log) {
     if (log.codes[place] !== BLOCK) continue;
     const heard = poller.hear(log.address(place), log.lengths[place]), content = log.contents.get(place);
     const items = Array.from({ length: heard.items }, (_, index) => itemText(poller.recordItem(index)));
-    // Entries are the last items of a block; a gap mark stands above them.
+    // Entries are the last items of a block; a gap mark is above them.
     lines.push(...items.slice(0, content ? heard.items - heard.entries + content.entry : heard.items));
     if (content) return [`record ${lines.length}`, ...lines, contentLine(log, place)];
   }

@@ -84,7 +84,7 @@ fn read_step<'a>(number: usize, line: &'a [u8], restarts: bool) -> Result<Step<'
     }
 }
 
-/// The sending of the command that the word's octets spell. It stands apart, since a frame and a
+/// The sending of the command that the word's octets spell. It is apart, since a frame and a
 /// command take two kilobytes, which would be cleared for each line.
 #[inline(never)]
 fn read_sending<'a>(number: usize, word: &'a [u8]) -> Result<Step<'a>, ScriptError>

@@ -14,7 +14,7 @@ pub fn after_prefix<'a>(line: &'a [u8], prefix: &[u8]) -> Option<&'a [u8]>
     line.strip_prefix(prefix)
 }
 
-/// What stands before a line's first blank, and what stands after it. `None` where it has none.
+/// What is before a line's first blank, and what stands after it. `None` where it has none.
 pub fn split_at_blank(line: &[u8]) -> Option<(&[u8], &[u8])>
     ensures { option_map (λ cut. (cut.0.now, cut.1.now)) result ≡ halves_of line.now }
 {
