@@ -54,8 +54,8 @@ module _ (life : Life) (frames : List SentFrame) (last : ℕ) where
       → ((k : ℕ) (t : Transition) → place < k → k < upto → slice_get (log_of life) k ≡ Some t → t.input ≢ newer.input)
       → Alternates newer.input q.earlier older newer
   alternate_since place upto older newer q before older_at newer_at of_input none_between =
-      let whole = ap log_of q.at in
-      transitions_alternate newer.input place upto q.earlier q.later older newer q.none_applied
+      let whole = ap log_of q.none_since.at in
+      transitions_alternate newer.input place upto q.earlier q.none_since.later older newer q.none_since.none_applied
       (record {
         since = q.logged;
         in_order = before;

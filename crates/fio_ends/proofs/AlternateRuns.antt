@@ -221,10 +221,8 @@ module _ (settings : Settings) (life : Life) (frames : List SentFrame) (last rou
           let took = blocks_without_more_take_all settings m.earlier (ap (λ (b : MadeBlock). b.more) (sym m.is) ∙ is) in
           let ends : block.end ≡ length (log_of m.earlier) = ap (λ (b : MadeBlock). b.end) m.is ∙ took in
           record {
-            later = m.later;
             earlier = m.earlier;
-            at = m.at;
-            none_applied = m.none_applied;
+            none_since = m.none_since;
             logged = omega arith;
             none_coming = λ k f low there. a.none_sent k f (omega (arith, m.passed)) there;
           }

@@ -102,11 +102,12 @@ module _ (life : Life) (frames : List SentFrame) (last : ℕ) where
     comes_apart older h quiet l =
         let q = subst (IsQuietSince life frames last) (one_place upto t.input older.wide sources older h l) quiet in
         let a = alternate_since life frames last l.place upto l.transition t q l.before l.at at l.of_input l.none_behind in
-        let leave = leaves_each t.input (filter_events q.later) q.none_applied in
+        let n = q.none_since in
+        let leave = leaves_each t.input (filter_events n.later) n.none_applied in
         let setting : input_setting t.input (filter_events life) ≡ input_setting t.input (filter_events q.earlier) =
-        ap (λ l. input_setting t.input (filter_events l)) q.at
-        ∙ ap (input_setting t.input) (filter_events-append q.later q.earlier)
-        ∙ (carried t.input (filter_events q.later) (filter_events q.earlier) leave).setting in
+        ap (λ l. input_setting t.input (filter_events l)) n.at
+        ∙ ap (input_setting t.input) (filter_events-append n.later q.earlier)
+        ∙ (carried t.input (filter_events n.later) (filter_events q.earlier) leave).setting in
         subst (λ s. l.transition.scans + filter_to s t.level ≤ t.scans) (sym setting) a.apart
 
     not_too_near : (wide : ℕ) (older : LatestEntry) (h : HasLatest life frames last upto t.input older) → IsQuietSince life frames last h.place
