@@ -17,7 +17,7 @@ import tempfile
 sys.dont_write_bytecode = True
 
 from support.check import Check
-from support.fiolog import ENVIRONMENT, fiolog, has_library, on_terminal, use_library
+from support.fiolog import ENVIRONMENT, fiolog, on_terminal, use_library
 from support.loggers import LOGGERS
 from support.pcapng import frames_of
 from support.sessions import SESSION, timed
@@ -313,10 +313,7 @@ def check_closed(check):
 
 def main():
     check = Check()
-    if not has_library():
-        check.skip('all commands of fiolog', 'no libfio2070.so here (make library)')
-        check.end()
-    use_library()
+    use_library(check, 'all commands of fiolog')
     for part in (check_decode, check_words, check_numbers, check_convert, check_check, check_faulty_words, check_closed):
         part(check)
     with tempfile.TemporaryDirectory() as folder:

@@ -17,7 +17,7 @@ import time
 sys.dont_write_bytecode = True
 
 from support.check import Check
-from support.fiolog import ENVIRONMENT, fiolog, has_library, on_terminal, use_library
+from support.fiolog import ENVIRONMENT, fiolog, on_terminal, use_library
 from support.loggers import LOGGERS
 from support.pcapng import frames_of
 from support.sessions import SESSION, timed
@@ -244,10 +244,7 @@ def check_capture_in_pipe(check):
 
 def main():
     check = Check()
-    if not has_library():
-        check.skip('fiolog live', 'no libfio2070.so here (make library)')
-        check.end()
-    use_library()
+    use_library(check, 'fiolog live')
     check.fault('a process', fault_of_process)
     check.fault('a pseudo-terminal', fault_of_serial)
     check.fault('a doubled entry at a pseudo-terminal', fault_of_doubled)

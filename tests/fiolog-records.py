@@ -15,7 +15,7 @@ import tempfile
 sys.dont_write_bytecode = True
 
 from support.check import Check
-from support.fiolog import ENVIRONMENT, fiolog, has_library
+from support.fiolog import ENVIRONMENT, fiolog, use_library
 from support.tables import TOP, output_of
 
 EXAMPLES = os.path.join(TOP, 'examples')
@@ -172,9 +172,7 @@ def check_picture(check):
 
 def main():
     check = Check()
-    if not has_library():
-        check.skip('fiolog record', 'no libfio2070.so here (make library)')
-        check.end()
+    use_library(check, 'fiolog record')
     for part in (check_examples, check_course, check_picture):
         part(check)
     with tempfile.TemporaryDirectory() as folder:

@@ -9,7 +9,7 @@ sys.dont_write_bytecode = True
 
 from support.check import Check
 from support.damage import DAMAGED
-from support.fiolog import has_library, use_library
+from support.fiolog import use_library
 from support.loggers import LOGGERS
 from support.sessions import SESSION, random_session, timed
 
@@ -148,10 +148,7 @@ def fault_of_noise(seed):
 
 def main():
     check = Check()
-    if not has_library():
-        check.skip('all of fiolog', 'no libfio2070.so here (make library)')
-        check.end()
-    use_library()
+    use_library(check, 'all of fiolog')
     check_forms(check)
     check_lines(check)
     check_damaged(check)

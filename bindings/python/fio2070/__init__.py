@@ -9,7 +9,7 @@ Ranges, errors and sources are those of include/fio2070.h. A number out of its r
 """
 
 import ctypes
-from typing import List, NamedTuple, Optional, Sequence, Tuple
+from typing import Any, List, NamedTuple, Optional, Sequence, Tuple
 
 from . import _library as c
 from . import constants, encode
@@ -222,91 +222,106 @@ class Filters:
         return int(c.library.fio2070_filters_raw(self._filters))
 
 
-class Module:
+class _AnyModule:
+    """What modules of both kinds do."""
+
+    _calls = ''  # how the names of their calls in the library begin
+    _module: Any  # the state
+    _ring: Tuple[Any, ...] = ()  # where entries wait, if not in the state: an array, and how many it holds
+
+    def _call(self, name: str, *arguments: Any) -> Any:
+        return getattr(c.library, self._calls + name)(self._module, *arguments)
+
+    def restart(self) -> None:
+        """Starts anew with the same id and per_block."""
+        self._call('restart')
+
+    def scan(self, raw: int) -> None:
+        """Steps the counter by one millisecond, and samples each input; bit i of `raw` is input i."""
+        encode.check_range(2**64, raw)
+        self._call('scan', *self._ring, raw)
+
+    def line_sync(self) -> None:
+        """LINESYNC goes from 0 to 1: a load of the counter that was asked for happens now."""
+        self._call('line_sync')
+
+    def raise_flags(self, mask: int) -> None:
+        """Sets the flags whose bits are one."""
+        encode.check_range(256, mask)
+        self._call('raise', mask)
+
+    def set_errors(self, receive: int, transmit: int) -> None:
+        """Sets the error counts that the answer 177 has from now on."""
+        encode.check_range(256, receive, transmit)
+        self._call('set_errors', receive, transmit)
+
+    def receive(self, octets: Octets) -> Optional[bytes]:
+        """The answer to a frame; None where there is none."""
+        octets = bytes(octets)
+        out = (ctypes.c_uint8 * c.LONGEST_FRAME)()
+        count = self._call('receive', *self._ring, octets, len(octets), out)
+        return bytes(out[:count]) if count else None
+
+    @property
+    def outputs(self) -> Tuple[bytes, bytes]:
+        """The data and the control octets."""
+        outputs = self._call('outputs')
+        return bytes(outputs.levels), bytes(outputs.controls)
+
+    @property
+    def watchdog_ms(self) -> Optional[int]:
+        """The timeout of the watchdog in milliseconds, 10 to 100; None before the first command 58."""
+        return int(self._call('watchdog_ms')) or None
+
+    @property
+    def counter(self) -> int:
+        """The milliseconds counted, modulo 2^32."""
+        return int(self._call('counter'))
+
+    @property
+    def filtered(self) -> int:
+        """The filtered states, also of ignored inputs."""
+        return int(self._call('filtered'))
+
+    @property
+    def raw(self) -> int:
+        """The levels of the last scan, all 1 before any."""
+        return int(self._call('raw'))
+
+    @property
+    def flags(self) -> int:
+        """The flags that are up."""
+        return int(self._call('flags'))
+
+    @property
+    def errors(self) -> Tuple[int, int]:
+        """The error counts, in receiving and in transmitting."""
+        errors = self._call('errors')
+        return errors.receive, errors.transmit
+
+    @property
+    def waiting(self) -> int:
+        """How many entries wait for a poll, at most the capacity."""
+        return int(self._call('waiting', *self._ring[1:]))
+
+
+class Module(_AnyModule):
     """A field I/O module of which 1,024 entries may wait."""
+
+    _calls = 'fio2070_module_'
 
     def __init__(self, id: int = 2, per_block: int = 255) -> None:
         """It answers `id` to command 60; its blocks have at most `per_block` entries, 1 to 255."""
         if not (0 <= id <= 255 and 1 <= per_block <= 255):
             raise ValueError('id is 0 to 255, per_block 1 to 255')
         self._module = c.CModule()
-        c.library.fio2070_module_start(self._module, id, per_block)
-
-    def restart(self) -> None:
-        """Starts anew with the same id and per_block."""
-        c.library.fio2070_module_restart(self._module)
-
-    def scan(self, raw: int) -> None:
-        """Steps the counter by one millisecond, and samples each input; bit i of `raw` is input i."""
-        encode.check_range(2**64, raw)
-        c.library.fio2070_module_scan(self._module, raw)
-
-    def line_sync(self) -> None:
-        """LINESYNC goes from 0 to 1: a load of the counter that was asked for happens now."""
-        c.library.fio2070_module_line_sync(self._module)
-
-    def raise_flags(self, mask: int) -> None:
-        """Sets the flags whose bits are one."""
-        encode.check_range(256, mask)
-        c.library.fio2070_module_raise(self._module, mask)
-
-    def set_errors(self, receive: int, transmit: int) -> None:
-        """Sets the error counts that the answer 177 has from now on."""
-        encode.check_range(256, receive, transmit)
-        c.library.fio2070_module_set_errors(self._module, receive, transmit)
-
-    def receive(self, octets: Octets) -> Optional[bytes]:
-        """The answer to a frame; None where there is none."""
-        octets = bytes(octets)
-        out = (ctypes.c_uint8 * c.LONGEST_FRAME)()
-        count = c.library.fio2070_module_receive(self._module, octets, len(octets), out)
-        return bytes(out[:count]) if count else None
-
-    @property
-    def outputs(self) -> Tuple[bytes, bytes]:
-        """The data and the control octets."""
-        outputs = c.library.fio2070_module_outputs(self._module)
-        return bytes(outputs.levels), bytes(outputs.controls)
-
-    @property
-    def watchdog_ms(self) -> Optional[int]:
-        """The timeout of the watchdog in milliseconds, 10 to 100; None before the first command 58."""
-        return int(c.library.fio2070_module_watchdog_ms(self._module)) or None
-
-    @property
-    def counter(self) -> int:
-        """The milliseconds counted, modulo 2^32."""
-        return int(c.library.fio2070_module_counter(self._module))
-
-    @property
-    def filtered(self) -> int:
-        """The filtered states, also of ignored inputs."""
-        return int(c.library.fio2070_module_filtered(self._module))
-
-    @property
-    def raw(self) -> int:
-        """The levels of the last scan, all 1 before any."""
-        return int(c.library.fio2070_module_raw(self._module))
-
-    @property
-    def flags(self) -> int:
-        """The flags that are up."""
-        return int(c.library.fio2070_module_flags(self._module))
-
-    @property
-    def errors(self) -> Tuple[int, int]:
-        """The error counts, in receiving and in transmitting."""
-        errors = c.library.fio2070_module_errors(self._module)
-        return errors.receive, errors.transmit
-
-    @property
-    def waiting(self) -> int:
-        """How many entries wait for a poll."""
-        return int(c.library.fio2070_module_waiting(self._module))
+        self._call('start', id, per_block)
 
 
-class SizedModule:
+class SizedModule(_AnyModule):
     """A field I/O module of which `capacity` entries may wait."""
+
+    _calls = 'fio2070_sized_module_'
 
     def __init__(self, capacity: int, id: int = 2, per_block: int = 255) -> None:
         """It answers `id` to command 60; its blocks have at most `per_block` entries, 1 to 255. With a capacity of 0
@@ -314,77 +329,5 @@ class SizedModule:
         if not (capacity >= 0 and 0 <= id <= 255 and 1 <= per_block <= 255):
             raise ValueError('capacity is 0 or more, id 0 to 255, per_block 1 to 255')
         self._module = c.CSizedModule()
-        self._ring = (ctypes.c_uint8 * 3 * capacity)()
-        c.library.fio2070_sized_module_start(self._module, id, per_block)
-
-    def restart(self) -> None:
-        """Starts anew with the same id and per_block."""
-        c.library.fio2070_sized_module_restart(self._module)
-
-    def scan(self, raw: int) -> None:
-        """Steps the counter by one millisecond, and samples each input; bit i of `raw` is input i."""
-        encode.check_range(2**64, raw)
-        c.library.fio2070_sized_module_scan(self._module, self._ring, len(self._ring), raw)
-
-    def line_sync(self) -> None:
-        """LINESYNC goes from 0 to 1: a load of the counter that was asked for happens now."""
-        c.library.fio2070_sized_module_line_sync(self._module)
-
-    def raise_flags(self, mask: int) -> None:
-        """Sets the flags whose bits are one."""
-        encode.check_range(256, mask)
-        c.library.fio2070_sized_module_raise(self._module, mask)
-
-    def set_errors(self, receive: int, transmit: int) -> None:
-        """Sets the error counts that the answer 177 has from now on."""
-        encode.check_range(256, receive, transmit)
-        c.library.fio2070_sized_module_set_errors(self._module, receive, transmit)
-
-    def receive(self, octets: Octets) -> Optional[bytes]:
-        """The answer to a frame; None where there is none."""
-        octets = bytes(octets)
-        out = (ctypes.c_uint8 * c.LONGEST_FRAME)()
-        count = c.library.fio2070_sized_module_receive(self._module, self._ring, len(self._ring), octets, len(octets), out)
-        return bytes(out[:count]) if count else None
-
-    @property
-    def outputs(self) -> Tuple[bytes, bytes]:
-        """The data and the control octets."""
-        outputs = c.library.fio2070_sized_module_outputs(self._module)
-        return bytes(outputs.levels), bytes(outputs.controls)
-
-    @property
-    def watchdog_ms(self) -> Optional[int]:
-        """The timeout of the watchdog in milliseconds, 10 to 100; None before the first command 58."""
-        return int(c.library.fio2070_sized_module_watchdog_ms(self._module)) or None
-
-    @property
-    def counter(self) -> int:
-        """The milliseconds counted, modulo 2^32."""
-        return int(c.library.fio2070_sized_module_counter(self._module))
-
-    @property
-    def filtered(self) -> int:
-        """The filtered states, also of ignored inputs."""
-        return int(c.library.fio2070_sized_module_filtered(self._module))
-
-    @property
-    def raw(self) -> int:
-        """The levels of the last scan, all 1 before any."""
-        return int(c.library.fio2070_sized_module_raw(self._module))
-
-    @property
-    def flags(self) -> int:
-        """The flags that are up."""
-        return int(c.library.fio2070_sized_module_flags(self._module))
-
-    @property
-    def errors(self) -> Tuple[int, int]:
-        """The error counts, in receiving and in transmitting."""
-        errors = c.library.fio2070_sized_module_errors(self._module)
-        return errors.receive, errors.transmit
-
-    @property
-    def waiting(self) -> int:
-        """How many entries wait for a poll, at most the capacity."""
-        return int(c.library.fio2070_sized_module_waiting(self._module, len(self._ring)))
+        self._ring = ((ctypes.c_uint8 * 3 * capacity)(), capacity)
+        self._call('start', id, per_block)

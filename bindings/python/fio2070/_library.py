@@ -3,7 +3,7 @@
 import ctypes
 import os
 from ctypes import POINTER, c_size_t, c_uint8, c_uint16, c_uint32, c_uint64
-from typing import Any, Dict, List
+from typing import Any, Dict, List, Tuple
 
 from .constants import LONGEST_FAULT_TEXT, LONGEST_FRAME, MOST_ENTRIES, MOST_RECORD_ITEMS
 
@@ -154,34 +154,23 @@ _declare('filters_configure', CConfigured, POINTER(CFilters), POINTER(CItem), c_
 _declare('filters_scan', c_uint64, POINTER(CFilters), c_uint64)
 _declare('filters_filtered', c_uint64, POINTER(CFilters))
 _declare('filters_raw', c_uint64, POINTER(CFilters))
-_declare('module_start', c_uint8, POINTER(CModule), c_uint8, c_uint8)
-_declare('module_restart', None, POINTER(CModule))
-_declare('module_scan', None, POINTER(CModule), c_uint64)
-_declare('module_line_sync', None, POINTER(CModule))
-_declare('module_raise', None, POINTER(CModule), c_uint8)
-_declare('module_receive', c_size_t, POINTER(CModule), *_OCTETS, POINTER(c_uint8))
-_declare('module_set_errors', None, POINTER(CModule), c_uint8, c_uint8)
-_declare('module_outputs', COutputs, POINTER(CModule))
-_declare('module_watchdog_ms', c_uint8, POINTER(CModule))
-_declare('module_counter', c_uint32, POINTER(CModule))
-_declare('module_filtered', c_uint64, POINTER(CModule))
-_declare('module_raw', c_uint64, POINTER(CModule))
-_declare('module_flags', c_uint8, POINTER(CModule))
-_declare('module_errors', CErrorCounts, POINTER(CModule))
-_declare('module_waiting', c_size_t, POINTER(CModule))
-_RING = (POINTER(c_uint8 * 3), c_size_t)
-_declare('sized_module_start', c_uint8, POINTER(CSizedModule), c_uint8, c_uint8)
-_declare('sized_module_restart', None, POINTER(CSizedModule))
-_declare('sized_module_scan', None, POINTER(CSizedModule), *_RING, c_uint64)
-_declare('sized_module_line_sync', None, POINTER(CSizedModule))
-_declare('sized_module_raise', None, POINTER(CSizedModule), c_uint8)
-_declare('sized_module_receive', c_size_t, POINTER(CSizedModule), *_RING, *_OCTETS, POINTER(c_uint8))
-_declare('sized_module_set_errors', None, POINTER(CSizedModule), c_uint8, c_uint8)
-_declare('sized_module_outputs', COutputs, POINTER(CSizedModule))
-_declare('sized_module_watchdog_ms', c_uint8, POINTER(CSizedModule))
-_declare('sized_module_counter', c_uint32, POINTER(CSizedModule))
-_declare('sized_module_filtered', c_uint64, POINTER(CSizedModule))
-_declare('sized_module_raw', c_uint64, POINTER(CSizedModule))
-_declare('sized_module_flags', c_uint8, POINTER(CSizedModule))
-_declare('sized_module_errors', CErrorCounts, POINTER(CSizedModule))
-_declare('sized_module_waiting', c_size_t, POINTER(CSizedModule), c_size_t)
+# The calls of both kinds of module, and what else those that reach the waiting entries take.
+_MODULES: List[Tuple[str, Any, Tuple[Any, ...]]] = [
+        ('module_', CModule, ()), ('sized_module_', CSizedModule, (POINTER(c_uint8 * 3), c_size_t))]
+for _calls, _module, _ring in _MODULES:
+    _state = POINTER(_module)
+    _declare(_calls + 'start', c_uint8, _state, c_uint8, c_uint8)
+    _declare(_calls + 'restart', None, _state)
+    _declare(_calls + 'scan', None, _state, *_ring, c_uint64)
+    _declare(_calls + 'line_sync', None, _state)
+    _declare(_calls + 'raise', None, _state, c_uint8)
+    _declare(_calls + 'receive', c_size_t, _state, *_ring, *_OCTETS, POINTER(c_uint8))
+    _declare(_calls + 'set_errors', None, _state, c_uint8, c_uint8)
+    _declare(_calls + 'outputs', COutputs, _state)
+    _declare(_calls + 'watchdog_ms', c_uint8, _state)
+    _declare(_calls + 'counter', c_uint32, _state)
+    _declare(_calls + 'filtered', c_uint64, _state)
+    _declare(_calls + 'raw', c_uint64, _state)
+    _declare(_calls + 'flags', c_uint8, _state)
+    _declare(_calls + 'errors', CErrorCounts, _state)
+    _declare(_calls + 'waiting', c_size_t, _state, *_ring[1:])

@@ -35,6 +35,7 @@ use Rattle.fio_world.proofs.RoundNumbers.{number_of-next}
 use Rattle.fio_world.proofs.Spelled.{no_block_in}
 use Rattle.fio_c.specs.declared.poller.Heard.{Heard}
 use Rattle.fio_c.specs.declared.poller.RecordItem.{RecordItem}
+use Rattle.fio_c.specs.Module as module_events
 use Rattle.fio_c.specs.Module.{History, Reached, ErrorsSet, IsModuleAfter, events_reached, errors_of, with_errors, settings_of}
 use Rattle.fio_c.specs.declared.module.ErrorCounts.{ErrorCounts}
 use Rattle.fio_c.specs.Written.{Writes, WritesAnswer}
@@ -78,13 +79,14 @@ written_front octets before after count wrote some =
 -- ---- each event
 
 module _ (settings : Settings) (first : ℕ) (machine : Machine) (held next : CallerState) (f : Follows settings first machine held) where
-  follows_event : (event : lives.Event) → HasHappened (Reached event) held next
-      → Follows settings first (after_module_event machine event) next
-  follows_event event h =
-      subst (Follows settings first (after_module_event machine event)) (sym h.rest) (record {
-        history = Reached event ∷ f.history;
+  -- the module has had one event more, after which this has reached it
+  follows_happened : (event : module_events.Event) (history : lives.History) → HasHappened event held next
+      → events_reached (event ∷ f.history) ≡ history → Follows settings first (record machine { history = history }) next
+  follows_happened event history h same =
+      subst (Follows settings first (record machine { history = history })) (sym h.rest) (record {
+        history = event ∷ f.history;
         device = h.had settings f.history f.device;
-        same_history = ap (λ older. event ∷ older) f.same_history;
+        same_history = same;
         number = f.number;
         to_module = f.to_module;
         to_cpu = f.to_cpu;
@@ -93,21 +95,15 @@ module _ (settings : Settings) (first : ℕ) (machine : Machine) (held next : Ca
         items = f.items;
       })
 
+  follows_event : (event : lives.Event) → HasHappened (Reached event) held next
+      → Follows settings first (after_module_event machine event) next
+  follows_event event h =
+      follows_happened (Reached event) (event ∷ machine.history) h (ap (λ older. event ∷ older) f.same_history)
+
   -- error counts change nothing that the machine has
   follows_errors : (receive transmit : ℕ) → HasHappened (ErrorsSet receive transmit) held next
       → Follows settings first machine next
-  follows_errors receive transmit h =
-      subst (Follows settings first machine) (sym h.rest) (record {
-        history = ErrorsSet receive transmit ∷ f.history;
-        device = h.had settings f.history f.device;
-        same_history = f.same_history;
-        number = f.number;
-        to_module = f.to_module;
-        to_cpu = f.to_cpu;
-        last_to_module = f.last_to_module;
-        last_to_cpu = f.last_to_cpu;
-        items = f.items;
-      })
+  follows_errors receive transmit h = follows_happened (ErrorsSet receive transmit) machine.history h f.same_history
 
   follows_sent : (command : Command) → next ≡ record held { to_module = held.to_module ++ command_octets command ∷ [] }
       → Follows settings first (after_sending machine command) next

@@ -6,7 +6,7 @@ use Rattle.std.proofs.lemmas.Bool.Decides.{eqb_tells}
 use Rattle.std.proofs.lemmas.Option.{same_Some}
 use Rattle.fio_module.specs.Life.{Life}
 use Rattle.fio_module.specs.Log.{Transition, entry_of, log_of}
-use Rattle.fio_module.specs.Alternation.{AreSuccessive}
+use Rattle.fio_module.specs.Alternation.{Alternates}
 use Rattle.fio_module.proofs.Alternation.{transitions_alternate}
 use Rattle.fio_cpu.specs.declared.record.Item.{Item}
 use Rattle.fio_cpu.specs.declared.record.Item.TheVariants.{Entry, Gap}
@@ -48,23 +48,30 @@ not_same false true is = refl
 not_same false false is = absurd (cc is)
 
 module _ (life : Life) (frames : List SentFrame) (last : ℕ) where
+  -- a transition alternates with the one of its input before it, where no configuration was applied since that
+  pub alternate_since : (place upto : ℕ) (older newer : Transition) (q : IsQuietSince life frames last place) → place < upto
+      → slice_get (log_of life) place ≡ Some older → slice_get (log_of life) upto ≡ Some newer → older.input ≡ newer.input
+      → ((k : ℕ) (t : Transition) → place < k → k < upto → slice_get (log_of life) k ≡ Some t → t.input ≢ newer.input)
+      → Alternates newer.input q.earlier older newer
+  alternate_since place upto older newer q before older_at newer_at of_input none_between =
+      let whole = ap log_of q.none_since.at in
+      transitions_alternate newer.input place upto q.earlier q.none_since.later older newer q.none_since.none_applied
+      (record {
+        since = q.logged;
+        in_order = before;
+        older_at = ap (λ log. slice_get log place) (sym whole) ∙ older_at;
+        newer_at = ap (λ log. slice_get log upto) (sym whole) ∙ newer_at;
+        older_of = of_input;
+        newer_of = refl;
+        none_between = λ k between low high there.
+            none_between k between low high (ap (λ log. slice_get log k) whole ∙ there);
+      })
+
   -- the next transition alternates with the latest of its input
   alternates : (upto : ℕ) (t : Transition) (older : LatestEntry) → slice_get (log_of life) upto ≡ Some t
       → HasLatest life frames last upto t.input older → older.quiet ≡ true → beq t.level older.level ≡ false
   alternates upto t older at h is =
-      let q = h.quiet is in
-      let whole = ap log_of q.at in
-      let successive : AreSuccessive t.input q.earlier q.later h.place upto h.transition t = record {
-        since = q.logged;
-        in_order = h.before;
-        older_at = ap (λ log. slice_get log h.place) (sym whole) ∙ h.at;
-        newer_at = ap (λ log. slice_get log upto) (sym whole) ∙ at;
-        older_of = h.of_input;
-        newer_of = refl;
-        none_between = λ k between low high there.
-            h.none_behind k between low high (ap (λ log. slice_get log k) whole ∙ there);
-      } in
-      let a = transitions_alternate t.input h.place upto q.earlier q.later h.transition t q.none_applied successive in
+      let a = alternate_since h.place upto h.transition t (h.quiet is) h.before h.at at h.of_input h.none_behind in
       not_same t.level older.level (a.state ∙ ap not h.level)
 
   quiet_alternates : (upto : ℕ) (t : Transition) (older : LatestEntry) → slice_get (log_of life) upto ≡ Some t

@@ -1,7 +1,6 @@
 -- Along a prompt run each entry alternates with the latest one of its input: the rule never accuses.
-use Rattle.std.proofs.Common.{◌≡◌, ◌∙◌, ◌+◌, ◌-◌, ◌<◌, ◌≤◌, ℕ, zero, suc, Bool, true, false, List, [], ◌∷◌, ◌++◌, length, map, take, Option, Some, None, slice_get, refl, ap, sym, subst, arith, append-nil, length-drop, length-take, drop, if◌then◌else◌}
-use Rattle.std.specs.Prelude.{fold, nat_lt, option_map}
-use Rattle.std.proofs.lemmas.Bool.Decides.{nat_tests}
+use Rattle.std.proofs.Common.{◌≡◌, ◌∙◌, ◌+◌, ◌<◌, ◌≤◌, ℕ, Bool, true, false, List, [], ◌∷◌, ◌++◌, length, map, take, Option, Some, None, slice_get, refl, ap, sym, subst, arith, append-nil, if◌then◌else◌}
+use Rattle.std.specs.Prelude.{fold, option_map}
 use Rattle.std.proofs.lemmas.Option.{same_Some}
 use Rattle.fio_message.specs.declared.commands.Command.{Command}
 use Rattle.fio_message.specs.declared.commands.Command.TheVariants as commands
@@ -15,10 +14,8 @@ use Rattle.fio_module.specs.Settings.{Settings, AreInRange}
 use Rattle.fio_module.specs.Life.{Life, Occurrence, Scanned, LineSynced, Raised, filter_events, life_after_command, life_of}
 use Rattle.fio_module.specs.Life as module_events
 use Rattle.fio_module.specs.Log.{Transition, entry_of, log_of}
-use Rattle.fio_module.specs.Blocks.{MadeBlock, is_new, blocks_of, end_of_blocks, last_end}
-use Rattle.fio_module.specs.Laws.{FollowOneAnother, IsPartOf}
-use Rattle.fio_module.proofs.BlockLaws.{blocks_follow, blocks_without_more_take_all}
-use Rattle.fio_module.proofs.Ends.{last_end-append}
+use Rattle.fio_module.specs.Blocks.{MadeBlock, latest_poll, blocks_of, end_of_blocks}
+use Rattle.fio_module.proofs.BlockLaws.{blocks_without_more_take_all}
 use Rattle.fio_module.proofs.LifeLaws.{log_of-with_command}
 use Rattle.fio_module.proofs.ListParts.{get_in_front}
 use Rattle.fio_module.proofs.NewLevels.{later_log}
@@ -31,22 +28,19 @@ use Rattle.fio_world.specs.Link.{SentFrame, Machine, start, number_of, sending_r
 use Rattle.fio_world.specs.Frames.{HasPoll}
 use Rattle.fio_world.specs.Rounds.{next_round}
 use Rattle.fio_world.proofs.HeardRows.{after_taken}
-use Rattle.fio_world.proofs.OneLife.{continues}
+use Rattle.fio_world.proofs.OneLife.{Continues, poll_continues}
 use Rattle.fio_world.proofs.OneLifeRows.{IsKept}
-use Rattle.fio_world.proofs.Places.{get_before_push, get_part, take_one_more}
+use Rattle.fio_world.proofs.Places.{get_before_push}
 use Rattle.fio_world.proofs.RoundNumbers.{number_of-fits}
 use Rattle.fio_world.proofs.SentMessages.{none_more}
 use Rattle.fio_ends.specs.ContentRuns.{ContentNeverAccuses}
 use Rattle.fio_ends.proofs.AlternateBlocks.{HasContent, HasLatest, Leaves, content_gap, entries_leave}
+use Rattle.fio_ends.proofs.BlockPlaces.{IsNext, end_at, ends_within, is_next}
 use Rattle.fio_ends.proofs.ContentRuns.{content_never_accuses}
 use Rattle.fio_ends.proofs.ContentSteps.{IsInvariant, IsPastBus, Takes}
 use Rattle.fio_ends.proofs.QuietSince.{IsAskedQuietly, IsNoConfiguration, IsOfNext, IsQuietSince, IsUnasked, asked-first, asked-happens, asked-received, asked-sent, quiet-happens, quiet-received, quiet-sent, unasked-received}
 use Rattle.fio_ends.proofs.Sends.{read_back}
 use Rattle.fio_ends.proofs.SourcesTaken.{blocks_grow}
-
--- where the first blocks of a life end
-abbrev pub end_at : Settings → Life → ℕ → ℕ
-end_at settings life round = end_of_blocks (take round (blocks_of settings life))
 
 -- what a prompt run keeps of its machine and of what is known of content
 pub record KeepsAlternate (settings : Settings) (life : Life) (frames : List SentFrame) (last round : ℕ) (facts : ContentFacts) : Type 0 where
@@ -58,31 +52,6 @@ pub record KeepsAlternate (settings : Settings) (life : Life) (frames : List Sen
 abbrev pub AlternateHolds : Settings → ℕ → Machine → ContentFacts → Type 0
 AlternateHolds settings first machine facts =
     KeepsAlternate settings (life_of machine.history) machine.to_module machine.last_to_module machine.round facts
-
--- ---- blocks by places
-
--- the first blocks end within the log
-end_within : (log : List Transition) (per_block before k : ℕ) (blocks : List MadeBlock) → before ≤ length log
-    → FollowOneAnother log per_block before blocks → last_end before (take k blocks) ≤ length log
-end_within log per_block before zero blocks within follow = within
-end_within log per_block before (suc k) [] within follow = within
-end_within log per_block before (suc k) (block ∷ blocks) within follow =
-    end_within log per_block block.end k blocks follow.1.within follow.2
-
-pub ends_within : (settings : Settings) (life : Life) (round : ℕ) → end_at settings life round ≤ length (log_of life)
-ends_within settings life round =
-    end_within (log_of life) settings.per_block 0 round (blocks_of settings life) (omega arith) (blocks_follow settings life)
-
--- a block begins where those before it end, and is a part of the log
-pub part_at : (log : List Transition) (per_block before k : ℕ) (blocks : List MadeBlock) (block : MadeBlock)
-    → FollowOneAnother log per_block before blocks → slice_get blocks k ≡ Some block
-    → (block.before ≡ last_end before (take k blocks)) × IsPartOf log per_block block
-part_at log per_block before k [] block follow at = absurd (cc at)
-part_at log per_block before zero (first ∷ blocks) block follow at =
-    let same : first ≡ block = same_Some _ _ at in
-    (ap (λ (b : MadeBlock). b.before) (sym same) ∙ follow.0, subst (IsPartOf log per_block) same follow.1)
-part_at log per_block before (suc k) (first ∷ blocks) block follow at =
-    part_at log per_block first.end k blocks block follow.2 at
 
 -- ---- the log grows, and what is quiet stays so
 
@@ -232,15 +201,12 @@ module _ (settings : Settings) (life : Life) (frames : List SentFrame) (last rou
       → below.asked_quiet ≡ facts.asked_quiet
       → KeepsAlternate settings life frames last (round + 1) (content_with below (Ended block.more))
   holds-ended block made sent_before few asking below c same =
-      let end : block.end ≡ end_at settings life (round + 1) =
-      sym (ap end_of_blocks (take_one_more (blocks_of settings life) round block made)
-      ∙ last_end-append 0 (take round (blocks_of settings life)) block) in
       record {
         unasked = λ is.
             record { sent = λ place number r poll. (let le = sent_before place number r poll in omega arith); made = few };
         asked = λ is quiet. absurd (cc is);
         content =
-            subst (λ n. HasContent life frames last n (content_with below (Ended block.more))) end
+            subst (λ n. HasContent life frames last n (content_with below (Ended block.more))) (is_next settings life round block made).ends
             (record { clear = λ is. by_more block.more refl is; latest = c.latest });
       }
     where
@@ -255,10 +221,8 @@ module _ (settings : Settings) (life : Life) (frames : List SentFrame) (last rou
           let took = blocks_without_more_take_all settings m.earlier (ap (λ (b : MadeBlock). b.more) (sym m.is) ∙ is) in
           let ends : block.end ≡ length (log_of m.earlier) = ap (λ (b : MadeBlock). b.end) m.is ∙ took in
           record {
-            later = m.later;
             earlier = m.earlier;
-            at = m.at;
-            none_applied = m.none_applied;
+            none_since = m.none_since;
             logged = omega arith;
             none_coming = λ k f low there. a.none_sent k f (omega (arith, m.passed)) there;
           }
@@ -272,37 +236,22 @@ module _ (settings : Settings) (life : Life) (frames : List SentFrame) (last rou
       → Leaves Q facts (map Recorded (gap_if lost ++ map (item_of stamp) (map entry_of block.transitions)) ++ rest)
   block_leaves Q rest block stamp made then_rest marked says = by_loss marked says
     where
-      part : (block.before ≡ end_at settings life round) × IsPartOf (log_of life) settings.per_block block
-      part = part_at (log_of life) settings.per_block 0 round (blocks_of settings life) block (blocks_follow settings life) made
-
-      count : block.start + length block.transitions ≡ block.end
-      count =
-          let size = block.end - block.start in
-          let all : length block.transitions ≡ length (take size (drop block.start (log_of life))) = ap length part.1.transitions in
-          omega (arith, part.1.ends, part.1.within, length-take size (drop block.start (log_of life)), length-drop block.start (log_of life))
-
-      stands : (k : ℕ) (t : Transition) → slice_get block.transitions k ≡ Some t → slice_get (log_of life) (block.start + k) ≡ Some t
-      stands k t at =
-          get_part (block.end - block.start) block.start (log_of life) k t
-          (ap (λ (ts : List Transition). slice_get ts k) (sym part.1.transitions) ∙ at)
+      next : IsNext settings life round block
+      next = is_next settings life round block made
 
       entries : (above : ContentFacts) → HasContent life frames last block.start above → above.asked_quiet ≡ facts.asked_quiet
           → Leaves Q above (map Recorded (map (item_of stamp) (map entry_of block.transitions)) ++ rest)
       entries above c same =
-          entries_leave life frames last Q rest stamp facts.asked_quiet block.transitions block.start above stands c same
-          (λ below content is. then_rest below (subst (λ n. HasContent life frames last n below) count content) is)
+          entries_leave life frames last Q rest stamp facts.asked_quiet block.transitions block.start above next.logged c same
+          (λ below content is. then_rest below (subst (λ n. HasContent life frames last n below) next.count content) is)
 
       by_loss : (lost : Bool) → block.lost ≡ lost
           → Leaves Q facts (map Recorded (gap_if lost ++ map (item_of stamp) (map entry_of block.transitions)) ++ rest)
       by_loss true is =
-          let le : end_at settings life round ≤ block.start = omega (arith, part.0, part.1.forward) in
-          let left = entries (content_with facts (Recorded Gap)) (content_gap life frames last (end_at settings life round) block.start facts le h.content) refl in
+          let left = entries (content_with facts (Recorded Gap)) (content_gap life frames last (end_at settings life round) block.start facts next.forward h.content) refl in
           ((tt, left.0), left.1)
       by_loss false is =
-          let forward : block.before ≤ block.start = part.1.forward in
-          let kept : nat_lt block.before block.start ≡ false = sym part.1.lost ∙ is in
-          let same : block.before ≡ block.start = grind (arith, nat_tests) in
-          entries facts (subst (λ n. HasContent life frames last n facts) (sym part.0 ∙ same) h.content) refl
+          entries facts (subst (λ n. HasContent life frames last n facts) (next.begins is) h.content) refl
 
 module _ (settings : Settings) (first : ℕ) where
   holds-start : AlternateHolds settings first start no_content
@@ -357,15 +306,9 @@ module _ (settings : Settings) (first : ℕ) where
     of_next : IsKept settings first machine → (place : ℕ) (frame : SentFrame) → machine.last_to_module ≤ place + 1
         → slice_get machine.to_module place ≡ Some frame → IsOfNext settings life_now frame
     of_next k place frame le at number is new =
-        let poll : HasPoll machine.to_module place number frame.round =
-        record { frame = frame; at_place = at; spells = ap polled_number is; of_round = refl } in
-        let low : frame.round ≤ machine.round = k.always.polls.sent place number frame.round poll in
-        let high : next_round machine.polls ≤ frame.round + 1 = k.always.polls.ahead place number frame.round le poll in
-        let upto : machine.round ≤ next_round machine.polls = k.always.answers.behind in
-        let named : number ≡ number_of first frame.round = k.always.polls.numbers place number frame.round poll in
-        let next = continues first frame.round number machine.polls true named (omega arith) high
-        (ap (λ latest. is_new latest number) (sym k.one_life.in_life.polled) ∙ new) in
-        next.0 ∙ k.one_life.in_life.made
+        let p = poll_continues settings first machine k.always (latest_poll life_now) k.one_life.in_life.polled place number frame
+        le at (ap polled_number is) in
+        (subst (λ b. Continues b frame.round machine.polls) new p.met).0 ∙ k.one_life.in_life.made
 
     receives-frame : IsKept settings first machine → (place : ℕ) (frame : SentFrame) → machine.last_to_module < place + 1
         → slice_get machine.to_module place ≡ Some frame

@@ -12,11 +12,9 @@ use Rattle.fio_input.specs.FilterRule.{Setting, filter_in_force}
 use Rattle.fio_input.specs.Widening.{wide_time_of}
 use Rattle.fio_input.proofs.Apart.{carried}
 use Rattle.fio_input.proofs.FewReports.{leaves_each}
-use Rattle.fio_module.specs.Alternation.{AreSuccessive}
 use Rattle.fio_module.specs.Blocks.{MadeBlock}
 use Rattle.fio_module.specs.Life.{Life, filter_events}
 use Rattle.fio_module.specs.Log.{Transition, entry_of, log_of}
-use Rattle.fio_module.proofs.Alternation.{transitions_alternate}
 use Rattle.fio_module.proofs.Growth.{filter_events-append}
 use Rattle.fio_module.proofs.ListParts.{get_in_front}
 use Rattle.fio_cpu.specs.declared.record.Item.{Item}
@@ -30,7 +28,7 @@ use Rattle.fio_check.specs.declared.content_rules.ContentRule.TheVariants.{Apart
 use Rattle.fio_world.specs.Claims.{Source, From}
 use Rattle.fio_world.specs.Link.{SentFrame}
 use Rattle.fio_ends.specs.ContentRuns.{IsOfAnother, NextOfInputIsNear}
-use Rattle.fio_ends.proofs.AlternateBlocks.{HasContent, HasLatest, content_entry}
+use Rattle.fio_ends.proofs.AlternateBlocks.{HasContent, HasLatest, alternate_since, content_entry}
 use Rattle.fio_ends.proofs.Clocks.{IsClocked}
 use Rattle.fio_ends.proofs.ContentLines.{EntriesKeep}
 use Rattle.fio_ends.proofs.FiltersTaken.{AreInForce, KnowsFilters, filters-same}
@@ -101,25 +99,15 @@ module _ (life : Life) (frames : List SentFrame) (last : ℕ) where
     comes_apart : (older : LatestEntry) (h : HasLatest life frames last upto t.input older) → IsQuietSince life frames last h.place
         → (l : LatestTime log upto sources t.input older.wide)
         → l.transition.scans + filter_to (input_setting t.input (filter_events life)) t.level ≤ t.scans
-    comes_apart older h q l =
-        let whole = ap log_of q.at in
-        let same = one_place upto t.input older.wide sources older h l in
-        let successive : AreSuccessive t.input q.earlier q.later l.place upto l.transition t = record {
-          since = (let logged = q.logged in omega arith);
-          in_order = l.before;
-          older_at = ap (λ all. slice_get all l.place) (sym whole) ∙ l.at;
-          newer_at = ap (λ all. slice_get all upto) (sym whole) ∙ at;
-          older_of = l.of_input;
-          newer_of = refl;
-          none_between = λ k between low high there.
-              l.none_behind k between low high (ap (λ all. slice_get all k) whole ∙ there);
-        } in
-        let a = transitions_alternate t.input l.place upto q.earlier q.later l.transition t q.none_applied successive in
-        let leave = leaves_each t.input (filter_events q.later) q.none_applied in
+    comes_apart older h quiet l =
+        let q = subst (IsQuietSince life frames last) (one_place upto t.input older.wide sources older h l) quiet in
+        let a = alternate_since life frames last l.place upto l.transition t q l.before l.at at l.of_input l.none_behind in
+        let n = q.none_since in
+        let leave = leaves_each t.input (filter_events n.later) n.none_applied in
         let setting : input_setting t.input (filter_events life) ≡ input_setting t.input (filter_events q.earlier) =
-        ap (λ l. input_setting t.input (filter_events l)) q.at
-        ∙ ap (input_setting t.input) (filter_events-append q.later q.earlier)
-        ∙ (carried t.input (filter_events q.later) (filter_events q.earlier) leave).setting in
+        ap (λ l. input_setting t.input (filter_events l)) n.at
+        ∙ ap (input_setting t.input) (filter_events-append n.later q.earlier)
+        ∙ (carried t.input (filter_events n.later) (filter_events q.earlier) leave).setting in
         subst (λ s. l.transition.scans + filter_to s t.level ≤ t.scans) (sym setting) a.apart
 
     not_too_near : (wide : ℕ) (older : LatestEntry) (h : HasLatest life frames last upto t.input older) → IsQuietSince life frames last h.place

@@ -1,9 +1,8 @@
 -- The rule `apart` never accuses.
-use Rattle.std.proofs.Common.{◌≡◌, ◌∙◌, ◌+◌, ◌-◌, ◌<◌, ◌≤◌, ◌&&◌, ℕ, Bool, true, false, not, List, [], ◌∷◌, ◌++◌, drop, length, map, take, Some, None, slice_get, refl, ap, sym, subst, arith, append-nil, append_assoc, length-drop, length-take, if◌then◌else◌}
-use Rattle.std.specs.Prelude.{fold, nat_lt}
+use Rattle.std.proofs.Common.{◌≡◌, ◌∙◌, ◌+◌, ◌<◌, ◌≤◌, ◌&&◌, ℕ, Bool, true, false, not, List, [], ◌∷◌, ◌++◌, length, map, take, Some, None, refl, ap, sym, subst, arith, append-nil, append_assoc, if◌then◌else◌}
+use Rattle.std.specs.Prelude.{fold}
 use Rattle.std.specs.Bool.{beq}
 use Rattle.std.specs.List.{AllByRecursion, AllZip, flat_map}
-use Rattle.std.proofs.lemmas.Bool.Decides.{nat_tests}
 use Rattle.std.proofs.lemmas.Grind.{fold-append}
 use Rattle.fio_message.specs.declared.commands.Command.{Command}
 use Rattle.fio_message.specs.declared.commands.Command.TheVariants as commands
@@ -16,9 +15,6 @@ use Rattle.fio_module.specs.Life.{Life, life_after_command, life_of}
 use Rattle.fio_module.specs.Life as module_events
 use Rattle.fio_module.specs.Log.{Transition, entry_of, log_of, transitions_below}
 use Rattle.fio_module.specs.Blocks.{MadeBlock, blocks_of, end_of_blocks}
-use Rattle.fio_module.specs.Laws.{IsPartOf}
-use Rattle.fio_module.proofs.BlockLaws.{blocks_follow}
-use Rattle.fio_module.proofs.Ends.{last_end-append}
 use Rattle.fio_module.proofs.LifeLaws.{log_of-with_command}
 use Rattle.fio_module.proofs.ListParts.{each-back}
 use Rattle.fio_cpu.specs.declared.record.Item.{Item}
@@ -35,12 +31,12 @@ use Rattle.fio_world.proofs.HeardRows.{after_taken}
 use Rattle.fio_world.proofs.MadeBlocks.{each-at}
 use Rattle.fio_world.proofs.OneLife.{items_of_block-carried, recorded_of}
 use Rattle.fio_world.proofs.OneLifeRows.{IsKept}
-use Rattle.fio_world.proofs.Places.{get_part, take_one_more}
 use Rattle.fio_world.proofs.RoundNumbers.{number_of-fits}
 use Rattle.fio_ends.specs.ContentRuns.{ContentNeverAccuses, HaveTimesFor, NextOfInputIsNear, WaitsBriefly, sources_taken}
 use Rattle.fio_ends.proofs.AlternateBlocks.{HasContent, content_gap}
-use Rattle.fio_ends.proofs.AlternateRuns.{AlternateHolds, alternate_is_invariant, end_at, ends_within, part_at}
+use Rattle.fio_ends.proofs.AlternateRuns.{AlternateHolds, alternate_is_invariant}
 use Rattle.fio_ends.proofs.ApartBlocks.{LeavesTimes, apart_entries}
+use Rattle.fio_ends.proofs.BlockPlaces.{IsNext, end_at, ends_within, is_next}
 use Rattle.fio_ends.proofs.Clocks.{IsClocked, blocks_clocked, blocks_keep_clock}
 use Rattle.fio_ends.proofs.ContentLines.{EntriesKeep, entries_keep}
 use Rattle.fio_ends.proofs.ContentRuns.{content_never_accuses}
@@ -127,19 +123,8 @@ module _ (settings : Settings) (range : AreInRange settings) (first : ℕ) where
     abbrev own : List Source
     own = map (λ t. From t block) block.transitions
 
-    part : (block.before ≡ end_at settings life machine.round) × IsPartOf (log_of life) settings.per_block block
-    part = part_at (log_of life) settings.per_block 0 machine.round (blocks_of settings life) block (blocks_follow settings life) t.made
-
-    count : block.start + length block.transitions ≡ block.end
-    count =
-        let size = block.end - block.start in
-        let all : length block.transitions ≡ length (take size (drop block.start (log_of life))) = ap length part.1.transitions in
-        omega (arith, part.1.ends, part.1.within, length-take size (drop block.start (log_of life)), length-drop block.start (log_of life))
-
-    stands : (k : ℕ) (u : Transition) → slice_get block.transitions k ≡ Some u → slice_get (log_of life) (block.start + k) ≡ Some u
-    stands k u at =
-        get_part (block.end - block.start) block.start (log_of life) k u
-        (ap (λ (ts : List Transition). slice_get ts k) (sym part.1.transitions) ∙ at)
+    next : IsNext settings life machine.round block
+    next = is_next settings life machine.round block t.made
 
     zip : AllZip IsClocked entries own
     zip =
@@ -158,31 +143,27 @@ module _ (settings : Settings) (range : AreInRange settings) (first : ℕ) where
         let frames = machine.to_module in
         let last = machine.last_to_module in
         let marked = content_with facts (Recorded Gap) in
-        let le : end_at settings life machine.round ≤ block.start = omega (arith, part.0, part.1.forward) in
         let assoc : (taken ++ Loss ∷ []) ++ own ≡ taken ++ Loss ∷ own = append_assoc taken (Loss ∷ []) own in
-        let left = apart_entries life frames last block block.stamp block.transitions block.start (taken ++ Loss ∷ []) marked stands
-        (content_gap life frames last (end_at settings life machine.round) block.start facts le h.alternate.content)
+        let left = apart_entries life frames last block block.stamp block.transitions block.start (taken ++ Loss ∷ []) marked next.logged
+        (content_gap life frames last (end_at settings life machine.round) block.start facts next.forward h.alternate.content)
         (λ input entry none. absurd (cc none))
         (filters-same life frames last facts marked (record { accepted = refl; filters = λ input. refl; loaded = refl }) h.filters)
         zip (subst NextOfInputIsNear (sym assoc) near) in
         record {
           keep = (tt, left.keep);
           knows = subst (λ s. KnowsLatest (log_of life) block.end s (fold content_with marked (map Recorded entries))) assoc
-              (subst (λ n. KnowsLatest (log_of life) n ((taken ++ Loss ∷ []) ++ own) (fold content_with marked (map Recorded entries))) count left.knows);
+              (subst (λ n. KnowsLatest (log_of life) n ((taken ++ Loss ∷ []) ++ own) (fold content_with marked (map Recorded entries))) next.count left.knows);
         }
     by_loss false is near =
         let frames = machine.to_module in
         let last = machine.last_to_module in
-        let forward : block.before ≤ block.start = part.1.forward in
-        let kept : nat_lt block.before block.start ≡ false = sym part.1.lost ∙ is in
-        let same : block.before ≡ block.start = grind (arith, nat_tests) in
-        let begins : end_at settings life machine.round ≡ block.start = sym part.0 ∙ same in
-        let left = apart_entries life frames last block block.stamp block.transitions block.start taken facts stands
+        let begins = next.begins is in
+        let left = apart_entries life frames last block block.stamp block.transitions block.start taken facts next.logged
         (subst (λ n. HasContent life frames last n facts) begins h.alternate.content)
         (subst (λ n. KnowsLatest (log_of life) n taken facts) begins (h.latest loaded)) h.filters zip near in
         record {
           keep = left.keep;
-          knows = subst (λ n. KnowsLatest (log_of life) n (taken ++ own) (fold content_with facts (map Recorded entries))) count left.knows;
+          knows = subst (λ n. KnowsLatest (log_of life) n (taken ++ own) (fold content_with facts (map Recorded entries))) next.count left.knows;
         }
 
     block_leaves : LeavesTimes life machine.to_module machine.last_to_module facts (items_of_block answer) block.end (taken ++ sources_of block)
@@ -194,9 +175,6 @@ module _ (settings : Settings) (range : AreInRange settings) (first : ℕ) where
     latest-taken : KnowsLatest (log_of life) (end_at settings life (machine.round + 1)) (sources_taken settings (after_taken machine place answer))
         (fold content_with facts (events_of_block answer))
     latest-taken =
-        let end : block.end ≡ end_at settings life (machine.round + 1) =
-        sym (ap end_of_blocks (take_one_more (blocks_of settings life) machine.round block t.made)
-        ∙ last_end-append 0 (take machine.round (blocks_of settings life)) block) in
         let events = map Recorded (items_of_block answer) in
         let below = fold content_with facts events in
         let last = fold-append content_with facts events (Ended (says_more answer.status) ∷ []) in
@@ -204,7 +182,7 @@ module _ (settings : Settings) (range : AreInRange settings) (first : ℕ) where
         λ input entry is. block_leaves.knows input entry is in
         subst (λ s. KnowsLatest (log_of life) (end_at settings life (machine.round + 1)) s (fold content_with facts (events_of_block answer)))
         (sym (sources_with settings machine place answer block t.made))
-        (subst (λ n. KnowsLatest (log_of life) n (taken ++ sources_of block) (fold content_with facts (events_of_block answer))) end
+        (subst (λ n. KnowsLatest (log_of life) n (taken ++ sources_of block) (fold content_with facts (events_of_block answer))) next.ends
         (subst (KnowsLatest (log_of life) block.end (taken ++ sources_of block)) (sym last) ended))
 
   apart-keeps : (machine : Machine) (facts : ContentFacts) (place : ℕ) (answer : Block) (block : MadeBlock)

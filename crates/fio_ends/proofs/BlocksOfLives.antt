@@ -1,50 +1,25 @@
 -- What the rules ask of blocks: how many entries each has, and that the one after a block with C has some.
-use Rattle.std.proofs.Common.{◌≡◌, ◌∙◌, ◌+◌, ◌-◌, ◌<◌, ◌≤◌, inl, inr, min, ℕ, zero, suc, Bool, true, false, List, [], ◌∷◌, ◌++◌, length, drop, Option, Some, None, ap, sym, subst, arith, length-take, length-drop, length-append, if◌then◌else◌}
+use Rattle.std.proofs.Common.{◌≡◌, ◌∙◌, ◌+◌, ◌-◌, ◌<◌, ◌≤◌, inl, inr, min, ℕ, Bool, true, false, List, [], ◌∷◌, ◌++◌, length, drop, Option, Some, None, ap, sym, subst, arith, length-take, length-drop, length-append, if◌then◌else◌}
 use Rattle.std.specs.Prelude.{nat_lt, slice_get}
 use Rattle.std.specs.List.{AllByRecursion}
 use Rattle.std.proofs.lemmas.Bool.Decides.{nat_tests}
 use Rattle.std.proofs.lemmas.Option.{slice_get_within}
 use Rattle.fio_message.specs.declared.commands.Command.{Command}
 use Rattle.fio_message.specs.declared.commands.Command.TheVariants.{Poll}
-use Rattle.fio_input.specs.FilterHistory.{is_reported}
 use Rattle.fio_module.specs.Settings.{Settings}
-use Rattle.fio_module.specs.Life.{Life, Scanned, Commanded, life_after_command, filter_events}
-use Rattle.fio_module.specs.Log.{Transition, log_of, transition_at, transitions_below}
+use Rattle.fio_module.specs.Life.{Life, Scanned, Commanded, life_after_command}
+use Rattle.fio_module.specs.Log.{log_of, transitions_below}
 use Rattle.fio_module.specs.Blocks.{MadeBlock, latest_poll, is_new, blocks_of, end_of_blocks, newest_end, next_block, start_after, count_from}
 use Rattle.fio_module.proofs.BlockLaws.{losses_leave_more}
 use Rattle.fio_module.proofs.Ends.{last_end-append}
 use Rattle.fio_world.proofs.Places.{get_after_push, get_before_push}
-use Rattle.fio_world.proofs.MadeBlocks.{each-append, each-take, each-drop, each_block}
-
--- a transition of an input that a module has
-abbrev pub HasInput : Transition → Type 0
-HasInput transition = transition.input < 64
+use Rattle.fio_world.proofs.MadeBlocks.{HasInput, each_block, next_fits}
 
 -- a block that keeps the limits: F implies C, C implies that it is full, and all its inputs are there
 pub record KeepsLimits (per_block : ℕ) (block : MadeBlock) : Type 0 where
   pub lost : block.lost ≡ true → block.more ≡ true
   pub more : block.more ≡ true → length block.transitions ≡ per_block
   pub inputs : AllByRecursion HasInput block.transitions
-
-one_input : (reported : Bool) (life : Life) (input : ℕ) → input < 64
-    → AllByRecursion HasInput (if reported then transition_at life input ∷ [] else [])
-one_input true life input low = (low, tt)
-one_input false life input low = tt
-
-below_inputs : (count raw : ℕ) (life : Life) → count ≤ 64
-    → AllByRecursion HasInput (transitions_below count raw life)
-unfolding transitions_below
-below_inputs zero raw life low = tt
-below_inputs (suc input) raw life low =
-    each-append HasInput (transitions_below input raw life) _ (below_inputs input raw life (omega arith))
-    (one_input (is_reported input raw (filter_events life)) (Scanned raw ∷ life) input (omega arith))
-
--- the log has transitions of such inputs alone
-log_inputs : (life : Life) → AllByRecursion HasInput (log_of life)
-log_inputs [] = tt
-log_inputs (Scanned raw ∷ life) =
-    each-append HasInput (log_of life) _ (log_inputs life) (below_inputs 64 raw life (omega arith))
-log_inputs (other ∷ life) = log_inputs life
 
 full_if : (per_block left : ℕ) → nat_lt per_block left ≡ true → min per_block left ≡ per_block
 full_if per_block left more = grind (arith, nat_tests)
@@ -62,7 +37,7 @@ next_keeps settings fewer life =
           (let full : count ≡ settings.per_block = full_if settings.per_block (length log - start) more in
           let over : settings.per_block < length log - start = grind (arith, nat_tests) in
           omega (arith, length-take count (drop start log), length-drop start log));
-      inputs = each-take HasInput count (drop start log) (each-drop HasInput start log (log_inputs life));
+      inputs = (next_fits settings life).inputs;
     }
 
 -- and so does each block of a life

@@ -28,13 +28,13 @@ use Rattle.fio_world.specs.Link.{SentFrame, Machine, number_of, after_delivered_
 use Rattle.fio_world.specs.Frames.{HasBlock}
 use Rattle.fio_world.specs.Rounds.{next_round, CarriesBlockOf}
 use Rattle.fio_world.proofs.RoundNumbers.{number_of-next}
-use Rattle.fio_world.proofs.MadeBlocks.{each-at}
+use Rattle.fio_world.proofs.MadeBlocks.{HasInput, each-at}
 use Rattle.fio_world.proofs.HeardRows.{after_taken, same_round}
 use Rattle.fio_world.proofs.Rows.{after_delivery}
 use Rattle.fio_world.proofs.OneLifeRows.{IsKept, carries_own}
 use Rattle.fio_ends.specs.Transcripts.{frame_heard}
 use Rattle.fio_ends.proofs.Rules.{KeepsRules, no_rule_broken}
-use Rattle.fio_ends.proofs.BlocksOfLives.{HasInput, KeepsLimits, blocks_keep, blocks_leave}
+use Rattle.fio_ends.proofs.BlocksOfLives.{KeepsLimits, blocks_keep, blocks_leave}
 use Rattle.fio_ends.proofs.Heard.{IsHeardAs}
 use Rattle.fio_ends.proofs.Following.{IsAsked, IsReceived, IsBlockFor, Answers, Stage, Follows, Keeps}
 

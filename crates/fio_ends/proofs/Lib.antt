@@ -22,6 +22,7 @@ pub mod Unloaded
 pub mod OrderKept
 pub mod QuietSince
 pub mod AlternateBlocks
+pub mod BlockPlaces
 pub mod AlternateRuns
 pub mod FiltersTaken
 pub mod LatestTimes

@@ -27,23 +27,25 @@ abbrev pub NoneConfigures : List SentFrame → ℕ → Type 0
 NoneConfigures frames since = (place : ℕ) (frame : SentFrame) → since ≤ place → slice_get frames place ≡ Some frame
     → IsNoConfiguration frame
 
+-- no configuration was applied between two times
+pub record NoneAppliedSince (earlier life : Life) : Type 0 where
+  pub later : Life
+  pub at : life ≡ later ++ earlier
+  pub none_applied : NoneIsApplied (filter_events later)
+
 -- Since a time at which the log ended at or before this place, no configuration was applied, and of the frames
 -- that are not delivered none is one.
 pub record IsQuietSince (life : Life) (frames : List SentFrame) (last place : ℕ) : Type 0 where
-  pub later : Life
   pub earlier : Life
-  pub at : life ≡ later ++ earlier
-  pub none_applied : NoneIsApplied (filter_events later)
+  pub none_since : NoneAppliedSince earlier life
   pub logged : length (log_of earlier) ≤ place
   pub none_coming : NoneConfigures frames last
 
 -- Since the first poll of this round was sent no configuration was; and where its block was made, none was applied
 -- since.
 pub record IsMadeQuietly (settings : Settings) (life : Life) (block : MadeBlock) (since last : ℕ) : Type 0 where
-  pub later : Life
   pub earlier : Life
-  pub at : life ≡ later ++ earlier
-  pub none_applied : NoneIsApplied (filter_events later)
+  pub none_since : NoneAppliedSince earlier life
   pub is : block ≡ next_block settings earlier
   pub passed : since ≤ last
 
@@ -65,32 +67,28 @@ pub record IsUnasked (settings : Settings) (life : Life) (frames : List SentFram
 pub quiet-further : (life : Life) (frames : List SentFrame) (last place further : ℕ) → place ≤ further
     → IsQuietSince life frames last place → IsQuietSince life frames last further
 quiet-further life frames last place further le q =
-    record {
-      later = q.later;
-      earlier = q.earlier;
-      at = q.at;
-      none_applied = q.none_applied;
-      logged = omega (arith, q.logged);
-      none_coming = q.none_coming;
-    }
+    record { earlier = q.earlier; none_since = q.none_since; logged = omega (arith, q.logged); none_coming = q.none_coming }
 
 -- ---- something happens to the module past the bus
 
-none_more : (occurrence : Occurrence) (later : Life) → NoneIsApplied (filter_events (occurrence ∷ []))
-    → NoneIsApplied (filter_events later) → NoneIsApplied (filter_events (occurrence ∷ later))
-none_more occurrence later one rest =
-    subst NoneIsApplied (sym (filter_events-append (occurrence ∷ []) later))
-    (each-append IsNotApplied (filter_events (occurrence ∷ [])) (filter_events later) one rest)
+since-happens : (earlier life : Life) (occurrence : Occurrence) → NoneIsApplied (filter_events (occurrence ∷ []))
+    → NoneAppliedSince earlier life → NoneAppliedSince earlier (occurrence ∷ life)
+since-happens earlier life occurrence one n =
+    record {
+      later = occurrence ∷ n.later;
+      at = ap (λ l. occurrence ∷ l) n.at;
+      none_applied =
+          subst NoneIsApplied (sym (filter_events-append (occurrence ∷ []) n.later))
+          (each-append IsNotApplied (filter_events (occurrence ∷ [])) (filter_events n.later) one n.none_applied);
+    }
 
 pub quiet-happens : (life : Life) (frames : List SentFrame) (last place : ℕ) (occurrence : Occurrence)
     → NoneIsApplied (filter_events (occurrence ∷ [])) → IsQuietSince life frames last place
     → IsQuietSince (occurrence ∷ life) frames last place
 quiet-happens life frames last place occurrence one q =
     record {
-      later = occurrence ∷ q.later;
       earlier = q.earlier;
-      at = ap (λ l. occurrence ∷ l) q.at;
-      none_applied = none_more occurrence q.later one q.none_applied;
+      none_since = since-happens q.earlier life occurrence one q.none_since;
       logged = q.logged;
       none_coming = q.none_coming;
     }
@@ -107,10 +105,8 @@ asked-happens settings life frames last round occurrence one same a =
       made = λ block at.
           (let m = a.made block (ap (λ (bs : List MadeBlock). slice_get bs round) (sym same) ∙ at) in
           record {
-            later = occurrence ∷ m.later;
             earlier = m.earlier;
-            at = ap (λ l. occurrence ∷ l) m.at;
-            none_applied = none_more occurrence m.later one m.none_applied;
+            none_since = since-happens m.earlier life occurrence one m.none_since;
             is = m.is;
             passed = m.passed;
           });
@@ -139,10 +135,8 @@ pub quiet-sent : (life : Life) (frames : List SentFrame) (last place : ℕ) (f :
     → IsQuietSince life frames last place → IsQuietSince life (frames ++ f ∷ []) last place
 quiet-sent life frames last place f not_one q =
     record {
-      later = q.later;
       earlier = q.earlier;
-      at = q.at;
-      none_applied = q.none_applied;
+      none_since = q.none_since;
       logged = q.logged;
       none_coming = none-sent frames f last not_one q.none_coming;
     }
@@ -194,6 +188,16 @@ after_append : (command : Option Command) (later earlier : Life)
 after_append None later earlier = refl
 after_append (Some command) later earlier = refl
 
+since-received : (earlier life : Life) (command : Option Command)
+    → ((items : ArrayVec InputItem) → command ≡ Some (commands.ConfigureInputs items) → ⊥)
+    → NoneAppliedSince earlier life → NoneAppliedSince earlier (life_after_command command life)
+since-received earlier life command not_one n =
+    record {
+      later = life_after_command command n.later;
+      at = ap (life_after_command command) n.at ∙ after_append command n.later earlier;
+      none_applied = not_applied command n.later not_one n.none_applied;
+    }
+
 -- a block that is made by a command
 record IsMadeNow (settings : Settings) (life : Life) (command : Option Command) (k : ℕ) (block : MadeBlock) : Type 0 where
   pub number : ℕ
@@ -237,10 +241,8 @@ module _ (settings : Settings) (life : Life) (frames : List SentFrame) (last pla
   pub quiet-received : (logged : ℕ) → IsQuietSince life frames last logged → IsQuietSince life_then frames (place + 1) logged
   quiet-received logged q =
       record {
-        later = life_after_command command q.later;
         earlier = q.earlier;
-        at = ap (life_after_command command) q.at ∙ after_append command q.later q.earlier;
-        none_applied = not_applied command q.later (q.none_coming place frame new there) q.none_applied;
+        none_since = since-received q.earlier life command (q.none_coming place frame new there) q.none_since;
         logged = q.logged;
         none_coming = λ k f low at. q.none_coming k f (omega arith) at;
       }
@@ -263,10 +265,8 @@ module _ (settings : Settings) (life : Life) (frames : List SentFrame) (last pla
               | inl old ↦
                   let m = a.made block old in
                   record {
-                    later = life_after_command command m.later;
                     earlier = m.earlier;
-                    at = ap (life_after_command command) m.at ∙ after_append command m.later m.earlier;
-                    none_applied = not_applied command m.later (a.none_sent place frame (omega (arith, m.passed)) there) m.none_applied;
+                    none_since = since-received m.earlier life command (a.none_sent place frame (omega (arith, m.passed)) there) m.none_since;
                     is = m.is;
                     passed = omega (arith, m.passed);
                   }
@@ -275,10 +275,13 @@ module _ (settings : Settings) (life : Life) (frames : List SentFrame) (last pla
                   let since = a.polled place now.number
                   (subst (HasPoll frames place now.number) of_round (poll_here now.number now.polled)) in
                   record {
-                    later = Commanded (commands.Poll now.number) ∷ [];
                     earlier = life;
-                    at = ap (λ c. life_after_command c life) now.polled;
-                    none_applied = tt;
+                    none_since =
+                        record {
+                          later = Commanded (commands.Poll now.number) ∷ [];
+                          at = ap (λ c. life_after_command c life) now.polled;
+                          none_applied = tt;
+                        };
                     is = now.is;
                     passed = omega arith;
                   }

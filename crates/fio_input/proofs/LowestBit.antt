@@ -10,6 +10,7 @@ use Rattle.fio_message.proofs.Bits.{is_set-clear_same, is_set-clear_other}
 abbrev pub without : ℕ → ℕ → ℕ
 without word place = bit_and word (bit_not w64 (1 * 2 ^ place % 2 ^ 64))
 
+-- the lowest set bit of a word, and the word with that bit clear
 pub record IsLowest (word rest lowest : ℕ) : Type 0 where
   pub set : is_set word lowest ≡ true
   pub clear_below : (place : ℕ) → place < lowest → is_set word place ≡ false

@@ -63,20 +63,20 @@ module _ (settings : Settings) (range : AreInRange settings) (opened filter scan
   exactly : (later : Life) → IsKeptUp settings opened filter scans most life later → KeepsUpExactly settings opened filter scans life later
   exactly later k =
       let here = later ++ life in
-      let p = paced settings opened filter scans most life k.some k.enough k.room later
-      (nothing_left settings range life (ap length k.nothing_waits)) k.few_open k.behind in
+      let p = paced settings opened filter scans most life k.few_change.some k.few_change.enough k.room later
+      (nothing_left settings range life (ap length k.few_change.nothing_waits)) k.few_change.few_open k.behind in
       let keeps = holds_now (KeepsUp settings opened filter scans life) later (kept_up_keeps_up settings opened filter scans most life later range k) in
       let rest = p.before ++ life in
       let whole : here ≡ p.since ++ rest = ap (λ l. l ++ life) p.split ∙ append_assoc p.since p.before life in
-      let stay = subst IsFew p.split k.few_open in
+      let stay = subst IsFew p.split k.few_change.few_open in
       let few_beyond = keeps.few_beyond in
       let within : newest_end settings here ≤ length (log_of here) = blocks_end_within settings here in
       let from : waiting_from settings here ≡ newest_end settings here = omega arith in
       let count = length-drop (waiting_from settings here) (log_of here) in
       let grown = ap (λ l. length (log_of l)) whole in
-      let g = gained p.since p.before k.some stay in
+      let g = gained p.since p.before k.few_change.some stay in
       let bound = scans * p.full + scans_behind scans later life in
-      let filters_more = more_filters (scans_in (filter_events p.since) - 1) (bound - 1) filter k.some (omega (arith, p.scanned)) in
+      let filters_more = more_filters (scans_in (filter_events p.since) - 1) (bound - 1) filter k.few_change.some (omega (arith, p.scanned)) in
       let most_reports = mul-le-mul_left opened (add_one ((scans_in (filter_events p.since) - 1) / filter) ((bound - 1) / filter) filters_more) in
       record {
         blocks = p.full;
@@ -100,7 +100,7 @@ module _ (settings : Settings) (range : AreInRange settings) (opened filter scan
           let is' = subst (λ l. slice_get (log_of l) place ≡ Some transition) whole is in
           let w = was_logged p.since rest place transition (omega (arith, p.ended)) is' in
           let stay' = subst IsFew (ap (λ l. l ++ p.before) w.split ∙ append_assoc w.after w.upto p.before) stay in
-          let g = gained w.upto p.before k.some (few_before opened filter w.after (w.upto ++ p.before) life stay') in
+          let g = gained w.upto p.before k.few_change.some (few_before opened filter w.after (w.upto ++ p.before) life stay') in
           let counts = ap (λ l. scans_in (filter_events l)) w.split ∙ scans_in-append w.after w.upto in
           let now = ap scans_of whole in
           let upto = scans_in (filter_events w.upto) in
@@ -122,10 +122,13 @@ module _ (settings : Settings) (range : AreInRange settings) (opened filter scan
       earlier : (occurrence : Occurrence) (later : Life) → IsKeptUp settings opened filter scans most life (occurrence ∷ later) → IsKeptUp settings opened filter scans most life later
       earlier occurrence later k =
           record {
-            nothing_waits = k.nothing_waits;
-            some = k.some;
-            few_open = few_before opened filter (occurrence ∷ []) later life k.few_open;
-            enough = k.enough;
+            few_change =
+                record {
+                  nothing_waits = k.few_change.nothing_waits;
+                  some = k.few_change.some;
+                  few_open = few_before opened filter (occurrence ∷ []) later life k.few_change.few_open;
+                  enough = k.few_change.enough;
+                };
             behind = k.behind.1;
             room = k.room;
           }

@@ -1,13 +1,12 @@
 -- How late a transition can be in a block: blocks that keep up with the scans.
-use Rattle.std.specs.Prelude.{◌≡◌, ℕ, ◌+◌, ◌-◌, ◌*◌, ◌≤◌, [], ◌∷◌, ◌++◌, length, if◌then◌else◌}
+use Rattle.std.specs.Prelude.{ℕ, ◌+◌, ◌-◌, ◌*◌, ◌≤◌, [], ◌∷◌, ◌++◌, length, if◌then◌else◌}
 use Rattle.std.specs.List.{AllByRecursion}
 use Rattle.fio_message.specs.declared.commands.Command.TheVariants.{Poll}
-use Rattle.fio_input.specs.Delivery.{FewStayOpen}
 use Rattle.fio_module.specs.Settings.{Settings, AreInRange}
-use Rattle.fio_module.specs.Life.{Life, Scanned, Commanded, scans_of, filter_events}
+use Rattle.fio_module.specs.Life.{Life, Scanned, Commanded, scans_of}
 use Rattle.fio_module.specs.Log.{Transition}
 use Rattle.fio_module.specs.Blocks.{latest_poll, is_new, waiting_of}
-use Rattle.fio_module.specs.Delivery.{AtEachTime, FewBeyond}
+use Rattle.fio_module.specs.Delivery.{AtEachTime, FewBeyond, FewChange}
 use Rattle.fio_message.specs.declared.limits.TheConstants.{INPUTS}
 
 -- By how many scans the blocks are behind, of what happened after a life: each scan adds one, and
@@ -21,16 +20,11 @@ scans_behind scans (Commanded (Poll number) ∷ later) life =
     else scans_behind scans later life
 scans_behind scans (other ∷ later) life = scans_behind scans later life
 
--- Kept up with: from a time on at which nothing waits, the blocks are never more than `most` scans
--- behind, where each makes up for `scans`; no more than `opened` inputs stay open, whatever configurations
--- come, and in so many scans they change no more often than a block takes.
+-- Kept up with: from a time on at which nothing waits, few change, and the blocks are never more than `most`
+-- scans behind, where each makes up for `scans`.
 pub record IsKeptUp (settings : Settings) (opened filter scans most : ℕ) (life later : Life)
     : Type 0 where
-  pub nothing_waits : waiting_of settings life ≡ []
-  -- the filters of the open inputs are at least this
-  pub some : 1 ≤ filter
-  pub few_open : FewStayOpen opened filter (filter_events later) (filter_events life)
-  pub enough : opened * scans ≤ settings.per_block * filter
+  pub few_change : FewChange settings opened filter scans life later
   pub behind : AtEachTime (λ l. scans_behind scans l life ≤ most) later
   -- as many may wait as the open inputs can change in that many scans
   pub room : opened * (most + (filter - 1)) ≤ settings.waiting * filter

@@ -4,16 +4,16 @@ use Rattle.std.specs.List.{AllByRecursion}
 use Rattle.std.proofs.lemmas.Bool.{cases_lt}
 use Rattle.std.proofs.Math.Nat.{zero-div, mul-zero}
 use Rattle.std.proofs.lemmas.List.{take-append-le, append_cancel_right}
-use Rattle.fio_message.specs.declared.commands.Command.TheVariants.{Poll, ConfigureInputs}
+use Rattle.fio_message.specs.declared.commands.Command.TheVariants.{Poll}
 use Rattle.fio_input.specs.Delivery.{scans_in, FewStayOpen}
 use Rattle.fio_module.specs.Settings.{Settings, AreInRange}
-use Rattle.fio_module.specs.Life.{Life, Scanned, Commanded, life_of, scans_of, filter_events}
+use Rattle.fio_module.specs.Life.{Life, Commanded, life_of, scans_of, filter_events}
 use Rattle.fio_module.specs.Log.{Transition, log_of}
 use Rattle.fio_module.specs.Blocks.{MadeBlock, latest_poll, is_new, blocks_of, next_block, last_end, end_of_blocks, waiting_of}
 use Rattle.fio_module.specs.Laws.{FollowOneAnother}
 use Rattle.fio_module.specs.KeepingUp.{scans_behind, IsYoung}
 use Rattle.fio_module.specs.ExactBounds.{KeepsUpExactly}
-use Rattle.fio_module.proofs.ExactBounds.{kept_up_keeps_up_exactly}
+use Rattle.fio_module.proofs.ExactBounds.{no_scan, kept_up_keeps_up_exactly}
 use Rattle.fio_module.proofs.Losses.{holds_now}
 use Rattle.fio_module.proofs.Ages.{scans_in-append, was_logged}
 use Rattle.fio_module.proofs.NewLevels.{later_log, scans_of-append}
@@ -40,13 +40,6 @@ get_from_drop (suc n) (y ∷ xs) zero x low is = absurd (omega arith)
 get_from_drop (suc n) (y ∷ xs) (suc k) x low is =
     let same : suc k - suc n ≡ k - n = omega arith in
     ap (slice_get (drop n xs)) same ∙ get_from_drop n xs k x (omega arith) is
-
--- without a scan nothing is logged
-pub no_scan : (later life : Life) → scans_in (filter_events later) ≡ 0 → length (log_of (later ++ life)) ≡ length (log_of life)
-no_scan [] life none = refl
-no_scan (Scanned raw ∷ later) life none = absurd (omega arith)
-no_scan (Commanded (ConfigureInputs items) ∷ later) life none = no_scan later life none
-no_scan (other ∷ later) life none = no_scan later life none
 
 -- the blocks begin with what they were
 later_poll : (settings : Settings) (later life : Life) (number : ℕ) (new : Bool) → is_new (latest_poll (later ++ life)) number ≡ new
@@ -155,8 +148,8 @@ module _ (settings : Settings) (range : AreInRange settings) (first opened filte
 
   pub arrived_last : HasArrived settings opened filter (scans + behind) behind machine receipts last
   arrived_last =
-      arrives settings range first opened filter untaken scans machine b p.all_taken p.nothing_waits p.inputs p.some p.enough
-      receipts last later p.rounds p.since p.few_open
+      arrives settings range first opened filter untaken scans machine b p.all_taken p.few_change.nothing_waits p.inputs p.few_change.some p.few_change.enough
+      receipts last later p.rounds p.since p.few_change.few_open
 
   -- the scans since the newest poll was received, to the end of its round
   abbrev so_far : ℕ
@@ -164,17 +157,17 @@ module _ (settings : Settings) (range : AreInRange settings) (first opened filte
 
   all_taken_last : last.round ≡ length (blocks_in settings last)
   all_taken_last =
-      (has_chain settings range first opened filter untaken scans machine b p.all_taken p.nothing_waits p.inputs p.some p.enough receipts last p.rounds).reached.all_taken
+      (has_chain settings range first opened filter untaken scans machine b p.all_taken p.few_change.nothing_waits p.inputs p.few_change.some p.few_change.enough receipts last p.rounds).reached.all_taken
 
   order : scans_of (life_of last.history) ≡ scans_of (life_of (newest_of machine receipts).history) + so_far
   order =
-      let c = has_chain settings range first opened filter untaken scans machine b p.all_taken p.nothing_waits p.inputs p.some p.enough receipts last p.rounds in
+      let c = has_chain settings range first opened filter untaken scans machine b p.all_taken p.few_change.nothing_waits p.inputs p.few_change.some p.few_change.enough receipts last p.rounds in
       omega (arith, c.since_newest)
 
   -- no more than so many come until now
   few_so_far : so_far ≤ scans
   few_so_far =
-      let c = has_chain settings range first opened filter untaken scans machine b p.all_taken p.nothing_waits p.inputs p.some p.enough receipts last p.rounds in
+      let c = has_chain settings range first opened filter untaken scans machine b p.all_taken p.few_change.nothing_waits p.inputs p.few_change.some p.few_change.enough receipts last p.rounds in
       omega (arith, c.since_newest, c.few)
 
   since_last : LeadsInTime settings first (scans - so_far) last last now
@@ -192,25 +185,25 @@ module _ (settings : Settings) (range : AreInRange settings) (first opened filte
       → IsYoung (scans + behind) filter (life_of now.history) transition
   young_at place transition high is =
       subst (λ n. IsYoung n filter (life_of now.history) transition) whole_time
-      (young_since settings first filter (so_far + behind) (scans - so_far) last now p.some (end_taken settings last) young_last since_last place transition high is)
+      (young_since settings first filter (so_far + behind) (scans - so_far) last now p.few_change.some (end_taken settings last) young_last since_last place transition high is)
 
   -- so is all that the record lacks
   pub lacks_only_young : LacksOnlyYoung (scans + behind) filter settings now
   lacks_only_young =
       subst (λ n. LacksOnlyYoung n filter settings now) whole_time
-      (lacks_only_young_since settings first filter (so_far + behind) (scans - so_far) last now p.some all_taken_last young_last since_last)
+      (lacks_only_young_since settings first filter (so_far + behind) (scans - so_far) last now p.few_change.some all_taken_last young_last since_last)
 
   -- and exactly so late
   pub lacks_exactly : LacksOnlyYoungExactly settings opened filter scans (scans + behind) now
   lacks_exactly =
       let life = life_of machine.history in
       let before = life_of last.history in
-      let c = has_chain settings range first opened filter untaken scans machine b p.all_taken p.nothing_waits p.inputs p.some p.enough receipts last p.rounds in
+      let c = has_chain settings range first opened filter untaken scans machine b p.all_taken p.few_change.nothing_waits p.inputs p.few_change.some p.few_change.enough receipts last p.rounds in
       let r = c.reached in
       let same_so : c.so_far ≡ so_far = omega (arith, c.since_newest, order) in
       let same : later ≡ c.later = append_cancel_right later c.later life (sym p.since ∙ r.since) in
-      let stay = subst (λ l. FewStayOpen opened filter (filter_events l) (filter_events life)) same p.few_open in
-      let k = kept_up settings range first opened filter untaken scans machine b p.all_taken p.nothing_waits p.inputs p.some p.enough c.later stay r.near in
+      let stay = subst (λ l. FewStayOpen opened filter (filter_events l) (filter_events life)) same p.few_change.few_open in
+      let k = kept_up settings range first opened filter untaken scans machine b p.all_taken p.few_change.nothing_waits p.inputs p.few_change.some p.few_change.enough c.later stay r.near in
       let x = holds_now (KeepsUpExactly settings opened filter scans life) c.later (kept_up_keeps_up_exactly settings opened filter scans (scans + behind) life c.later range k) in
       let ends : waiting_of settings before ≡ drop (end_taken settings last) (log_of before) =
       ap (λ n. drop n (log_of before))

@@ -193,7 +193,7 @@ module _ (settings : Settings) (range : AreInRange settings) (opened filter scan
   made_since = has_made settings opened filter scans most life later keeps near
 
   ends : newest_end settings life ≡ length (log_of life)
-  ends = nothing_left settings range life (ap length k.nothing_waits)
+  ends = nothing_left settings range life (ap length k.few_change.nothing_waits)
 
   -- the transitions of the blocks made since are those that they hold of the log
   are_logged : transitions_in made_since.made ≡ in_blocks_since settings machine last

@@ -52,10 +52,7 @@ module _ (settings : Settings) (range : AreInRange settings) (first opened filte
       let room = has_room settings range filter scans 2 opened some (omega arith) inputs enough in
       let twice : opened * (scans + behind + (filter - 1)) ≤ opened * (2 * scans + (filter - 1)) = mul-le-mul_left opened (few_behind untaken) in
       record {
-        nothing_waits = nothing;
-        some = some;
-        few_open = stay;
-        enough = enough;
+        few_change = record { nothing_waits = nothing; some = some; few_open = stay; enough = enough };
         behind = near;
         room = omega arith;
       }

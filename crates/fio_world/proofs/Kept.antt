@@ -4,15 +4,17 @@ use Rattle.std.specs.Prelude.{option_map}
 use Rattle.std.proofs.lemmas.Option.{same_Some}
 use Rattle.std.proofs.lemmas.Bool.Decides.{nat_tests}
 use Rattle.fio_message.specs.declared.answers.Answer.{Answer}
+use Rattle.fio_message.specs.declared.commands.Command.{Command}
 use Rattle.fio_message.specs.Answers.{answer_octets}
 use Rattle.fio_message.specs.Blocks.{Block}
-use Rattle.fio_message.specs.Decoding.{block_in}
+use Rattle.fio_message.specs.Decoding.{block_in, polled_number}
 use Rattle.fio_module.specs.Settings.{Settings}
 use Rattle.fio_module.specs.Life.{History, Received, Life, life_of}
 use Rattle.fio_module.specs.Log.{Transition, whole_log}
 use Rattle.fio_module.specs.Blocks.{MadeBlock, latest_poll, is_new, blocks_of, next_block}
 use Rattle.fio_module.specs.Sendings.{Sending, is_out_of_sequence, first_sending, repeat_of, latest_sending}
-use Rattle.fio_world.specs.Link.{SentFrame, Machine, number_of, answer_frames}
+use Rattle.fio_module.specs.Replies.{answer_if}
+use Rattle.fio_world.specs.Link.{SentFrame, Machine, number_of, answer_frames, polls_with}
 use Rattle.fio_world.specs.Frames.{HasPoll, received_numbers}
 use Rattle.fio_world.specs.Rounds.{PollsAreInOrder, next_round, PollsOf, BlockAnswersOf}
 use Rattle.fio_world.proofs.RoundNumbers.{number_of-next, rounds_from_numbers}
@@ -125,6 +127,13 @@ after_other machine place frame answers =
 abbrev pub after_poll : Machine → ℕ → SentFrame → List SentFrame → Machine
 after_poll machine place frame answers =
     record (after_other machine place frame answers) { polls = frame.round ∷ machine.polls }
+
+-- the machine after its module has received a frame at this place that is read as this command, or as none
+abbrev pub after_frame : Settings → Machine → ℕ → SentFrame → Option Command → Machine
+after_frame settings machine place frame command =
+    record (after_other machine place frame (answer_frames (answer_if settings (life_of machine.history) command) frame.round)) {
+      polls = polls_with (polled_number command) frame.round machine.polls;
+    }
 
 -- the blocks of a life, the sending and the makers after a poll that is new or not
 abbrev pub blocks_if : Settings → Life → Bool → List MadeBlock

@@ -126,10 +126,7 @@ all_arrives settings range first machine b opened filter scans most pauses recei
     let r : IsReached settings first scans most (behind + so_far) machine last later =
     subst (λ l. IsReached settings first scans most (behind + so_far) machine last l) same at_once in
     let k : IsKeptUp settings opened filter scans most life later = record {
-      nothing_waits = p.nothing_waits;
-      some = p.some;
-      few_open = p.few_open;
-      enough = p.enough;
+      few_change = p.few_change;
       behind = r.near;
       room = p.room;
     } in
@@ -143,7 +140,7 @@ all_arrives settings range first machine b opened filter scans most pauses recei
           let in_time = t.in_time in
           let longer : between - so_far + (behind + so_far) ≡ between + behind = omega arith in
           subst (λ n. LacksOnlyYoung n filter settings now) longer
-          (lacks_only_young_since settings first filter (behind + so_far) (between - so_far) last now p.some r.all_taken recent
+          (lacks_only_young_since settings first filter (behind + so_far) (between - so_far) last now p.few_change.some r.all_taken recent
           (record { leads_on = t.leads_on; in_time = omega arith }));
     }
 

@@ -59,18 +59,18 @@ each_block P settings made (Commanded (Poll number) ∷ life) =
     (each_block P settings made life) (made life)
 each_block P settings made (other ∷ life) = each_block P settings made life
 
--- a transition of an input that an entry can name
-abbrev HasInput : Transition → Type 0
-HasInput transition = transition.input < 128
+-- a transition of an input that a module has
+abbrev pub HasInput : Transition → Type 0
+HasInput transition = transition.input < 64
 
 -- one input of a scan
-one_input : (reported : Bool) (life : Life) (input : ℕ) → input < 128
+one_input : (reported : Bool) (life : Life) (input : ℕ) → input < 64
     → AllByRecursion HasInput (if reported then transition_at life input ∷ [] else [])
 one_input true life input low = (low, tt)
 one_input false life input low = tt
 
 -- the inputs of a scan below a number
-below_inputs : (count raw : ℕ) (life : Life) → count ≤ 128
+below_inputs : (count raw : ℕ) (life : Life) → count ≤ 64
     → AllByRecursion HasInput (transitions_below count raw life)
 unfolding transitions_below
 below_inputs zero raw life low = tt
@@ -78,7 +78,7 @@ below_inputs (suc input) raw life low =
     each-append HasInput (transitions_below input raw life) _ (below_inputs input raw life (omega arith))
     (one_input (is_reported input raw (filter_events life)) (Scanned raw ∷ life) input (omega arith))
 
--- the log has transitions of inputs that an entry can name
+-- the log has transitions of such inputs alone
 log_inputs : (life : Life) → AllByRecursion HasInput (log_of life)
 log_inputs [] = tt
 log_inputs (Scanned raw ∷ life) =
@@ -89,7 +89,7 @@ log_inputs (other ∷ life) = log_inputs life
 pub entries_fit : (transitions : List Transition) → AllByRecursion HasInput transitions
     → AllByRecursion IsEntry (map entry_of transitions)
 entries_fit [] p = tt
-entries_fit (transition ∷ transitions) p = ((p.0, omega arith), entries_fit transitions p.1)
+entries_fit (transition ∷ transitions) p = ((omega (arith, p.0), omega arith), entries_fit transitions p.1)
 
 -- a block whose answer is in its ranges
 pub record FitsAnswer (per_block : ℕ) (block : MadeBlock) : Type 0 where

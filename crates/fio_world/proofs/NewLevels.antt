@@ -55,7 +55,7 @@ module _ (settings : Settings) (range : AreInRange settings) (first opened filte
   was_there =
       let g = grows settings first last now t.leads_on.events t.leads_on.no_restart t.leads_on.leads in
       let more = later_log g.stretch (life_of last.history) in
-      let chain = has_chain settings range first opened filter untaken scans machine b p.all_taken p.nothing_waits p.inputs p.some p.enough receipts last p.rounds in
+      let chain = has_chain settings range first opened filter untaken scans machine b p.all_taken p.few_change.nothing_waits p.inputs p.few_change.some p.few_change.enough receipts last p.rounds in
       let within = blocks_end_within settings (life_of last.history) in
       let end = taken_end settings last chain.reached.all_taken in
       get_in_front (log_of (life_of last.history)) more.0 place transition (omega (arith, taken))

@@ -8,7 +8,7 @@ use Rattle.fio_message.specs.declared.answers.Answer.{Answer}
 use Rattle.fio_message.specs.Answers.{answer_octets}
 use Rattle.fio_message.specs.Blocks.{Block}
 use Rattle.fio_message.specs.Status.{says_again}
-use Rattle.fio_message.specs.Decoding.{block_in}
+use Rattle.fio_message.specs.Decoding.{block_in, poll_in}
 use Rattle.fio_module.specs.Settings.{Settings}
 use Rattle.fio_module.specs.Life.{History, life_of}
 use Rattle.fio_module.specs.Log.{Transition, entry_of}
@@ -17,13 +17,13 @@ use Rattle.fio_cpu.specs.declared.record.Item.{Item}
 use Rattle.fio_cpu.specs.declared.record.Item.TheVariants as items
 use Rattle.fio_cpu.specs.Record.{item_of, items_of_block}
 use Rattle.fio_world.specs.Link.{SentFrame, Machine, number_of, answer_frames}
-use Rattle.fio_world.specs.Frames.{is_repeated, repeats, answer_before, block_answers}
+use Rattle.fio_world.specs.Frames.{HasPoll, is_repeated, repeats, answer_before, block_answers}
 use Rattle.fio_world.specs.Claims.{SaysAgainWhereRepeated}
 use Rattle.fio_world.specs.Rounds.{next_round, CarriesBlock}
 use Rattle.fio_world.proofs.Places.{get_after_push, take_one_more}
-use Rattle.fio_world.proofs.RoundNumbers.{rounds_from_numbers}
+use Rattle.fio_world.proofs.RoundNumbers.{number_of-fits, rounds_from_numbers}
 use Rattle.fio_world.proofs.AllLives.{past_log, behind, past_blocks, all_blocks}
-use Rattle.fio_world.proofs.Kept.{after_other, after_poll}
+use Rattle.fio_world.proofs.Kept.{HasInvariant, after_other, after_poll}
 
 -- a block in the record, with its wide times
 abbrev pub recorded_of : MadeBlock → List Item
@@ -98,6 +98,34 @@ continues first round number (s ∷ ss) false numbered low high is =
     let alike : number_of first s ≡ number = grind (arith, nat_tests) in
     let same : s ≡ round = rounds_from_numbers first s round (omega arith) (omega arith) (alike ∙ numbered) in
     (omega arith, grind (arith, nat_tests))
+
+-- what is known of a poll that is received after these, where the latest of the present life is the newest of them
+pub record ContinuesPolls (first : ℕ) (polls : List ℕ) (latest : Option ℕ) (number round : ℕ) : Type 0 where
+  pub named : number ≡ number_of first round
+  pub fits : number ≤ 255
+  pub met : Continues (is_new latest number) round polls
+
+-- it is known of a poll that the module receives
+pub poll_continues : (settings : Settings) (first : ℕ) (machine : Machine) → HasInvariant settings first machine
+    → (latest : Option ℕ) → latest ≡ newest_number first machine.polls
+    → (place number : ℕ) (frame : SentFrame) → machine.last_to_module ≤ place + 1
+    → slice_get machine.to_module place ≡ Some frame → poll_in frame.octets ≡ Some number
+    → ContinuesPolls first machine.polls latest number frame.round
+poll_continues settings first machine i latest polled place number frame le at spells =
+    let round = frame.round in
+    let poll : HasPoll machine.to_module place number round =
+    record { frame = frame; at_place = at; spells = spells; of_round = refl } in
+    let low : round ≤ machine.round = i.polls.sent place number round poll in
+    let high : next_round machine.polls ≤ round + 1 = i.polls.ahead place number round le poll in
+    let upto : machine.round ≤ next_round machine.polls = i.answers.behind in
+    let named : number ≡ number_of first round = i.polls.numbers place number round poll in
+    record {
+      named = named;
+      fits = omega (arith, number_of-fits first round);
+      met =
+          continues first round number machine.polls (is_new latest number) named (omega arith) high
+          (ap (λ newest. is_new newest number) (sym polled));
+    }
 
 -- the block answers among frames and one more
 pub block_answers-push : (frames : List SentFrame) (f : SentFrame)

@@ -110,11 +110,11 @@ module _ (settings : Settings) (range : AreInRange settings) (first : ℕ) (mach
         rounds_make_blocks = λ begin receipt last taken t c.
             makes_block settings first machine receipt last (has_stretch settings range first machine begin receipt last between taken t c).0;
         rounds_keep_up = λ opened filter untaken scans begins last now later stretch p t is stay.
-            keeps_up settings range first opened filter untaken scans machine between p.all_taken p.nothing_waits p.inputs p.some p.enough
+            keeps_up settings range first opened filter untaken scans machine between p.all_taken p.few_change.nothing_waits p.inputs p.few_change.some p.few_change.enough
             begins last now later stretch p.rounds p.since t is stay;
         in_time = λ opened filter untaken scans begins last later p.
-            arrives settings range first opened filter untaken scans machine between p.all_taken p.nothing_waits p.inputs p.some p.enough
-            begins last later p.rounds p.since p.few_open;
+            arrives settings range first opened filter untaken scans machine between p.all_taken p.few_change.nothing_waits p.inputs p.few_change.some p.few_change.enough
+            begins last later p.rounds p.since p.few_change.few_open;
         never_late = never_late settings range first machine between;
         exactly = never_late_exactly settings range first machine between;
         new_levels = new_levels_are_recorded settings range first machine between;

@@ -7,7 +7,7 @@ use Rattle.fio_message.specs.declared.commands.Command.TheVariants as commands
 use Rattle.fio_message.specs.Answers.{answer_octets}
 use Rattle.fio_message.specs.Decoding.{command_in, polled_number}
 use Rattle.fio_module.specs.Settings.{Settings, AreInRange}
-use Rattle.fio_module.specs.Life.{Received, History, Life, life_of, life_after_command}
+use Rattle.fio_module.specs.Life.{History, Life, life_of, life_after_command}
 use Rattle.fio_module.specs.Log.{Transition, whole_log}
 use Rattle.fio_module.specs.Blocks.{MadeBlock, latest_poll, is_new, blocks_of, end_of_blocks, newest_end, next_block}
 use Rattle.fio_module.specs.Sendings.{Sending, answer_of, is_out_of_sequence, first_sending, repeat_of}
@@ -24,7 +24,7 @@ use Rattle.fio_world.proofs.AllLives.{past_log, behind, joined, past_blocks, all
 use Rattle.fio_world.proofs.Received.{no_block_reply, same_number, first_carries, again_carries, carried_back, carried_says, said_out_of_sequence, latest_sent, newest_fits}
 use Rattle.fio_world.proofs.Makers.{makers_of, makers_after, makers-repeated, makers-new, carry-new}
 use Rattle.fio_world.proofs.RisingPieces.{rises-new}
-use Rattle.fio_world.proofs.Kept.{Invariant, HasInvariant, meets, after_poll, blocks_if, sending_if, makers_if, keeps_other, keeps_poll}
+use Rattle.fio_world.proofs.Kept.{after_frame, Invariant, HasInvariant, meets, after_poll, blocks_if, sending_if, makers_if, keeps_other, keeps_poll}
 
 module _ (settings : Settings) (range : AreInRange settings) (first : ℕ) (machine : Machine)
     (i : HasInvariant settings first machine) where
@@ -176,12 +176,7 @@ module _ (settings : Settings) (range : AreInRange settings) (first : ℕ) (mach
       (latest_poll (life_after_command command life)) (number_with (polled_number command) (received_numbers h))
       (makers_after (polled_number command) (latest_poll life) (makers_of h)
       (polls_with (polled_number command) frame.round machine.polls))
-      (record machine {
-        last_to_module = place + 1;
-        history = Received frame.octets ∷ h;
-        to_cpu = machine.to_cpu ++ answer_frames (answer_if settings life command) frame.round;
-        polls = polls_with (polled_number command) frame.round machine.polls;
-      })
+      (after_frame settings machine place frame command)
   received_frame place frame le at (Some (commands.Poll number)) spells =
       let poll : HasPoll machine.to_module place number frame.round =
       record { frame = frame; at_place = at; spells = ap polled_number spells; of_round = refl } in

@@ -10,7 +10,7 @@ use Rattle.fio_message.specs.Answers.{answer_octets}
 use Rattle.fio_message.specs.Blocks.{Block}
 use Rattle.fio_message.specs.Decoding.{command_in, polled_number, block_in}
 use Rattle.fio_module.specs.Settings.{Settings, AreInRange}
-use Rattle.fio_module.specs.Life.{Received, Life, life_of, life_after_command}
+use Rattle.fio_module.specs.Life.{Life, life_of, life_after_command}
 use Rattle.fio_module.specs.Blocks.{MadeBlock, latest_poll, is_new, blocks_of, next_block}
 use Rattle.fio_module.specs.Sendings.{Sending, answer_of, first_sending, repeat_of}
 use Rattle.fio_module.specs.Replies.{answer_if}
@@ -18,21 +18,20 @@ use Rattle.fio_module.proofs.ListParts.{get_in_back, get_last}
 use Rattle.fio_cpu.specs.Record.{items_of_block}
 use Rattle.fio_world.specs.declared.event.Event.{Event}
 use Rattle.fio_world.specs.declared.event.Event.TheVariants as events
-use Rattle.fio_world.specs.Link.{SentFrame, Machine, number_of, refusal, answer_frames, polls_with, after_delivery_to_module, after_delivery_to_cpu, after, Leads}
-use Rattle.fio_world.specs.Frames.{HasPoll, HasBlock}
+use Rattle.fio_world.specs.Link.{SentFrame, Machine, number_of, refusal, answer_frames, after_delivery_to_module, after_delivery_to_cpu, after, Leads}
+use Rattle.fio_world.specs.Frames.{HasBlock}
 use Rattle.fio_world.specs.Headline.{IsNotRestart, HaveNoRestart}
 use Rattle.fio_world.specs.Claims.{blocks_in}
 use Rattle.fio_world.specs.Rounds.{next_round, CarriesBlock}
 use Rattle.fio_world.proofs.Places.{get_before_push}
 use Rattle.fio_world.proofs.SentMessages.{each_more, none_more}
-use Rattle.fio_world.proofs.RoundNumbers.{number_of-fits}
 use Rattle.fio_world.proofs.Spelled.{said}
 use Rattle.fio_world.proofs.MadeBlocks.{next_fits}
 use Rattle.fio_world.proofs.Received.{no_block_reply, same_number, first_carries, again_carries, carried_back, carried_says, latest_sent, newest_fits}
-use Rattle.fio_world.proofs.Kept.{HasInvariant, after_poll, after_other, blocks_if, sending_if}
+use Rattle.fio_world.proofs.Kept.{after_frame, HasInvariant, after_poll, after_other, blocks_if, sending_if}
 use Rattle.fio_world.proofs.HeardRows.{after_taken, after_heard}
 use Rattle.fio_world.proofs.Rows.{after_delivery, keeps}
-use Rattle.fio_world.proofs.OneLife.{recorded_of, record_of, newest_number, Continues, continues, record_of-next}
+use Rattle.fio_world.proofs.OneLife.{recorded_of, record_of, newest_number, Continues, poll_continues, record_of-next}
 
 -- a block answer of a round carries the block that is so many after these
 pub record CarriesSince (blocks : List MadeBlock) (place : ℕ) (answer : Block) : Type 0 where
@@ -191,24 +190,11 @@ module _ (settings : Settings) (range : AreInRange settings) (first : ℕ) (base
       → slice_get machine.to_module place ≡ Some frame
       → (command : Option Command) → command_in frame.octets ≡ command
       → Since first base before (blocks_of settings (life_after_command command life)) (latest_poll (life_after_command command life))
-      (record machine {
-        last_to_module = place + 1;
-        history = Received frame.octets ∷ machine.history;
-        to_cpu = machine.to_cpu ++ answer_frames (answer_if settings life command) frame.round;
-        polls = polls_with (polled_number command) frame.round machine.polls;
-      })
+      (after_frame settings machine place frame command)
   received_frame place frame le at (Some (commands.Poll number)) spells =
-      let round = frame.round in
-      let poll : HasPoll machine.to_module place number round =
-      record { frame = frame; at_place = at; spells = ap polled_number spells; of_round = refl } in
-      let low : round ≤ machine.round = i.polls.sent place number round poll in
-      let high : next_round machine.polls ≤ round + 1 = i.polls.ahead place number round le poll in
-      let upto : machine.round ≤ next_round machine.polls = i.answers.behind in
-      let named : number ≡ number_of first round = i.polls.numbers place number round poll in
-      let fits : number ≤ 255 = omega (arith, number_of-fits first round) in
-      let new = is_new (latest_poll life) number in
-      received_poll place number frame new refl named fits
-      (continues first round number machine.polls new named (omega arith) high (ap (λ latest. is_new latest number) (sym o.polled)))
+      let p = poll_continues settings first machine i (latest_poll life) o.polled place number frame le at
+      (ap polled_number spells) in
+      received_poll place number frame (is_new (latest_poll life) number) refl p.named p.fits p.met
   received_frame place frame le at command spells =
       since-other first base before (blocks_of settings life) (latest_poll life) machine o place frame
       (answer_if settings life command) (no_block_reply settings life command refl)

@@ -1,10 +1,12 @@
 -- The standard link is never late.
-use Rattle.std.proofs.Common.{ℕ, ◌+◌, ◌*◌, ◌≤◌, Bool, List, drop, arith}
+use Rattle.std.proofs.Common.{◌≡◌, ℕ, ◌+◌, ◌*◌, ◌≤◌, Bool, List, [], drop, arith}
+use Rattle.fio_input.specs.Delivery.{OpenKeepFiltersOf}
 use Rattle.fio_input.proofs.FewStayOpen.{all_may_open}
 use Rattle.fio_module.specs.Settings.{AreInRange, standard_settings}
 use Rattle.fio_module.specs.Life.{Life, life_of, scans_of, filter_events}
 use Rattle.fio_module.specs.Log.{log_of}
-use Rattle.fio_module.specs.Blocks.{newest_end}
+use Rattle.fio_module.specs.Blocks.{newest_end, waiting_of}
+use Rattle.fio_module.specs.Delivery.{FewChange}
 use Rattle.fio_module.specs.KeepingUp.{IsYoung}
 use Rattle.fio_world.specs.declared.event.Event.{Event}
 use Rattle.fio_world.specs.Link.{Machine}
@@ -24,6 +26,17 @@ pub standard_in_range : (id : ℕ) → id ≤ 255 → AreInRange (standard_setti
 standard_in_range id fits =
     record { id_fits = fits; some_per_block = omega arith; few_per_block = omega arith; many_waiting = omega arith }
 
+-- with filters of 5, however many inputs are open, few change
+few_change_of_5 : (id scans : ℕ) → 64 * scans ≤ 255 * 5 → (life later : Life) → waiting_of (standard_settings id) life ≡ []
+    → OpenKeepFiltersOf 5 (filter_events later) (filter_events life) → FewChange (standard_settings id) 64 5 scans life later
+few_change_of_5 id scans enough life later nothing filters =
+    record {
+      nothing_waits = nothing;
+      some = omega arith;
+      few_open = all_may_open 5 (filter_events later) (filter_events life) filters;
+      enough = enough;
+    }
+
 module _ (scans : ℕ) (untaken : Bool) (few : 64 * scans ≤ 255 * 5) (id first : ℕ) (events : List Event) (receipts : List Machine)
     (machine last now : Machine) (later : Life) (l : IsStandardLink id first events untaken scans machine receipts last later now) where
   -- it is polled in time
@@ -31,13 +44,10 @@ module _ (scans : ℕ) (untaken : Bool) (few : 64 * scans ≤ 255 * 5) (id first
   polled =
       record {
         all_taken = l.all_taken;
-        nothing_waits = l.nothing_waits;
         inputs = omega arith;
-        some = omega arith;
-        enough = omega arith;
         rounds = l.rounds;
         since = l.since;
-        few_open = all_may_open 5 (filter_events later) (filter_events (life_of machine.history)) l.filters;
+        few_change = few_change_of_5 id scans few (life_of machine.history) later l.nothing_waits l.filters;
       }
 
   pub delivers : Delivers (standard_settings id) first machine
@@ -77,15 +87,12 @@ standard_kept_up id first events pauses machine receipt last now later between l
     let has = standard_limits_have_room id 64 (omega arith) in
     let a = d.kept_up_with 64 5 19 76 pauses receipt last later (record {
       all_taken = l.all_taken;
-      nothing_waits = l.nothing_waits;
-      some = omega arith;
-      enough = has.0;
       room = has.1;
       near = l.near;
       rounds = l.rounds;
       heard_near = l.heard_near;
       since = l.since;
-      few_open = all_may_open 5 (filter_events later) (filter_events (life_of machine.history)) l.filters;
+      few_change = few_change_of_5 id 19 (omega arith) (life_of machine.history) later l.nothing_waits l.filters;
     }) in
     let now_life = life_of now.history in (
       a.whole,
@@ -99,13 +106,10 @@ standard_starts_anew id first events begin receipt machine receipts last now lat
     let settings = standard_settings id in
     let a = delivery_starts_anew settings first events begin (standard_in_range id fits) run 64 5 19 receipt machine receipts last later (record {
       ended = ended;
-      nothing_waits = nothing;
       inputs = omega arith;
-      some = omega arith;
-      enough = omega arith;
       rounds = rounds;
       since = since;
-      few_open = all_may_open 5 (filter_events later) (filter_events (life_of machine.history)) filters;
+      few_change = few_change_of_5 id 19 (omega arith) (life_of machine.history) later nothing filters;
     }) in
     let now_life = life_of now.history in (
       a.whole,

@@ -190,13 +190,10 @@ module _ (settings : Settings) (range : AreInRange settings) (first : ℕ) where
       let life = life_of machine.history in
       let same : found.0 ≡ later = append_cancel_right found.0 later life (sym found.1.since ∙ p.since) in
       let h : HasGone scans machine (newest_of machine receipts) last later = subst (HasGone scans machine (newest_of machine receipts) last) same found.1 in
-      let room = has_room settings range filter scans 2 opened p.some (omega arith) p.inputs p.enough in
+      let room = has_room settings range filter scans 2 opened p.few_change.some (omega arith) p.inputs p.few_change.enough in
       let twice : opened * (scans + scans + (filter - 1)) ≤ opened * (2 * scans + (filter - 1)) = mul-le-mul_left opened (omega arith) in
       let k : IsKeptUp settings opened filter scans (scans + scans) life later = record {
-        nothing_waits = p.nothing_waits;
-        some = p.some;
-        few_open = p.few_open;
-        enough = p.enough;
+        few_change = p.few_change;
         behind = h.near;
         room = omega arith;
       } in
@@ -219,7 +216,7 @@ module _ (settings : Settings) (range : AreInRange settings) (first : ℕ) where
             let count = scans_grown last now g.stretch g.life in
             let in_time = t.in_time in
             let longer : scans - h.so_far + (scans + h.so_far) ≡ scans + scans = omega (arith, h.few) in
-            let all = all_young_since settings first filter (scans + h.so_far) (scans - h.so_far) last now p.some _
+            let all = all_young_since settings first filter (scans + h.so_far) (scans - h.so_far) last now p.few_change.some _
             (young_since_blocks settings range opened filter scans (scans + scans) (scans + h.so_far) machine last later h.since h.near h.now k)
             (record { leads_on = t.leads_on; in_time = omega arith }) in
             subst (λ n. AllByRecursion (IsYoung n filter (life_of now.history)) (drop (newest_end settings (life_of last.history)) (log_of (life_of now.history)))) longer all;

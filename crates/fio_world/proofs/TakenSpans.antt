@@ -131,30 +131,28 @@ blocks_joined [] = refl
 blocks_joined (Of blocks base to ∷ spans) = ap (λ bs. blocks ++ bs) (blocks_joined spans)
 
 -- the blocks of the lives before the present one are recorded as they are in their lives
-past_recorded : (settings : Settings) (history : History)
-    → map recorded_of (past_blocks settings history) ≡ map recorded_of (joined_lists (past_made settings history))
-past_recorded settings [] = refl
-past_recorded settings (Restart ∷ history) =
-    let own = blocks_of settings (life_of history) in
-    map-append recorded_of (past_blocks settings history) (map (behind (length (past_log history))) own)
-    ∙ ap (λ is. is ++ map recorded_of (map (behind (length (past_log history))) own)) (past_recorded settings history)
-    ∙ ap (λ is. map recorded_of (joined_lists (past_made settings history)) ++ is) (recorded_behind (length (past_log history)) own)
-    ∙ sym (map-append recorded_of (joined_lists (past_made settings history)) own)
-    ∙ ap (map recorded_of) (sym (joined_lists-push (past_made settings history) own))
-    ∙ ap (λ bss. map recorded_of (joined_lists bss)) (sym (map-append (blocks_of settings) (past_lives history) (life_of history ∷ [])))
-past_recorded settings (other ∷ history) = past_recorded settings history
+abbrev ArePastRecorded : Settings → History → Type 0
+ArePastRecorded settings history =
+    map recorded_of (past_blocks settings history) ≡ map recorded_of (joined_lists (past_made settings history))
 
--- so are those of all lives
-all_recorded : (settings : Settings) (history : History)
+-- so are those of all lives then
+with_own : (settings : Settings) (history : History) → ArePastRecorded settings history
     → map recorded_of (all_blocks settings history)
     ≡ map recorded_of (joined_lists (past_made settings history ++ blocks_of settings (life_of history) ∷ []))
-all_recorded settings history =
+with_own settings history past =
     let own = blocks_of settings (life_of history) in
     map-append recorded_of (past_blocks settings history) (map (behind (length (past_log history))) own)
-    ∙ ap (λ is. is ++ map recorded_of (map (behind (length (past_log history))) own)) (past_recorded settings history)
+    ∙ ap (λ is. is ++ map recorded_of (map (behind (length (past_log history))) own)) past
     ∙ ap (λ is. map recorded_of (joined_lists (past_made settings history)) ++ is) (recorded_behind (length (past_log history)) own)
     ∙ sym (map-append recorded_of (joined_lists (past_made settings history)) own)
     ∙ ap (map recorded_of) (sym (joined_lists-push (past_made settings history) own))
+
+past_recorded : (settings : Settings) (history : History) → ArePastRecorded settings history
+past_recorded settings [] = refl
+past_recorded settings (Restart ∷ history) =
+    with_own settings history (past_recorded settings history)
+    ∙ ap (λ bss. map recorded_of (joined_lists bss)) (sym (map-append (blocks_of settings) (past_lives history) (life_of history ∷ [])))
+past_recorded settings (other ∷ history) = past_recorded settings history
 
 -- what is in a list of what elements give is given by an element
 from_map : {A B : Type 0} (f : A → B) (xs : List A) (p : ℕ) (y : B) → slice_get (map f xs) p ≡ Some y
@@ -237,7 +235,7 @@ module _ (settings : Settings) (range : AreInRange settings) (first : ℕ) (mach
       let recorded_at : slice_get (map recorded_of (all_blocks settings machine.history)) b.place ≡ Some (recorded_of b.block) =
       slice_get-map recorded_of (all_blocks settings machine.history) b.place ∙ ap (option_map recorded_of) b.is_made in
       let joined : map recorded_of (all_blocks settings machine.history) ≡ map recorded_of (blocks_in o.spans) =
-      all_recorded settings machine.history
+      with_own settings machine.history (past_recorded settings machine.history)
       ∙ ap (λ bss. map recorded_of (joined_lists bss)) (sym o.blocks)
       ∙ ap (map recorded_of) (sym (blocks_joined o.spans)) in
       let found = from_map recorded_of (blocks_in o.spans) b.place (recorded_of b.block)

@@ -7,12 +7,11 @@ use Rattle.fio_message.specs.declared.commands.Command.TheVariants as commands
 use Rattle.fio_message.specs.Commands.{command_octets}
 use Rattle.fio_message.specs.Answers.{answer_octets}
 use Rattle.fio_message.specs.Blocks.{Block}
-use Rattle.fio_message.specs.Decoding.{command_in, polled_number, poll_in}
+use Rattle.fio_message.specs.Decoding.{command_in, poll_in}
 use Rattle.fio_message.proofs.MessageLaws.{command_back}
 use Rattle.fio_module.specs.Settings.{Settings, AreInRange}
-use Rattle.fio_module.specs.Life.{Life, Commanded, life_of, life_after_command, Received}
+use Rattle.fio_module.specs.Life.{Life, Commanded, life_of, life_after_command}
 use Rattle.fio_module.specs.Sendings.{answer_of}
-use Rattle.fio_module.specs.Replies.{answer_if}
 use Rattle.fio_cpu.specs.Record.{items_of_block}
 use Rattle.fio_world.specs.declared.event.Event.{Event}
 use Rattle.fio_world.specs.declared.event.Event.TheVariants as events
@@ -27,7 +26,7 @@ use Rattle.fio_world.proofs.SentMessages.{each_more}
 use Rattle.fio_world.proofs.RoundNumbers.{number_of-fits}
 use Rattle.fio_world.proofs.Spelled.{said, no_poll_in}
 use Rattle.fio_world.proofs.Received.{latest_sent, newest_fits, carried_back}
-use Rattle.fio_world.proofs.Kept.{HasInvariant, after_poll}
+use Rattle.fio_world.proofs.Kept.{after_frame, HasInvariant, after_poll}
 use Rattle.fio_world.proofs.HeardRows.{after_taken, after_heard}
 use Rattle.fio_world.proofs.Rows.{frame_at_place, after_delivery, keeps}
 use Rattle.fio_world.proofs.Runs.{keeps_all, takes}
@@ -221,12 +220,7 @@ poll_answered settings range first round machine place at =
     let answering : Machine = after_poll machine place frame (answer_frame ∷ []) in
     let same : answering ≡ after settings first machine (events.ToModule (place + 1)) =
     sym (ap (after_delivery_to_module settings machine (place + 1)) (frame_at_place machine.to_module place ∙ at)
-    ∙ ap (λ command. record machine {
-      last_to_module = place + 1;
-      history = Received frame.octets ∷ machine.history;
-      to_cpu = machine.to_cpu ++ answer_frames (answer_if settings (life_of machine.history) command) round;
-      polls = polls_with (polled_number command) round machine.polls;
-    }) spelled
+    ∙ ap (after_frame settings machine place frame) spelled
     ∙ ap (λ latest. after_poll machine place frame (answer_frames (option_map answer_of latest) round)) l.is) in
     subst (IsAnswered settings first round machine) same (record {
       answer = said sending;

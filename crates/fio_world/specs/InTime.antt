@@ -7,7 +7,7 @@ use Rattle.fio_input.specs.Delivery.{FewStayOpen}
 use Rattle.fio_module.specs.Settings.{Settings}
 use Rattle.fio_module.specs.Life.{Life, life_of, scans_of, loads_of, filter_events}
 use Rattle.fio_module.specs.Log.{Transition, entry_of, log_of}
-use Rattle.fio_module.specs.Blocks.{waiting_of}
+use Rattle.fio_module.specs.Delivery.{FewChange}
 use Rattle.fio_module.specs.KeepingUp.{IsKeptUp, IsYoung}
 use Rattle.fio_cpu.specs.declared.record.Item.{Item}
 use Rattle.fio_cpu.specs.declared.record.Item.TheVariants as items
@@ -81,22 +81,16 @@ RoundWithNothingBetweenIsInTime settings first machine =
 abbrev pub behind_after : Bool → ℕ → ℕ
 behind_after untaken scans = if untaken then scans else 0
 
--- Polled in time: the CPU had taken all blocks and nothing waited. Since then the module has received the
--- poll of a clean round at least once in so many scans; no more than `opened` inputs stay open, whatever
--- configurations come, and in so many scans they change no more often than a block takes.
+-- Polled in time: the CPU had taken all blocks and nothing waited. Since then few change, and the module has
+-- received the poll of a clean round at least once in so many scans.
 pub record IsPolledInTime (settings : Settings) (first opened filter : ℕ) (untaken : Bool) (scans : ℕ)
     (machine : Machine) (receipts : List Machine) (last : Machine) (later : Life) : Type 0 where
   pub all_taken : machine.round ≡ length (blocks_in settings machine)
-  pub nothing_waits : waiting_of settings (life_of machine.history) ≡ []
   pub inputs : opened ≤ INPUTS
-  -- the filters of the open inputs are at least this
-  pub some : 1 ≤ filter
-  pub enough : opened * scans ≤ settings.per_block * filter
   pub rounds : RoundsInTime settings first untaken scans machine receipts last
   -- what has happened to the module since then
   pub since : life_of last.history ≡ later ++ life_of machine.history
-  pub few_open :
-      FewStayOpen opened filter (filter_events later) (filter_events (life_of machine.history))
+  pub few_change : FewChange settings opened filter scans (life_of machine.history) later
 
 -- a transition as an item of the record, with the counter at its scan
 abbrev pub timed_item : Transition → Item
@@ -113,20 +107,27 @@ transitions_arrived settings machine last =
     drop (length (log_of (life_of machine.history)))
     (take (end_taken settings last) (log_of (life_of last.history)))
 
+-- the record has gained these transitions since a machine, each once and in order, and no gap mark
+abbrev pub HasGainedAll : Machine → Machine → List Transition → Type 0
+HasGainedAll machine last transitions =
+    map piece_of last.items
+    ≡ map piece_of machine.items
+    ++ map (λ transition. EntryPiece (entry_of transition)) transitions
+
+-- They are gained with their times, where no load of the counter took effect and none can be 65,536 scans late,
+-- since the blocks are never more than `most` scans behind.
+abbrev pub HaveTheirTimes : ℕ → ℕ → Machine → Machine → List Transition → Type 0
+HaveTheirTimes filter most machine last transitions =
+    loads_of (life_of last.history) ≡ loads_of (life_of machine.history) →
+    most + filter ≤ 65537 →
+    last.items ≡ machine.items ++ map timed_item transitions
+
 -- What has arrived at the end of a clean round, where the blocks are never more than `most` scans
 -- behind, and when the poll of a clean round has been received no more than `behind`.
 pub record HasArrived (settings : Settings) (opened filter most behind : ℕ)
     (machine : Machine) (receipts : List Machine) (last : Machine) : Type 0 where
-  -- the record has gained the transitions logged since, each once and in order, and no gap mark
-  pub whole :
-      map piece_of last.items
-      ≡ map piece_of machine.items
-      ++ map (λ transition. EntryPiece (entry_of transition)) (transitions_arrived settings machine last)
-  -- each with its time, where no load of the counter took effect and none can be 65,536 scans late
-  pub times :
-      loads_of (life_of last.history) ≡ loads_of (life_of machine.history)
-      → most + filter ≤ 65537
-      → last.items ≡ machine.items ++ map timed_item (transitions_arrived settings machine last)
+  pub whole : HasGainedAll machine last (transitions_arrived settings machine last)
+  pub times : HaveTheirTimes filter most machine last (transitions_arrived settings machine last)
   -- through all that had been logged when the module received the poll of the clean round so many rounds
   -- earlier, which are as many as blocks that take what may be left
   pub through :

@@ -1,19 +1,19 @@
 -- Links that lose rounds or are down for a while, and catch up again.
-use Rattle.std.specs.Prelude.{◌≡◌, ℕ, ◌+◌, ◌-◌, ◌*◌, ◌≤◌, max, List, [], ◌∷◌, ◌++◌, map, length, drop}
+use Rattle.std.specs.Prelude.{◌≡◌, ℕ, ◌+◌, ◌-◌, ◌*◌, ◌≤◌, max, List, [], ◌∷◌, ◌++◌, length, drop}
 use Rattle.std.specs.List.{AllByRecursion}
 use Rattle.fio_message.specs.declared.limits.TheConstants.{INPUTS}
-use Rattle.fio_input.specs.Delivery.{FewStayOpen, OpenKeepFiltersOf}
+use Rattle.fio_input.specs.Delivery.{OpenKeepFiltersOf}
 use Rattle.fio_module.specs.Settings.{Settings, standard_settings}
-use Rattle.fio_module.specs.Life.{Life, life_of, scans_of, loads_of, filter_events}
-use Rattle.fio_module.specs.Log.{entry_of, log_of}
+use Rattle.fio_module.specs.Life.{Life, life_of, scans_of, filter_events}
+use Rattle.fio_module.specs.Log.{log_of}
 use Rattle.fio_module.specs.Blocks.{waiting_of}
+use Rattle.fio_module.specs.Delivery.{FewChange}
 use Rattle.fio_world.specs.declared.event.Event.{Event}
 use Rattle.fio_world.specs.Link.{Machine, IsRun}
 use Rattle.fio_world.specs.Claims.{blocks_in}
-use Rattle.fio_world.specs.Pieces.{EntryPiece, piece_of}
 use Rattle.fio_world.specs.Headline.{HaveNoRestart, end_taken}
 use Rattle.fio_world.specs.Delivery.{IsCleanRound}
-use Rattle.fio_world.specs.InTime.{IsWithin, LeadsOn, LeadsInTime, timed_item, transitions_arrived}
+use Rattle.fio_world.specs.InTime.{IsWithin, LeadsOn, LeadsInTime, transitions_arrived, HasGainedAll, HaveTheirTimes}
 use Rattle.fio_world.specs.AnyTime.{LacksOnlyYoung}
 
 -- The scans before the module receives the poll of a clean round, since it received that of the one before: so
@@ -59,16 +59,12 @@ BeginNear scans most [] = Unit {0}
 BeginNear scans most (pause ∷ pauses) =
     (left_behind scans pauses + scans_of_pause pause ≤ most) × BeginNear scans most pauses
 
--- Kept up with: the CPU had taken all blocks and nothing waited. Since then clean rounds came that each
--- make up for `scans` scans, with blocks never more than `most` behind, as many as the buffer has room
--- for; and no more than `opened` inputs stay open, whatever configurations come.
+-- Kept up with: the CPU had taken all blocks and nothing waited. Since then few change, and clean rounds came
+-- that each make up for `scans` scans, with blocks never more than `most` behind, as many as the buffer has room
+-- for.
 pub record IsKeptUpWith (settings : Settings) (first opened filter scans most : ℕ)
     (machine : Machine) (pauses : List Pause) (receipt last : Machine) (later : Life) : Type 0 where
   pub all_taken : machine.round ≡ length (blocks_in settings machine)
-  pub nothing_waits : waiting_of settings (life_of machine.history) ≡ []
-  -- the filters of the open inputs are at least this
-  pub some : 1 ≤ filter
-  pub enough : opened * scans ≤ settings.per_block * filter
   pub room : opened * (most + (filter - 1)) ≤ settings.waiting * filter
   pub near : BeginNear scans most pauses
   pub rounds : RoundsAfter settings first machine pauses receipt last
@@ -76,22 +72,13 @@ pub record IsKeptUpWith (settings : Settings) (first opened filter scans most : 
   pub heard_near : IsWithin (most - left_behind scans pauses) receipt last
   -- what has happened to the module since then
   pub since : life_of last.history ≡ later ++ life_of machine.history
-  pub few_open :
-      FewStayOpen opened filter (filter_events later) (filter_events (life_of machine.history))
+  pub few_change : FewChange settings opened filter scans (life_of machine.history) later
 
 -- What has arrived then at the end of a clean round, and at any time after it.
 pub record ArrivesLate (settings : Settings) (first filter most behind : ℕ) (machine receipt last : Machine)
     : Type 0 where
-  -- the record has gained the transitions logged since, each once and in order, and no gap mark
-  pub whole :
-      map piece_of last.items
-      ≡ map piece_of machine.items
-      ++ map (λ transition. EntryPiece (entry_of transition)) (transitions_arrived settings machine last)
-  -- each with its time, where no load of the counter took effect and none can be 65,536 scans late
-  pub times :
-      loads_of (life_of last.history) ≡ loads_of (life_of machine.history)
-      → most + filter ≤ 65537
-      → last.items ≡ machine.items ++ map timed_item (transitions_arrived settings machine last)
+  pub whole : HasGainedAll machine last (transitions_arrived settings machine last)
+  pub times : HaveTheirTimes filter most machine last (transitions_arrived settings machine last)
   -- n scans after the newest poll was received, what the record lacks is at most n + behind + f - 2 scans old
   pub late :
       (scans : ℕ) (now : Machine) → LeadsInTime settings first scans receipt last now
@@ -163,9 +150,7 @@ StandardLinkKeptUpIsNeverLater scans most late =
     IsStandardLinkKeptUp id first events scans most machine pauses receipt last later →
     LeadsInTime (standard_settings id) first between receipt last now →
     left_behind scans pauses + between ≤ most →
-    (map piece_of last.items
-    ≡ map piece_of machine.items
-    ++ map (λ transition. EntryPiece (entry_of transition)) (transitions_arrived (standard_settings id) machine last))
+    HasGainedAll machine last (transitions_arrived (standard_settings id) machine last)
     × AllByRecursion
     (λ transition. scans_of (life_of now.history) ≤ transition.scans + late)
     (drop (end_taken (standard_settings id) now) (log_of (life_of now.history)))

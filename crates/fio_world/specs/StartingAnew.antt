@@ -1,36 +1,30 @@
 -- After restarts: delivery starts anew with a clean round in the module's present life.
-use Rattle.std.specs.Prelude.{◌≡◌, ℕ, ◌+◌, ◌*◌, ◌≤◌, true, List, [], ◌++◌, map, length, take, drop}
+use Rattle.std.specs.Prelude.{◌≡◌, ℕ, ◌+◌, ◌≤◌, true, List, [], ◌++◌, length, take, drop}
 use Rattle.std.specs.List.{AllByRecursion}
 use Rattle.fio_message.specs.declared.limits.TheConstants.{INPUTS}
-use Rattle.fio_input.specs.Delivery.{FewStayOpen, OpenKeepFiltersOf}
+use Rattle.fio_input.specs.Delivery.{OpenKeepFiltersOf}
 use Rattle.fio_module.specs.Settings.{Settings, standard_settings}
-use Rattle.fio_module.specs.Life.{Life, life_of, scans_of, loads_of, filter_events}
-use Rattle.fio_module.specs.Log.{Transition, entry_of, log_of}
+use Rattle.fio_module.specs.Life.{Life, life_of, scans_of, filter_events}
+use Rattle.fio_module.specs.Log.{Transition, log_of}
 use Rattle.fio_module.specs.Blocks.{newest_end, waiting_of}
+use Rattle.fio_module.specs.Delivery.{FewChange}
 use Rattle.fio_module.specs.KeepingUp.{IsYoung}
 use Rattle.fio_world.specs.declared.event.Event.{Event}
 use Rattle.fio_world.specs.Link.{Machine, IsRun}
-use Rattle.fio_world.specs.Pieces.{EntryPiece, piece_of}
 use Rattle.fio_world.specs.Delivery.{IsCleanRound}
-use Rattle.fio_world.specs.InTime.{LeadsInTime, newest_of, RoundsInTime, timed_item}
+use Rattle.fio_world.specs.InTime.{LeadsInTime, newest_of, RoundsInTime, HasGainedAll, HaveTheirTimes}
 
 -- Polled in time since a clean round, whatever came before it, restarts included: the round has just ended,
--- and nothing waits. Since then nothing was restarted; the module has received the poll of
--- a clean round at least once in so many scans; no more than `opened` inputs stay open, whatever configurations
--- come, and in so many scans they change no more often than a block takes.
+-- and nothing waits. Since then nothing was restarted, few change, and the module has received the poll of a
+-- clean round at least once in so many scans.
 pub record IsPolledSinceRound (settings : Settings) (first opened filter scans : ℕ) (begin receipt machine : Machine)
     (receipts : List Machine) (last : Machine) (later : Life) : Type 0 where
   pub ended : IsCleanRound settings first begin receipt machine
-  pub nothing_waits : waiting_of settings (life_of machine.history) ≡ []
   pub inputs : opened ≤ INPUTS
-  -- the filters of the open inputs are at least this
-  pub some : 1 ≤ filter
-  pub enough : opened * scans ≤ settings.per_block * filter
   pub rounds : RoundsInTime settings first true scans machine receipts last
   -- what has happened to the module since then
   pub since : life_of last.history ≡ later ++ life_of machine.history
-  pub few_open :
-      FewStayOpen opened filter (filter_events later) (filter_events (life_of machine.history))
+  pub few_change : FewChange settings opened filter scans (life_of machine.history) later
 
 -- the transitions logged since a machine, through the end of the newest block
 abbrev pub in_blocks_since : Settings → Machine → Machine → List Transition
@@ -41,16 +35,8 @@ in_blocks_since settings machine last =
 -- What has arrived then at the end of a clean round, and is left at any time until the next one has ended.
 pub record HasArrivedSince (settings : Settings) (first filter scans : ℕ) (machine : Machine)
     (receipts : List Machine) (last : Machine) : Type 0 where
-  -- the record has gained the transitions logged since, each once and in order, and no gap mark
-  pub whole :
-      map piece_of last.items
-      ≡ map piece_of machine.items
-      ++ map (λ transition. EntryPiece (entry_of transition)) (in_blocks_since settings machine last)
-  -- each with its time, where no load of the counter took effect and none can be 65,536 scans late
-  pub times :
-      loads_of (life_of last.history) ≡ loads_of (life_of machine.history)
-      → scans + scans + filter ≤ 65537
-      → last.items ≡ machine.items ++ map timed_item (in_blocks_since settings machine last)
+  pub whole : HasGainedAll machine last (in_blocks_since settings machine last)
+  pub times : HaveTheirTimes filter (scans + scans) machine last (in_blocks_since settings machine last)
   -- all others are at most 2 n + f - 2 scans old
   pub young :
       (now : Machine) → LeadsInTime settings first scans (newest_of machine receipts) last now
@@ -80,9 +66,7 @@ StandardLinkStartsAnew scans late =
     life_of last.history ≡ later ++ life_of machine.history →
     OpenKeepFiltersOf 5 (filter_events later) (filter_events (life_of machine.history)) →
     LeadsInTime settings first scans (newest_of machine receipts) last now →
-    (map piece_of last.items
-    ≡ map piece_of machine.items
-    ++ map (λ transition. EntryPiece (entry_of transition)) (in_blocks_since settings machine last))
+    HasGainedAll machine last (in_blocks_since settings machine last)
     × AllByRecursion
     (λ transition. scans_of (life_of now.history) ≤ transition.scans + late)
     (drop (newest_end settings (life_of last.history)) (log_of (life_of now.history)))

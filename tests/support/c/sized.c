@@ -2,20 +2,9 @@
  * `N passed, M failed`. */
 #include "fio2070.h"
 
-#include <stdio.h>
+#include "checks.h"
+
 #include <string.h>
-
-static int passed, failed;
-#define CHECK(condition) check((condition) != 0, #condition, __LINE__)
-
-static void check(int holds, const char *text, int line) {
-    if (holds) {
-        passed++;
-    } else {
-        failed++;
-        printf("line %d: %s\n", line, text);
-    }
-}
 
 enum { MOST = 3000 };
 static const uint64_t ALL = ~(uint64_t)0;
@@ -158,6 +147,5 @@ int main(void) {
     moves();
     has_no_room();
     takes_any_octets();
-    printf("%d passed, %d failed\n", passed, failed);
-    return failed != 0;
+    return end_of_checks();
 }

@@ -4,7 +4,6 @@
 
 #include "checks.h"
 
-#include <stdio.h>
 #include <string.h>
 
 static unsigned char first[sizeof(struct fio2070_module)], second[sizeof(struct fio2070_module)];
@@ -21,37 +20,15 @@ static int same(const void *one, const void *other, size_t size) {
     return memcmp(first, second, size) == 0 && memchr(first, 0, size) != NULL;
 }
 
-static void counters(void) {
-    struct fio2070_counter one, other;
-    fill(&one, &other, sizeof one);
-    fio2070_counter_start(&one);
-    fio2070_counter_start(&other);
-    check(same(&one, &other, sizeof one), "counter", __LINE__);
-}
-
-static void checkers(void) {
-    struct fio2070_checker one, other;
-    fill(&one, &other, sizeof one);
-    fio2070_checker_start(&one);
-    fio2070_checker_start(&other);
-    check(same(&one, &other, sizeof one), "checker", __LINE__);
-}
-
-static void contents(void) {
-    struct fio2070_content_checker one, other;
-    fill(&one, &other, sizeof one);
-    fio2070_content_start(&one);
-    fio2070_content_start(&other);
-    check(same(&one, &other, sizeof one), "content_checker", __LINE__);
-}
-
-static void filters(void) {
-    static struct fio2070_filters one, other;
-    fill(&one, &other, sizeof one);
-    fio2070_filters_start(&one);
-    fio2070_filters_start(&other);
-    check(same(&one, &other, sizeof one), "filters", __LINE__);
-}
+/* `fio2070_NAME_start` sets every octet of the struct. */
+#define STARTS(name, type)                                      \
+    do {                                                        \
+        static struct type one, other;                          \
+        fill(&one, &other, sizeof one);                         \
+        fio2070_##name##_start(&one);                           \
+        fio2070_##name##_start(&other);                         \
+        check(same(&one, &other, sizeof one), #name, __LINE__); \
+    } while (0)
 
 static void modules(void) {
     static struct fio2070_module one, other;
@@ -62,10 +39,10 @@ static void modules(void) {
 }
 
 int main(void) {
-    counters();
-    checkers();
-    contents();
-    filters();
+    STARTS(counter, fio2070_counter);
+    STARTS(checker, fio2070_checker);
+    STARTS(content, fio2070_content_checker);
+    STARTS(filters, fio2070_filters);
     modules();
     return end_of_checks();
 }

@@ -71,7 +71,7 @@ export class PlanView {
         : 'No pace is often enough for so many lost rounds.')
       + (plan.isRiddenOut ? '' : ` In an outage of ${outage} ms transitions may be lost.`);
     const rows = [
-      ['start a round at least every', plan.startEvery + ' ms', 'k n ≤ b f: enough of IsPolledInTime' + (lost ? ', r + 1 times as often' : '')],
+      ['start a round at least every', plan.startEvery + ' ms', 'k n ≤ b f: enough of FewChange' + (lost ? ', r + 1 times as often' : '')],
       ...plan.isInTime ? [
         ['entries that wait, at most', withCommas(plan.waits), 'few_wait of KeepsUpExactly'],
         ['a transition is in a block at most', plan.late + ' ms late', lost ? 'never_late of Delivers' : 'young of KeepsUpExactly'],
