@@ -68,7 +68,7 @@ impl ContentChecker {
     {
         match octets {
             [POLL, number] => self.send_poll(*number),
-            _ => self.send_read(octets),
+            _ => self.take_sent(octets),
         }
     }
 
@@ -83,14 +83,14 @@ impl ContentChecker {
                 self.hear_empty(*number, *status);
                 None
             }
-            _ => self.hear_read(octets),
+            _ => self.take_heard(octets),
         }
     }
 
     /// Takes any frame that was sent. Most are polls, and most of what is heard are blocks without entries: a loop over
     /// those has more registers where the other frames are read elsewhere.
     #[inline(never)]
-    fn send_read(&mut self, octets: &[u8])
+    fn take_sent(&mut self, octets: &[u8])
         ensures { content_kept self.new ≡ kept_with (content_kept self.old) true octets.now }
     {
         if let Ok(command) = read_command(octets) {
@@ -137,7 +137,7 @@ impl ContentChecker {
 
     /// Takes any frame that was heard.
     #[inline(never)]
-    fn hear_read(&mut self, octets: &[u8]) -> Option<ContentBreach>
+    fn take_heard(&mut self, octets: &[u8]) -> Option<ContentBreach>
         ensures found { result ≡ content_found (content_kept self.old) false octets.now }
         ensures next { content_kept self.new ≡ kept_with (content_kept self.old) false octets.now }
     {
