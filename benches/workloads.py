@@ -141,8 +141,9 @@ def configured(leading, trailing):
 
 
 def used_link(chance):
-    """Lines of `check` and `record`: a link in use at a busy intersection. The CPU polls each 10 ms; at each of 64
-    detectors a vehicle stays for part of a second and the next comes some ten seconds later, a dozen changes a second in all."""
+    """Lines of `check` and `record`: a link in use at a busy intersection. The CPU polls each 10 ms. At each of 64
+    detectors a vehicle stays for part of a second, and the next comes some ten seconds later: a dozen changes a
+    second in all."""
     yield '> ' + configured(5, 5)
     yield '< b300'
     levels = [1] * INPUTS
