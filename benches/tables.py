@@ -3,6 +3,7 @@
 import os
 import re
 import shutil
+import statistics
 import subprocess
 from pathlib import Path
 
@@ -11,6 +12,7 @@ from programs import TOP
 
 PAGE = TOP / 'docs/PERFORMANCE.md'
 FIGURES = TOP / 'benches/figures.md'
+RECORD_ROUNDS = 31
 PARTS = [(0.25, 'a quarter'), (0.5, 'a half'), (1, 'whole')]
 
 
@@ -79,14 +81,22 @@ def of_growth(bench, pair):
     return table(['Input', *heads], rows)
 
 
+def times_in_turns(bench, program, words, path):
+    """The median of the milliseconds that a run takes with each of the words, in turns."""
+    runs = [[bench.times([program], word, path, 1)[0][0] for word in words] for _ in range(RECORD_ROUNDS)]
+    return [statistics.median(times) for times in zip(*runs)]
+
+
 def of_record(bench, program):
-    """Instructions of `check` and of `record` for blocks with so many entries."""
+    """Instructions and time of `record` and of `check` for each transcript."""
+    words = ('record', 'check')
     rows = []
-    for count in workloads.RECORDED:
-        path = bench.keep(f'record-{count}', workloads.recorded(count))
-        judged, kept = [millions(bench, program, word, path) for word in ('check', 'record')]
-        rows.append([str(count), *compared([kept, judged], 2)])
-    return table(['Entries of a block', '`record`, millions', '`check`', 'ratio'], rows)
+    for name in workloads.RECORDED:
+        path = bench.keep('record-' + name.replace(' ', '-'), workloads.recorded(name))
+        counts = [millions(bench, program, word, path) for word in words]
+        rows.append([name, *compared(counts, 2), *compared(times_in_turns(bench, program, words, path), 2)])
+    heads = ['Transcript', '`record`, millions', '`check`', 'ratio', '`record`, ms', '`check`', 'ratio']
+    return table(heads, rows)
 
 
 def of_profile(bench, program):

@@ -129,9 +129,41 @@ def polled(block):
         number += 1
 
 
-def recorded(count):
-    """A transcript of polls, each answered by a block of so many entries."""
-    return at_most(INPUT_LIMIT, polled(lambda number: whole_block(number, count)))
+def blocks_of(count):
+    """Lines of `check` and `record`: polls, each answered by a block of so many entries."""
+    return lambda _chance: polled(lambda number: whole_block(number, count))
+
+
+def configured(leading, trailing):
+    """The command that gives all inputs these filters."""
+    items = ''.join(f'{place:02x}{leading:02x}{trailing:02x}' for place in range(INPUTS))
+    return f'33{INPUTS:02x}{items}'
+
+
+def used_link(chance):
+    """Lines of `check` and `record`: a link in use at a busy intersection. The CPU polls each 10 ms. At each of 64
+    detectors a vehicle stays for part of a second, and the next comes some ten seconds later: a dozen changes a
+    second in all."""
+    yield '> ' + configured(5, 5)
+    yield '< b300'
+    levels = [1] * INPUTS
+    dues = [chance.randrange(1, 10000) for _ in range(INPUTS)]
+    number = 0
+    while True:
+        number += 1
+        stamp = 10 * number
+        entries = []
+        for due, place in sorted((due, place) for place, due in enumerate(dues) if due <= stamp):
+            levels[place] = 1 - levels[place]
+            entries.append(entry(place, levels[place], due))
+            dues[place] = due + (chance.randrange(6000, 14000) if levels[place] else chance.randrange(200, 1000))
+        yield f'> 36{number % 256:02x}'
+        yield '< ' + block_answer(number, entries, 0, stamp)
+
+
+def recorded(name):
+    """The transcript of this name for which `record` is compared with `check`."""
+    return at_most(INPUT_LIMIT, RECORDED[name](random.Random(2070)))
 
 
 def script(filters, events, limit):
@@ -202,8 +234,14 @@ LINES = {
     'check-long': check_long,
 }
 
-# How many entries the blocks have for which `record` is compared with `check`.
-RECORDED = [0, 2, 20, BLOCK_ENTRIES]
+# The transcripts for which `record` is compared with `check`.
+RECORDED = {
+    'link in use': used_link,
+    'no entries': blocks_of(0),
+    '2 entries': blocks_of(2),
+    '20 entries': blocks_of(20),
+    'full blocks': blocks_of(BLOCK_ENTRIES),
+}
 
 NAMES = [
     'show-short', 'show-long', 'show-varied', 'simulate-scans', 'simulate-idle', 'simulate-blocks', 'check-short',

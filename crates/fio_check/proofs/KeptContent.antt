@@ -1,6 +1,6 @@
 -- What the fields of the checker of the rules on content stand for, with one event more.
-use Rattle.std.proofs.Common.{◌≡◌, ◌<◌, ◌≤◌, ◌≢◌, ◌∙◌, ℕ, zero, suc, inl, inr, Bool, true, false, List, [], ◌∷◌, Option, Some, None, refl, sym, ap, ap₂, arith, length, get_or, set, replicate, get_or-set_same, get_or-set_other}
-use Rattle.std.specs.Prelude.{◌==◌, not, if◌then◌else◌, slice_index_or, option_map, ◌+◌, ◌%◌, ◌++◌, map, fold}
+use Rattle.std.proofs.Common.{◌≡◌, ◌<◌, ◌≢◌, ◌∙◌, ℕ, zero, suc, inl, inr, Bool, true, false, List, [], ◌∷◌, Option, Some, None, refl, sym, ap, ap₂, length, get_or, set, replicate, get_or-set_same, get_or-set_other}
+use Rattle.std.specs.Prelude.{◌==◌, not, if◌then◌else◌, option_map, ◌+◌, ◌%◌, ◌++◌, map, fold}
 use Rattle.std.specs.Option.{option_or}
 use Rattle.std.proofs.Math.Path.{fun_ext}
 use Rattle.std.proofs.lemmas.List.Sums.{fold-append}
@@ -11,15 +11,14 @@ use Rattle.fio_message.specs.declared.fields.Entry.{Entry as EntryOf}
 use Rattle.fio_message.specs.declared.answers.Answer.{Answer}
 use Rattle.fio_message.specs.Blocks.{Block, block_answer}
 use Rattle.fio_message.specs.Status.{says_lost, says_more}
-use Rattle.fio_cpu.specs.Record.{item_of}
+use Rattle.fio_cpu.specs.Record.{gap_if, item_of}
 use Rattle.fio_cpu.specs.declared.record.Item.{Item}
 use Rattle.fio_cpu.specs.declared.record.Item.TheVariants.{Entry, Gap}
-use Rattle.fio_check.specs.ContentAbove.{ContentFacts, FilterPair, LatestEntry, content_with, no_content, filters_of, unquiet}
+use Rattle.fio_check.specs.ContentAbove.{ContentFacts, FilterPair, LatestEntry, content_with, filters_of, unquiet}
 use Rattle.fio_check.specs.ContentCheckers.{ContentKept, breach_among, breach_found, index_below, kept_below}
 use Rattle.fio_check.specs.ContentEvents.{ContentEvent, Recorded, Ended, events_of_answer, events_of_block, number_with_answer}
-use Rattle.fio_check.specs.ContentKept.{facts_kept, filters_added, filters_in, is_flagged, latest_added, latest_in, number_in}
+use Rattle.fio_check.specs.ContentKept.{filters_added, filters_in, is_flagged, latest_added, latest_in, number_in}
 use Rattle.fio_check.specs.declared.content.ContentBreach.{ContentBreach}
-use Rattle.fio_check.specs.declared.content_above.ContentAbove.{ContentAbove}
 
 pub zeros : (n place : ℕ) → ◌≡◌ {A = ℕ} (get_or (replicate n 0) place 0) 0
 zeros zero zero = refl
@@ -102,36 +101,34 @@ breach_among_end facts index (event ∷ events) more =
     ap (option_or (breach_found facts index event)) (breach_among_end (content_with facts event) (index_below index event) events more)
 
 block-found : (facts : ContentFacts) (lost more : Bool) (items : List Item)
-    → breach_among (if lost then content_with facts (Recorded Gap) else facts) 0 (map Recorded items)
-    ≡ breach_among facts 0 (map Recorded ((if lost then Gap ∷ [] else []) ++ items) ++ (Ended more ∷ []))
+    → breach_among (fold content_with facts (map Recorded (gap_if lost))) 0 (map Recorded items)
+    ≡ breach_among facts 0 (map Recorded (gap_if lost ++ items) ++ (Ended more ∷ []))
 block-found facts true more items = sym (breach_among_end facts 0 (Recorded Gap ∷ map Recorded items) more)
 block-found facts false more items = sym (breach_among_end facts 0 (map Recorded items) more)
 
 -- what is found in a block
-pub block_found : (facts facts' : ContentFacts) (lost : Bool) (number status stamp : ℕ) (entries : List EntryOf) (found : Option ContentBreach)
-    → lost ≡ says_lost status → facts' ≡ (if lost then content_with facts (Recorded Gap) else facts)
+pub block_found : (facts facts' : ContentFacts) (number status stamp : ℕ) (entries : List EntryOf) (found : Option ContentBreach)
+    → facts' ≡ fold content_with facts (map Recorded (gap_if (says_lost status)))
     → found ≡ breach_among facts' 0 (map Recorded (map (item_of stamp) entries))
     → found ≡ breach_among facts 0 (events_of_block (record { number = number; entries = entries; status = status; stamp = stamp }))
-block_found facts facts' lost number status stamp entries found is above finds =
+block_found facts facts' number status stamp entries found above finds =
     finds ∙ ap (λ f. breach_among f 0 (map Recorded (map (item_of stamp) entries))) above
-    ∙ block-found facts lost (says_more status) (map (item_of stamp) entries)
-    ∙ ap (λ l. breach_among facts 0 (map Recorded ((if l then Gap ∷ [] else []) ++ map (item_of stamp) entries) ++ (Ended (says_more status) ∷ []))) is
+    ∙ block-found facts (says_lost status) (says_more status) (map (item_of stamp) entries)
 
 block-next : (facts : ContentFacts) (lost more : Bool) (items : List Item)
-    → content_with (fold content_with (if lost then content_with facts (Recorded Gap) else facts) (map Recorded items)) (Ended more)
-    ≡ fold content_with facts (map Recorded ((if lost then Gap ∷ [] else []) ++ items) ++ (Ended more ∷ []))
+    → content_with (fold content_with (fold content_with facts (map Recorded (gap_if lost))) (map Recorded items)) (Ended more)
+    ≡ fold content_with facts (map Recorded (gap_if lost ++ items) ++ (Ended more ∷ []))
 block-next facts true more items = sym (fold-append content_with facts (Recorded Gap ∷ map Recorded items) (Ended more ∷ []))
 block-next facts false more items = sym (fold-append content_with facts (map Recorded items) (Ended more ∷ []))
 
 -- the facts below a block
-pub block_next : (facts facts' after : ContentFacts) (lost : Bool) (number status stamp : ℕ) (entries : List EntryOf)
-    → lost ≡ says_lost status → facts' ≡ (if lost then content_with facts (Recorded Gap) else facts)
+pub block_next : (facts facts' after : ContentFacts) (number status stamp : ℕ) (entries : List EntryOf)
+    → facts' ≡ fold content_with facts (map Recorded (gap_if (says_lost status)))
     → after ≡ content_with (fold content_with facts' (map Recorded (map (item_of stamp) entries))) (Ended (says_more status))
     → after ≡ fold content_with facts (events_of_block (record { number = number; entries = entries; status = status; stamp = stamp }))
-block_next facts facts' after lost number status stamp entries is above next =
+block_next facts facts' after number status stamp entries above next =
     next ∙ ap (λ f. content_with (fold content_with f (map Recorded (map (item_of stamp) entries))) (Ended (says_more status))) above
-    ∙ block-next facts lost (says_more status) (map (item_of stamp) entries)
-    ∙ ap (λ l. fold content_with facts (map Recorded ((if l then Gap ∷ [] else []) ++ map (item_of stamp) entries) ++ (Ended (says_more status) ∷ []))) is
+    ∙ block-next facts (says_lost status) (says_more status) (map (item_of stamp) entries)
 
 -- ---- the number of a CPU's end
 

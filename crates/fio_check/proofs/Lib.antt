@@ -8,3 +8,4 @@ pub mod KeptContent
 pub mod ContentPlaces
 pub mod ContentCourse
 pub mod ContentFound
+mod FrequentFrames

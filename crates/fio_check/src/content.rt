@@ -1,18 +1,24 @@
 //! The checker of the rules on content, one frame at a time.
-ghost use Rattle.std.specs.Prelude.{◌≡◌, ℕ, fold, map, true, false};
+ghost use Rattle.std.specs.Prelude.{◌≡◌, [], ℕ, fold, map, true, false};
+ghost use Rattle.std.specs.Option.{option_or};
+ghost use Rattle.fio_message.specs.Status.{says_lost, says_more};
 ghost use Rattle.fio_message.specs.Views.{answer_of, command_of, entries_of};
+ghost use Rattle.fio_message.specs.declared.answers.Answer.TheVariants as answers;
 ghost use Rattle.fio_message.specs.declared.commands.Command.TheVariants as commands;
-ghost use Rattle.fio_cpu.specs.Record.{item_of};
+ghost use Rattle.fio_cpu.specs.Record.{gap_if, item_of};
+ghost use Rattle.fio_cpu.specs.declared.record.Item.TheVariants as Item;
 ghost use Rattle.fio_check.specs.ContentAbove.{content_with};
 ghost use Rattle.fio_check.specs.ContentCheckers.{breach_among, breach_found, content_found, kept_below, kept_with, nothing_kept};
-ghost use Rattle.fio_check.specs.ContentEvents.{Recorded, events_of_answer, events_of_block, events_of_command, number_with_answer, number_with_command};
+ghost use Rattle.fio_check.specs.ContentEvents.{Ended, Recorded, events_of_answer, events_of_block, events_of_command, number_with_answer, number_with_command};
 ghost use Rattle.fio_check.specs.ContentKept.{content_at_start, content_kept, facts_kept};
 
 use crate::content_above::ContentAbove;
 use crate::content_rules::ContentRule;
 use fio_input::widen;
+use fio_message::types::{BLOCK_ANSWER, POLL};
 use fio_message::{
-    AnswerView, BlockStatus, CommandView, EntriesView, Entry, read_answer, read_command, says_error,
+    AnswerView, BlockStatus, CommandView, EntriesView, Entry, InputNumber, read_answer,
+    read_command, says_error,
 };
 
 /// An entry that breaks a rule on content.
@@ -60,8 +66,9 @@ impl ContentChecker {
     pub fn sent(&mut self, octets: &[u8])
         ensures { content_kept self.new ≡ kept_with (content_kept self.old) true octets.now }
     {
-        if let Ok(command) = read_command(octets) {
-            self.send(&command);
+        match octets {
+            [POLL, number] => self.send_poll(*number),
+            _ => self.take_sent(octets),
         }
     }
 
@@ -71,9 +78,23 @@ impl ContentChecker {
         ensures found { result ≡ content_found (content_kept self.old) false octets.now }
         ensures next { content_kept self.new ≡ kept_with (content_kept self.old) false octets.now }
     {
-        match read_answer(octets) {
-            Ok(answer) => self.hear(&answer),
-            Err(_) => None,
+        match octets {
+            [BLOCK_ANSWER, number, 0, status, _, _, _, _] => {
+                self.hear_empty(*number, *status);
+                None
+            }
+            _ => self.take_heard(octets),
+        }
+    }
+
+    /// Takes any frame that was sent. Most are polls, and most of what is heard are blocks without entries: a loop over
+    /// those has more registers where the other frames are read elsewhere.
+    #[inline(never)]
+    fn take_sent(&mut self, octets: &[u8])
+        ensures { content_kept self.new ≡ kept_with (content_kept self.old) true octets.now }
+    {
+        if let Ok(command) = read_command(octets) {
+            self.send(&command);
         }
     }
 
@@ -97,6 +118,32 @@ impl ContentChecker {
         }
         if self.number == polled {
             self.above.add_poll();
+        }
+    }
+
+    /// Takes a block with no entries.
+    fn hear_empty(&mut self, block: u8, status: u8)
+        ensures { (stamp : ℕ) → content_kept self.new ≡ kept_below (content_kept self.old)
+            (number_with_answer (content_kept self.old).number (answers.Block block (record { items = [] }) status stamp))
+            (events_of_answer (content_kept self.old).number (answers.Block block (record { items = [] }) status stamp)) }
+    {
+        if self.has_number == 0 || block != self.number {
+            return;
+        }
+        self.number = block.wrapping_add(1);
+        begin_block(&mut self.above, status);
+        end_block(&mut self.above, status);
+    }
+
+    /// Takes any frame that was heard.
+    #[inline(never)]
+    fn take_heard(&mut self, octets: &[u8]) -> Option<ContentBreach>
+        ensures found { result ≡ content_found (content_kept self.old) false octets.now }
+        ensures next { content_kept self.new ≡ kept_with (content_kept self.old) false octets.now }
+    {
+        match read_answer(octets) {
+            Ok(answer) => self.hear(&answer),
+            Err(_) => None,
         }
     }
 
@@ -140,13 +187,27 @@ fn take_block(
     ensures next { (number : ℕ) → facts_kept above.new ≡ fold content_with (facts_kept above.old)
         (events_of_block (record { number = number; entries = entries_of entries.now; status = status; stamp = stamp })) }
 {
-    let status = BlockStatus::from_octet(status);
-    if status.lost() {
+    begin_block(above, status);
+    let found = take_entries(above, entries, stamp);
+    end_block(above, status);
+    found
+}
+
+/// Begins a block: where entries were lost, by a gap mark.
+fn begin_block(above: &mut ContentAbove, status: u8)
+    ensures { facts_kept above.new ≡ fold content_with (facts_kept above.old)
+        (map Recorded (gap_if (says_lost status))) }
+{
+    if BlockStatus::from_octet(status).lost() {
         above.add_gap();
     }
-    let found = take_entries(above, entries, stamp);
-    above.end_block(status.more());
-    found
+}
+
+/// Ends a block.
+fn end_block(above: &mut ContentAbove, status: u8)
+    ensures { facts_kept above.new ≡ content_with (facts_kept above.old) (Ended (says_more status)) }
+{
+    above.end_block(BlockStatus::from_octet(status).more());
 }
 
 /// Takes the entries of a block, and returns the first of them that breaks a rule.
@@ -163,34 +224,49 @@ fn take_entries(
     let mut found = None;
     let mut index = 0;
     'entries: for entry in entries.iter() {
-        let breach = take_entry(above, index, entry, stamp);
-        if found.is_none() {
-            found = breach;
-        }
+        found = take_entry(above, found, index, entry, stamp);
         index += 1;
     }
     found
 }
 
-/// Takes the entry with this index in its block, and returns it where it breaks a rule.
+/// Takes the entry with this index in its block, and returns the first breach with this entry more.
 fn take_entry(
     above: &mut ContentAbove,
+    found: Option<ContentBreach>,
     index: u8,
     entry: Entry,
     stamp: u32,
 ) -> Option<ContentBreach>
-    ensures found { result ≡ breach_found (facts_kept above.old) index (Recorded (item_of stamp entry)) }
+    ensures found { result
+        ≡ option_or found (breach_found (facts_kept above.old) index (Recorded (item_of stamp entry))) }
     ensures next { facts_kept above.new ≡ content_with (facts_kept above.old) (Recorded (item_of stamp entry)) }
 {
     let wide = widen(stamp, entry.stamp);
-    let broken = above.broken_rule(entry.input, entry.level, wide);
+    let found = breach_with(found, above, index, entry.input, entry.level, wide);
     above.add_entry(entry.input, entry.level, wide);
-    match broken {
-        Some(rule) => Some(ContentBreach {
-            entry: index,
-            input: entry.input.get(),
-            rule,
-        }),
-        None => None,
+    found
+}
+
+/// The first breach with this entry more. The rules are tried only where none is found yet.
+fn breach_with(
+    found: Option<ContentBreach>,
+    above: &ContentAbove,
+    index: u8,
+    input: InputNumber,
+    level: bool,
+    wide: u32,
+) -> Option<ContentBreach>
+    ensures { (stamp : ℕ) → result
+        ≡ option_or found (breach_found (facts_kept above.now) index (Recorded (Item.Entry input level stamp wide))) }
+{
+    if found.is_some() {
+        return found;
     }
+    let rule = above.broken_rule(input, level, wide)?;
+    Some(ContentBreach {
+        entry: index,
+        input: input.get(),
+        rule,
+    })
 }

@@ -1,6 +1,6 @@
 //! What the rules on content keep of the events above, in plain memory that C code can hold too: a flag
 //! is an octet, and 0 is no.
-ghost use Rattle.std.specs.Prelude.{◌≡◌, ◌<◌, ◌∷◌, [], ℕ, slice_index_or};
+ghost use Rattle.std.specs.Prelude.{◌≡◌, ◌<◌, ◌∷◌, [], ℕ, find, slice_index_or};
 ghost use Rattle.fio_message.specs.Views.{items_of};
 ghost use Rattle.fio_input.specs.FilterHistory.{last_item_of};
 ghost use Rattle.fio_cpu.specs.declared.record.Item.TheVariants.{Entry, Gap};
@@ -184,10 +184,22 @@ impl ContentAbove {
         if self.breaks_order(input, level, wide) {
             return Some(ContentRule::Order);
         }
-        if self.breaks_alternate(input, level, wide) {
+        self.broken_by_latest(input, level, wide)
+    }
+
+    /// The first rule of the two that ask for the latest entry of the same input.
+    fn broken_by_latest(&self, input: InputNumber, level: bool, wide: u32) -> Option<ContentRule>
+        ensures { result ≡ find (breaks_content (facts_kept self.now) input
+            (record { level = level; wide = wide })) (ContentRule.Alternate ∷ ContentRule.Apart ∷ []) }
+    {
+        let place = usize::from(input.get());
+        if self.states[place] == 0 || self.quiet[place] == 0 {
+            return None;
+        }
+        if level == (self.states[place] != 1) {
             return Some(ContentRule::Alternate);
         }
-        if self.breaks_apart(input, level, wide) {
+        if self.loaded == 0 && self.is_nearer(place, level, wide) {
             return Some(ContentRule::Apart);
         }
         None
@@ -198,26 +210,6 @@ impl ContentAbove {
             (record { level = level; wide = wide }) ContentRule.Order }
     {
         self.loaded == 0 && self.has_before != 0 && wide.wrapping_sub(self.before) >= HALF
-    }
-
-    fn breaks_alternate(&self, input: InputNumber, level: bool, wide: u32) -> bool
-        ensures { result ≡ breaks_content (facts_kept self.now) input
-            (record { level = level; wide = wide }) ContentRule.Alternate }
-    {
-        let place = usize::from(input.get());
-        self.states[place] != 0 && self.quiet[place] != 0 && level == (self.states[place] != 1)
-    }
-
-    fn breaks_apart(&self, input: InputNumber, level: bool, wide: u32) -> bool
-        ensures { result ≡ breaks_content (facts_kept self.now) input
-            (record { level = level; wide = wide }) ContentRule.Apart }
-    {
-        let place = usize::from(input.get());
-        self.loaded == 0
-            && self.states[place] != 0
-            && self.quiet[place] != 0
-            && level != (self.states[place] != 1)
-            && self.is_nearer(place, level, wide)
     }
 
     /// Whether an entry is nearer to the latest one of its input than the filter for its state.

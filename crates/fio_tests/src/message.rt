@@ -44,22 +44,14 @@ const ANSWERS: [&[u8]; 17] = [
     &[0xb6, 0, 0, 0xf0, 0, 0, 0, 0],
 ];
 
-/// 255 items: each input twice but 127, with all filters.
-fn most_items(alloc: Global) -> Result<Vec<u8>, AllocError> {
-    let mut octets = Vec::from_slice(alloc, &[0x33, 255])?;
+/// A message with 255 parts between these octets. As items of a configuration they name each input twice but 127, with all
+/// filters; as entries of a block too, to both states.
+fn most_parts(alloc: Global, head: &[u8], ending: &[u8]) -> Result<Vec<u8>, AllocError> {
+    let mut octets = Vec::from_slice(alloc, head)?;
     for turn in 0..255 {
         octets.extend_from_slice(&[turn, turn, 255 - turn])?;
     }
-    Ok(octets)
-}
-
-/// 255 entries: each input twice but 127, to both states.
-fn most_entries(alloc: Global) -> Result<Vec<u8>, AllocError> {
-    let mut octets = Vec::from_slice(alloc, &[0xb6, 5, 255])?;
-    for turn in 0..255 {
-        octets.extend_from_slice(&[turn, 1, turn])?;
-    }
-    octets.extend_from_slice(&[8, 0, 0, 0, 255])?;
+    octets.extend_from_slice(ending)?;
     Ok(octets)
 }
 
@@ -106,7 +98,7 @@ fn expect_commands(rt: &impl Abort, frame: &mut Frame, rows: &[&[u8]]) {
 
 #[test]
 fn commands(rt: HostRuntime) {
-    let most = most_items(rt.alloc()).expect(&rt, "octets");
+    let most = most_parts(rt.alloc(), &[0x33, 255], &[]).expect(&rt, "octets");
     let mut frame = Frame::new();
     expect_commands(&rt, &mut frame, &COMMANDS);
     expect_commands(&rt, &mut frame, &[most.as_slice()]);
@@ -121,7 +113,7 @@ fn expect_answers(rt: &impl Abort, frame: &mut Frame, rows: &[&[u8]]) {
 
 #[test]
 fn answers(rt: HostRuntime) {
-    let most = most_entries(rt.alloc()).expect(&rt, "octets");
+    let most = most_parts(rt.alloc(), &[0xb6, 5, 255], &[8, 0, 0, 0, 255]).expect(&rt, "octets");
     let mut frame = Frame::new();
     expect_answers(&rt, &mut frame, &ANSWERS);
     expect_answers(&rt, &mut frame, &[most.as_slice()]);
