@@ -5,6 +5,7 @@ import re
 from collections import Counter
 
 from . import judge
+from .grammar import timed
 
 _LIST = re.compile(r'(?:(?:0x|\\x|[$%])?[0-9a-f]{1,2}(?:h\b)?(?![0-9a-z])[ \t,;:|<>-]*)+', re.IGNORECASE)
 _WORD = re.compile(r'(?:0x|\\x|[$%])?([0-9a-f]{1,2})(?![0-9a-f])', re.IGNORECASE)
@@ -55,7 +56,7 @@ class Doubts:
 
     def reason(self, number, text, same, octets, is_usual):
         """Why the frame that readings have is not taken; empty where nothing speaks against it."""
-        lengths = {reading.count for reading in same if reading.count is not None and self.counted[reading.shape]}
+        lengths = {reading.count for reading in timed(same) if reading.count is not None and self.counted[reading.shape]}
         if lengths and len(octets) not in lengths:
             return 'its count says %d, and %d octets are there' % (min(lengths), len(octets))
         declared = _LENGTH.search(text)

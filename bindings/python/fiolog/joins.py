@@ -8,11 +8,13 @@ from .notations import HEX_LIST, from_digits, with_column
 # The longest frame with SDLC around it takes fewer octets, and an array of it fewer lines.
 MOST_OCTETS = 4096
 MOST_LINES = 1024
-WIDTHS = (8, 16, 24, 32)
+# Those of dumps; `xxd -p` has 30.
+WIDTHS = (8, 16, 24, 30, 32)
 _OPENED = re.compile(r'(?:=[^{}=;]*|\b(?:bytes|bytearray|frozenset|list)[ \t]*\(?)[{\[][^{}\[\]]*$')
 _CLOSED = re.compile(r'[}\]]')
 _ARRAY_LINE = re.compile(r'[ \t]*(?:(?:0x[0-9a-f]{1,2}|\d{1,3})(?:[ \t]*[,;][ \t]*|[ \t]+|$))*(?:/\*.*?\*/|//.*|#.*)?[ \t]*',
                          re.IGNORECASE)
+_DIGITS = re.compile('[0-9]')
 _COMMENT = re.compile(r'/\*.*?\*/|//.*$')
 
 
@@ -23,7 +25,12 @@ def opens_array(text):
 
 def goes_on(text):
     """Whether a line has octets of an array alone, or its end."""
-    return bool(_CLOSED.search(text)) or bool(_ARRAY_LINE.fullmatch(text))
+    return closes_array(text) or bool(_ARRAY_LINE.fullmatch(text))
+
+
+def closes_array(text):
+    """Whether a line has the end of an array, outside of its comments."""
+    return bool(_CLOSED.search(_COMMENT.sub(' ', text)))
 
 
 def offsets(text):
@@ -66,7 +73,8 @@ class Wrap:
 
     def __init__(self, reading):
         self.first, self.octets, self.width = reading, reading.octets, len(reading.octets)
-        self.is_over = False
+        self.is_over = self.is_headless = False
+        self.is_twofold = False     # whether the last line may be a frame by itself
 
     def takes(self, octets):
         """Adds the octets of a line that has nothing else. False where they are too many."""
@@ -80,17 +88,23 @@ class Wrap:
 
 def is_open(octets, count, may_end):
     """Whether octets may go on, or, if they `may_end`, whether they may end here too."""
+    if judge.missing(octets):
+        return True
     if count:
         return len(octets) < count + may_end
-    if judge.spells(octets):
-        return may_end or not judge.is_sure(octets)
-    return judge.missing(octets) > 0
+    return judge.spells(octets) and (may_end or not judge.is_sure(octets))
 
 
 def is_wrapped(reading):
     """Whether the octets of a line end at a width, and may go on in the next one."""
     at_width = len(reading.octets) in WIDTHS or bool(reading.count) and len(reading.octets) >= WIDTHS[0]
     return at_width and is_open(reading.octets, reading.count, False)
+
+
+def behind_head(above, text, length):
+    """The octets behind the head of the line above, which a line repeats but for digits; None where it has another."""
+    is_same = length and _DIGITS.sub('0', text[:length]) == _DIGITS.sub('0', above[:length])
+    return bare(text[length:], True) if is_same else None
 
 
 def bare(text, has_column):

@@ -22,7 +22,7 @@ from .options import number_in
 from .pcapng import Writer
 from .reader import Reader
 from .rules import Rules
-from .source import LONGEST
+from .source import Ends
 
 CHUNK = 1 << 16
 LONGEST_DATAGRAM = 1 << 16
@@ -56,20 +56,18 @@ class Lines:
     """Lines of a log, as they come."""
 
     def __init__(self):
-        self.reader, self.left, self.number = Reader(), b'', 0
+        self.reader, self.ends, self.number = Reader(), Ends(), 0
 
     def feed(self, chunk):
         """The events of the lines that are whole now."""
-        lines = (self.left + chunk).split(b'\n')
-        self.left = lines.pop()[:LONGEST + 1]
-        for line in lines:
+        for line in self.ends.lines(chunk):
             self.number += 1
             for event in self.reader.feed(self.number, line.decode('utf-8', 'replace').rstrip('\r')):
                 yield event if event.time is not None else event._replace(time=time.time())
 
     def end(self):
         """The events of what is left."""
-        yield from self.feed(b'\n' if self.left else b'')
+        yield from self.feed(self.ends.end or b'\n' if self.ends.left else b'')
         yield from self.reader.end()
 
 

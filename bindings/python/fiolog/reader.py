@@ -8,11 +8,12 @@ import re
 from collections import Counter
 
 from . import joins, judge, rows
+from .clean import cleaned
 from .doubts import Doubts
 from .events import DAMAGED, FRAME, PART, PASSED, REMARK, Line
 from .fast import Quick
 from .fitting import AUTO, ORDERED, PLAIN, Framing
-from .grammar import BLANKS, Reading, head_of, heading, in_marks, in_pieces
+from .grammar import BLANKS, Reading, head_of, heading, in_marks, in_pieces, timed
 
 MOST_WAITING = 256
 # So many lines above the first frame may be a heading.
@@ -54,12 +55,14 @@ class Reader:
         self.table = self.pauses = self.above = None
         self.kinds, self.reasons = Counter(), Counter()
         self.agreeing = self.reversed = 0
+        self.sides = set()      # the directions that were there
         self.taken = ''         # what is said of the form, once it is known
 
     # ---- the order of events ----
 
     def feed(self, number, text):
         """The events that are certain once this line is read."""
+        text = cleaned(text)
         if not self.queue:
             event = self._quickly(number, text.strip())
             if event:
@@ -102,15 +105,21 @@ class Reader:
         self.kinds[FRAME] += 1
         self.doubts.loose += judge.is_loose(octets)
         self.doubts.heads += bool(head.direction or head.time)
-        return Line(number, FRAME, text, octets, time, self._noted(head.direction, octets))
+        return Line(number, FRAME, text, octets, time, self._noted(head, octets))
 
-    def _noted(self, direction, octets):
-        """Counts whether the direction is that of the type."""
-        if direction:
-            if (direction == '<') == judge.is_answer(octets):
-                self.agreeing += 1
-            else:
-                self.reversed += 1
+    def _noted(self, said, octets):
+        """The direction, counted by whether it is that of the type. A vague one that is not, in a log that has no other
+        one, is none."""
+        direction = said.direction
+        if not direction:
+            return ''
+        self.sides.add(direction)
+        if (direction == '<') == judge.is_answer(octets):
+            self.agreeing += 1
+        elif said.is_vague and len(self.sides) == 1:
+            return ''
+        else:
+            self.reversed += 1
         return direction
 
     # ---- one line ----
@@ -234,7 +243,7 @@ class Reader:
         if head and waiting.join is None and not self.pattern and self.form in ('auto', 'log'):
             self.quick.learn(text, reading.start, head)
         time = reading.time if reading.time is not None else waiting.time
-        return Line(number, FRAME, text, best.message, time, self._noted(reading.direction, best.message))
+        return Line(number, FRAME, text, best.message, time, self._noted(reading, best.message))
 
     def _doubt(self, waiting, same):
         """What speaks against the frame of these readings."""
@@ -384,7 +393,7 @@ class Reader:
             if waiting.join.is_over:
                 self._close(waiting)
             return True
-        for reading in found:
+        for reading in timed(found):
             if self._may_wrap(reading) and joins.is_wrapped(reading):
                 self.queue.append(_Waiting(number, text, join=joins.Wrap(reading), time=self._time_above()))
                 return True
@@ -416,19 +425,27 @@ class Reader:
         if not is_taken:
             return False
         waiting.lines.append((number, text.strip()))
-        if (joins._CLOSED.search(text) if join == 'array' else join.is_over):
+        if (joins.closes_array(text) if join == 'array' else join.is_over):
             self._close(waiting)
         return True
 
     def _wraps(self, waiting, text):
-        """Whether a line has the rest of wrapped octets and nothing else."""
-        octets = joins.bare(text, waiting.join.first.notation == 'column')
+        """Whether a line has the rest of wrapped octets and nothing else, or nothing but the head of the line above."""
+        join = waiting.join
+        octets = joins.bare(text, join.first.notation == 'column')
+        is_repeated = octets is None and not join.is_headless
+        if is_repeated:
+            octets = joins.behind_head(waiting.lines[0][1], text.strip(), join.first.start)
         if octets is None:
             return False
-        is_marked = text[:1] in BLANKS or bool(waiting.join.first.prefix)
-        if not is_marked and judge.spells(octets):
-            return False
-        return waiting.join.takes(octets)
+        is_indented = text[:1] in BLANKS and not is_repeated
+        if not is_indented and judge.spells(octets):
+            if judge.missing(join.octets) != len(octets) or join.first.prefix and not is_repeated and not judge.is_sure(octets):
+                return False
+            join.is_twofold = is_repeated or not join.first.prefix
+        is_taken = join.takes(octets)
+        join.is_headless |= is_taken and not is_repeated
+        return is_taken
 
     def _close(self, waiting, at_end=False):
         """Ends a frame of several lines, or a wait."""
@@ -442,6 +459,10 @@ class Reader:
         elif isinstance(join, bytearray):
             waiting.fits = [self.framing.fit(Reading(('row',), 'octet a row', bytes(join), waiting.time,
                                                      waiting.direction))]
+        elif isinstance(join, joins.Wrap) and join.is_twofold:
+            waiting.events = [Line(number, PASSED, text, note='it may be one frame with the line below or above, or one by itself')
+                              for number, text in waiting.lines]
+            return
         else:
             reading = join.first._replace(octets=join.octets)
             waiting.fits = [self.framing.fit(reading)]

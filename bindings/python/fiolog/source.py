@@ -15,6 +15,24 @@ LONGEST = 1 << 17
 _MARKS = ((codecs.BOM_UTF8, 'utf-8'), (codecs.BOM_UTF16_LE, 'utf-16-le'), (codecs.BOM_UTF16_BE, 'utf-16-be'))
 
 
+class Ends:
+    """Takes octets apart at the ends of lines: line feeds or, where there are none, carriage returns."""
+
+    def __init__(self):
+        self.left, self.end = b'', b''
+
+    def lines(self, chunk):
+        """The lines that are whole now; `left` is what comes behind them."""
+        text = self.left + chunk if self.left else chunk
+        if not self.end and b'\n' in text:
+            self.end = b'\n'
+        elif not self.end and text.count(b'\r') > 1:
+            self.end = b'\r'
+        *lines, left = text.split(self.end or b'\n')
+        self.left = left[:LONGEST + 1]
+        return lines
+
+
 def _text(octets):
     """A line as text; octets that are no UTF-8 can be written again as they were."""
     return octets.decode('utf-8', 'surrogateescape')
@@ -67,16 +85,12 @@ def _chunks(descriptor, seen, idle):
 def lines_of(descriptor, seen=lambda count: None, idle=lambda: None):
     """The lines of a file descriptor, without their ends, each as soon as it is there. `seen` is called with the
     number of octets that were read, `idle` before each read."""
-    left = b''
+    ends = Ends()
     for chunk in _decoded(_chunks(descriptor, seen, idle)):
-        lines = (left + chunk if left else chunk).split(b'\n')
-        left = lines.pop()
-        for line in lines:
+        for line in ends.lines(chunk):
             yield _text(line)
-        if len(left) > LONGEST:
-            left = left[:LONGEST + 1]
-    if left:
-        yield _text(left)
+    if ends.left:
+        yield _text(ends.left)
 
 
 def opened(name):
