@@ -71,10 +71,12 @@ class Doubts:
         self.numbers += may_lose_digits(text, octets)
         return ''
 
-    def in_rows(self, octets, direction, is_uneven):
+    def in_rows(self, octets, direction, is_uneven, has_time):
         """Why a frame of one octet a row is not taken; empty where nothing speaks against it."""
         if direction and (direction == '<') != judge.is_answer(octets):
             return 'the type is one of the other direction: a row may be missing'
+        if not has_time and judge.is_loose(octets):
+            return 'the type has any length, and no time says where the frame ends'
         if is_uneven and not judge.is_sure(octets):
             return LOST_ROW
         self.loose += judge.is_loose(octets)

@@ -68,6 +68,44 @@ def chain(octets):
     return found
 
 
+_OBJECT = re.compile(r'[\[, \t]*\{')
+_KEY = re.compile(r'[ \t]*"[^"]*"[ \t]*:')
+_STRING = re.compile(r'"(?:[^"\\]|\\.)*"')
+
+
+def opens_object(text):
+    """Whether a line has the beginning of an object of JSON and nothing else."""
+    return bool(_OBJECT.fullmatch(text.rstrip()))
+
+
+class Object:
+    """An object of JSON on several lines."""
+
+    def __init__(self, text):
+        self.lines, self.depth, self.indent = [text], 1, len(text) - len(text.lstrip())
+
+    def takes(self, text):
+        """Adds a line that goes on; False where it does not."""
+        if len(self.lines) == 1 and not _KEY.match(text) or len(self.lines) > MOST_LINES:
+            return False
+        if opens_object(text) and len(text) - len(text.lstrip()) <= self.indent:
+            return False    # the next object begins, and this one has no end
+        self.lines.append(text)
+        plain = _STRING.sub('', text)
+        self.depth += plain.count('{') - plain.count('}')
+        return True
+
+    @property
+    def is_over(self):
+        """Whether its end is there."""
+        return self.depth <= 0
+
+    @property
+    def text(self):
+        """All of it on one line."""
+        return ' '.join(self.lines).strip()
+
+
 class Wrap:
     """Octets wrapped at a width: the first line lacks some, or is of any length."""
 

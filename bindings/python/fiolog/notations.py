@@ -38,9 +38,10 @@ def from_digits(text):
 
 
 def _from_numbers(text):
-    """The octets of numbers up to 255, or of signed ones; None where one is beyond."""
-    numbers = [int(one, 16) if one[:2] in ('0x', '0X') else int(one) for one in re.findall(r'0x[0-9a-f]+|-?\b\d+', text, re.IGNORECASE)]
-    if not numbers or min(numbers) < -128 or max(numbers) > (127 if min(numbers) < 0 else 255):
+    """The octets of numbers up to 255, or of signed ones; None where one is beyond, or lost its `0x`."""
+    words = re.findall(r'0x[0-9a-f]+|-?\b\d+', text.lower())
+    numbers = [int(word, 16 if word.startswith('0x') else 10) for word in words]
+    if not numbers or len({word.startswith('0x') for word in words}) > 1 or min(numbers) < -128 or max(numbers) > (127 if min(numbers) < 0 else 255):
         return None
     return bytes(number & 0xff for number in numbers)
 
@@ -172,5 +173,6 @@ def delimited(text):
         numbers = _from_numbers(re.sub(r'\(\w+\)', '', inner)) if _NUMBERS.fullmatch(inner) else None
         if numbers:
             yield listed.start(), numbers
-        if HEX_LIST.fullmatch(inner) and from_digits(inner):
+        is_number = listed['rounds'] is not None and inner.isdecimal()     # as `(3605)`: milliseconds, a process
+        if HEX_LIST.fullmatch(inner) and from_digits(inner) and not is_number:
             yield listed.start(), from_digits(inner)

@@ -38,7 +38,7 @@ class _Waiting:
 
     def __init__(self, number, text, fits=(), join=None, time=None):
         self.lines, self.fits, self.join, self.time = [(number, text)], list(fits), join, time
-        self.events, self.is_uneven = None, False
+        self.events, self.is_uneven, self.found = None, False, ()
 
 
 class Reader:
@@ -50,7 +50,7 @@ class Reader:
         self.form, self.pattern = form, re.compile(pattern) if pattern else None
         self.framing = Framing(sdlc)
         self.shapes = Counter(OWN if form in _OWN_LINE else ())
-        self.has_dumps = False
+        self.has_dumps = self.has_whole = False     # whether lines have offsets; whether one has more than one octet
         self.quick, self.queue, self.noise, self.doubts = Quick(), [], {}, Doubts()
         self.table = self.pauses = self.above = None
         self.kinds, self.reasons = Counter(), Counter()
@@ -162,6 +162,8 @@ class Reader:
     def _foreign_line(self, number, text, stripped):
         if self.pattern:
             return self._decide(number, stripped, self._by_pattern(stripped))
+        if self.form in ('auto', 'json') and joins.opens_object(stripped):
+            return self.queue.append(_Waiting(number, stripped, join=joins.Object(text)))
         if self._is_row(number, stripped):
             return None
         noise = _DIGITS.sub('0', stripped)
@@ -169,7 +171,7 @@ class Reader:
             self.above = heading(stripped) or self.above
             return self.queue.append(Line(number, PASSED, stripped, note=self.noise[noise]))
         found = in_pieces(stripped)
-        if self._is_joined(number, text, found):
+        if self._is_octet(number, stripped, found) or self._is_joined(number, text, found):
             return None
         if not found and joins.opens_array(stripped):
             return self.queue.append(_Waiting(number, stripped, join='array', time=self._time_above()))
@@ -240,7 +242,8 @@ class Reader:
             return Line(number, PASSED, text, note=reason)
         self._know(same, best)
         head = head_of(reading) if best.message == reading.octets and self.framing.mode in (AUTO, PLAIN) else None
-        if head and waiting.join is None and not self.pattern and self.form in ('auto', 'log'):
+        self.has_whole |= len(best.message) > 1 and waiting.join is None
+        if head and self.has_whole and waiting.join is None and not self.pattern and self.form in ('auto', 'log'):
             self.quick.learn(text, reading.start, head)
         time = reading.time if reading.time is not None else waiting.time
         return Line(number, FRAME, text, best.message, time, self._noted(reading, best.message))
@@ -251,8 +254,10 @@ class Reader:
             return ''
         self._note_quick()
         readings = [fit.reading for fit in same]
+        if isinstance(waiting.join, joins.Object):
+            return ''
         if isinstance(waiting.join, bytearray):
-            return self.doubts.in_rows(same[0].message, waiting.direction, waiting.is_uneven)
+            return self.doubts.in_rows(same[0].message, waiting.direction, waiting.is_uneven, waiting.time is not None)
         text = ' '.join(line for _, line in waiting.lines)
         return self.doubts.reason(waiting.lines[0][0], text, readings, readings[0].octets,
                                   any(self._is_usual(reading.shape) for reading in readings))
@@ -331,7 +336,11 @@ class Reader:
 
     def _is_row(self, number, text):
         if text.startswith(('{', '[{')) and self.form in ('auto', 'json'):
-            found = rows.in_object(text)
+            for one in rows.objects_in(text):
+                self._decide(number, text, rows.in_object(one))
+            if text.endswith(('}]', '}],')) and rows.objects_in(text):
+                return True
+            found = rows.in_text(text)
             if found is not None:
                 self._decide(number, text, found)
                 return True
@@ -349,22 +358,35 @@ class Reader:
             self.queue.append(Line(number, PASSED, text, note='a flag, a header or a check of SDLC'))
             return True
         found = list(self.table.readings(text))
-        if found and all(len(reading.octets) == 1 for reading in found):
-            self._octet(number, text, found[0])
+        if found and not self.has_whole and all(len(reading.octets) == 1 for reading in found):
+            self._octet(number, text, found[0], self.table.channel(text))
+            self._open_join().found = found
         else:
             self._decide(number, text, found)
         return True
 
-    def _octet(self, number, text, reading):
+    def _is_octet(self, number, text, found):
+        """Whether a line has one octet and more may follow below: a row without a table around."""
+        best = max(found, key=lambda reading: (bool(reading.direction), reading.time is not None), default=None)
+        if not best or not best.direction or any(len(reading.octets) != 1 for reading in found):
+            return False
+        is_whole = judge.spells(best.octets) and not judge.is_loose(best.octets)
+        if not self.doubts.has_rows and (is_whole or self.has_whole):
+            return False
+        self._octet(number, text, best, (best.prefix, best.direction))
+        self._open_join().found = found
+        return True
+
+    def _octet(self, number, text, reading, channel):
         """A row of one octet: frames end at pauses, and where the channel changes."""
         if self.pauses is None:
             self.pauses = rows.Pauses()
         is_pause = self.pauses.is_one(reading.time)
-        channel = self.table.channel(text)
         last = self._open_join()
-        self.doubts.has_rows = True
+        if not isinstance(last and last.join, bytearray):
+            last = None
         if last and (is_pause or last.channel != channel or len(last.join) > joins.MOST_OCTETS
-                     or reading.time is None and judge.spells(bytes(last.join))):
+                     or reading.time is None and not reading.direction and judge.spells(bytes(last.join))):
             self._close(last)
             last = None
         if not last:
@@ -373,6 +395,7 @@ class Reader:
             self.queue.append(last)
         last.lines.append((number, text))
         last.join += reading.octets
+        self.doubts.has_rows |= len(last.join) > 1
         last.is_uneven |= self.pauses.is_long and len(last.join) > 1
 
     # ---- frames on several lines ----
@@ -413,8 +436,12 @@ class Reader:
         """Whether a line belongs to the frame that is open, and is put to it."""
         join = waiting.join
         if isinstance(join, bytearray):
-            return bool(self.table and text.strip() and self._is_row(number, text.strip()))
-        if isinstance(join, joins.Dump):
+            if self.table:
+                return bool(text.strip() and self._is_row(number, text.strip()))
+            return self._is_octet(number, text.strip(), in_pieces(text.strip()))
+        if isinstance(join, joins.Object):
+            is_taken = join.takes(text)
+        elif isinstance(join, joins.Dump):
             found = [reading for reading in in_pieces(text.strip()) if reading.offset is not None]
             found.sort(key=lambda reading: reading.notation != 'column')
             is_taken = any(join.takes(reading) for reading in found)
@@ -450,15 +477,27 @@ class Reader:
     def _close(self, waiting, at_end=False):
         """Ends a frame of several lines, or a wait."""
         join = waiting.join
+        if isinstance(join, bytearray) and not self.doubts.has_rows:
+            waiting.join = join = None      # one such line is a line like others
+            waiting.fits = [self.framing.fit(reading) for reading in waiting.found]
+            waiting.events = [self._event(waiting)] if self._event(waiting) else None
+        if waiting.events:
+            return
         if join is None:
             waiting.events = [self._passed(waiting, at_end)]
             return
-        if join == 'array':
+        if isinstance(join, joins.Object):
+            waiting.fits = [self.framing.fit(reading) for reading in rows.in_text(join.text) or ()]
+        elif join == 'array':
             waiting.fits = [self.framing.fit(reading) for reading in
                             in_marks(' '.join(line for _, line in waiting.lines))]
         elif isinstance(join, bytearray):
-            waiting.fits = [self.framing.fit(Reading(('row',), 'octet a row', bytes(join), waiting.time,
-                                                     waiting.direction))]
+            reading = Reading(('row',), 'octet a row', bytes(join), waiting.time, waiting.direction)
+            waiting.fits = [self.framing.fit(reading)]
+            frames = joins.chain(reading.octets) if waiting.time is None and not waiting.fits[0].message else ()
+            if len(frames) > 1 and all((waiting.direction == '<') == judge.is_answer(frame) for frame in frames):
+                waiting.events = self._chain(waiting, frames, reading)
+                return
         elif isinstance(join, joins.Wrap) and join.is_twofold:
             waiting.events = [Line(number, PASSED, text, note='it may be one frame with the line below or above, or one by itself')
                               for number, text in waiting.lines]
@@ -469,7 +508,7 @@ class Reader:
             if isinstance(join, joins.Dump) and not waiting.fits[0].message:
                 frames = joins.chain(join.octets)
                 if len(frames) > 1:
-                    waiting.events = self._chain(waiting, frames)
+                    waiting.events = self._chain(waiting, frames, reading)
                     return
         event = self._event(waiting) if waiting.fits else None
         if event is None:
@@ -485,10 +524,9 @@ class Reader:
             further = [one._replace(kind=PASSED, note=event.note) for one in further]
         waiting.events = [event] + further
 
-    def _chain(self, waiting, frames):
+    def _chain(self, waiting, frames, reading):
         number, text = waiting.lines[0]
-        reading = waiting.join.first
         time = reading.time if reading.time is not None else waiting.time
-        self.taken = self.taken or 'dump of frames that follow one another'
+        self.taken = self.taken or 'frames that follow one another'
         return ([Line(number, FRAME, text, frame, time, reading.direction) for frame in frames]
                 + [Line(place, PART, line) for place, line in waiting.lines[1:]])
