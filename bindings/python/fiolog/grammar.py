@@ -1,5 +1,6 @@
 """The ways to read a line of a log: pieces before the octets, then the octets."""
 
+import re
 from typing import List, NamedTuple, Optional, Tuple
 
 from . import times
@@ -16,6 +17,10 @@ MOST_STATES = 400
 COUNTS = ('count in brackets', 'count by name', 'count with unit', 'bare count')
 # A frame of 773 octets, as digits with much around each, and its column; longer lines are no log's.
 LONGEST_LINE = 16384
+
+
+# As `36 05 -> B3 00`: the arrow is no direction.
+_TWO_FRAMES = re.compile(r'(?:[0-9A-F]{2}[ ]){2,}(?:[-=]+>|\u2192|<[-=]+|/(?!/))', re.IGNORECASE)
 
 
 class Reading(NamedTuple):
@@ -137,7 +142,7 @@ def _head(text):
 
 def in_pieces(text) -> List[Reading]:
     """The readings by the pieces of the table."""
-    return _Walk(text).found if len(text) <= LONGEST_LINE else []
+    return _Walk(text).found if len(text) <= LONGEST_LINE and not _TWO_FRAMES.match(text) else []
 
 
 def timed(found):

@@ -147,6 +147,11 @@ def _is_of_list(text, start, end):
     return has_comma and bool(re.search(r'[\[({]', before) or re.search(r'[\])}]', after))
 
 
+def _has_lost_mark(text):
+    """Whether some words of a list have `0x` before them, and others have not."""
+    return len({word.startswith('0x') for word in re.split(r'[ \t,;]+', text.lower())}) > 1
+
+
 def delimited(text):
     """Octets in quotes, braces or brackets anywhere in a line: where they begin, and each way to read them."""
     text = _unquoted(text)
@@ -170,9 +175,11 @@ def delimited(text):
         if singles > 1 and _SINGLE.fullmatch(listed[0]):
             continue    # each octet is in brackets
         inner = _COMMENT.sub(' ', next(group for group in listed.groups() if group is not None)).strip(' \t,;')
+        is_word = inner.isdecimal()     # as `(3605)`: milliseconds, a process
+        if is_word and (listed['rounds'] is not None or text[listed.end():].strip(' \t\r])};,')):
+            continue
         numbers = _from_numbers(re.sub(r'\(\w+\)', '', inner)) if _NUMBERS.fullmatch(inner) else None
         if numbers:
             yield listed.start(), numbers
-        is_number = listed['rounds'] is not None and inner.isdecimal()     # as `(3605)`: milliseconds, a process
-        if HEX_LIST.fullmatch(inner) and from_digits(inner) and not is_number:
+        if not is_word and HEX_LIST.fullmatch(inner) and from_digits(inner) and not _has_lost_mark(inner):
             yield listed.start(), from_digits(inner)

@@ -62,7 +62,7 @@ class Reader:
 
     def feed(self, number, text):
         """The events that are certain once this line is read."""
-        text = cleaned(text)
+        text = cleaned(text) if len(text) <= LONGEST_ROW else text
         if not self.queue:
             event = self._quickly(number, text.strip())
             if event:

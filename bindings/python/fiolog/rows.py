@@ -126,7 +126,7 @@ def _flat(value, name=''):
 def in_text(text):
     """The ways to read a text that is an object of JSON; None where it is none."""
     try:
-        value = json.loads(text.rstrip(',').lstrip('['))
+        value = json.loads(text.rstrip(',').lstrip('[, '))
     except (ValueError, RecursionError):
         return None
     return in_object(value) if isinstance(value, dict) else None
