@@ -7,7 +7,7 @@ import fio2070
 
 from . import log, terminal
 from .counts import Counts
-from .decode import direction_of
+from .decode import clock, direction_of
 from .events import DAMAGED, FRAME
 from .judge import words_of
 from .message import POLL, message_of
@@ -92,6 +92,29 @@ class Judge:
         return WORDS.get(rule, '')
 
 
+class Spans:
+    """How often each rule is broken, and from when to when."""
+
+    def __init__(self):
+        self.spans = {}
+
+    def add(self, rule, event):
+        """A breach of a rule."""
+        first, _, count = self.spans.get(rule, (event, event, 0))
+        self.spans[rule] = first, event, count + 1
+
+    def words(self):
+        """A line for each rule."""
+        for rule, (first, last, count) in self.spans.items():
+            yield '%s: %s' % (rule, 'once, ' + _place(first) if count == 1 else
+                              '%d times, first %s, last %s' % (count, _place(first), _place(last)))
+
+
+def _place(event):
+    """The line of a frame, and its time where it has one."""
+    return 'in line %d' % event.number + (' at ' + clock(event.time) if event.time is not None else '')
+
+
 def due_of(found):
     """What was due and what came, where the library says it."""
     return {'due': found.due, 'got': found.got} if found.has_due else {}
@@ -103,7 +126,7 @@ def run(option):
         terminal.say('this libfio2070 has no checker; a later one has')
         return 3
     paint, read, counts = terminal.painter('auto'), log.Log(option, sys.stdout.flush, writes=option.json), Counts()
-    judge, name, is_open, breaches = Judge(option.at), None, not option.start_at_poll, 0
+    judge, name, is_open, breaches, spans = Judge(option.at), None, not option.start_at_poll, 0, Spans()
     for event in read.events():
         if event.kind not in (FRAME, DAMAGED):
             continue
@@ -117,12 +140,15 @@ def run(option):
         if found:
             breaches += 1
             rule, words, breach = found
+            spans.add(rule, event)
             if option.json:
                 print(json.dumps({'file': name, 'line': event.number, 'rule': rule, **due_of(breach), 'says': words}))
             else:
                 print('line %d: %s: %s' % (event.number, paint('fault', rule), words))
     if not read.summary():
         return 1
+    for words in () if option.quiet else spans.words():
+        terminal.say(words)
     return end(option, read, counts, judge, breaches)
 
 
