@@ -8,7 +8,7 @@ import fio2070
 from . import log, terminal
 from .counts import Counts
 from .decode import clock, direction_of
-from .events import DAMAGED, FRAME
+from .events import DAMAGED, FRAME, REMARK
 from .judge import words_of
 from .message import POLL, message_of
 
@@ -50,6 +50,11 @@ class Judge:
 
     def __init__(self, at):
         self.at, self.checker, self.excused, self.polled = at, fio2070.Checker(), 0, None
+        self.is_behind_damage = False
+
+    def lose(self):
+        """A frame was damaged here: the CPU may have heard it, so up to the next poll nothing is said against the CPU."""
+        self.is_behind_damage = True
 
     def place(self, read, event):
         """Where this frame was logged: the CPU's end, the module's or the bus between."""
@@ -72,13 +77,14 @@ class Judge:
         hear = self.checker.sent if direction == '>' else self.checker.heard
         found = hear(event.octets)
         is_poll, before = len(event.octets) == 2 and event.octets[0] == POLL, self.polled
+        was_damaged = self.is_behind_damage
         if is_poll:
-            self.polled = event.octets[1]
+            self.polled, self.is_behind_damage = event.octets[1], False
         if found is None:
             return None
         rule = RULES[found.rule] if isinstance(found.rule, int) else str(found.rule)
-        if rule == 'advance' and place != 'cpu' and self.polled == before:
-            # Whether the CPU heard the answer is not known here: asking again may be right.
+        if place != 'cpu' and (was_damaged or rule == 'advance' and self.polled == before):
+            # Whether the CPU heard the answer is not known here: asking again, or for the next block, may be right.
             self.excused += 1
             return None
         return rule, self.words(rule, found, event), found
@@ -90,6 +96,11 @@ class Judge:
         if found.has_due and rule in DUE:
             return DUE[rule] % (found.due, found.got)
         return WORDS.get(rule, '')
+
+
+def is_lost(event):
+    """Whether a line has a frame that was damaged on its way here."""
+    return event.kind == REMARK and event.note.startswith('frame check')
 
 
 class Spans:
@@ -128,6 +139,8 @@ def run(option):
     paint, read, counts = terminal.painter('auto'), log.Log(option, sys.stdout.flush, writes=option.json), Counts()
     judge, name, is_open, breaches, spans = Judge(option.at), None, not option.start_at_poll, 0, Spans()
     for event in read.events():
+        if is_lost(event):
+            judge.lose()
         if event.kind not in (FRAME, DAMAGED):
             continue
         if name != read.name:
@@ -155,8 +168,8 @@ def run(option):
 def say_excused(judge):
     """Says how many polls are not judged."""
     if judge.excused:
-        terminal.say('%d polls repeat a block that was answered: where the CPU did not hear the answer they are right; '
-                     'this log was not taken at the CPU, so they are not judged' % judge.excused)
+        terminal.say('%d frames are not judged, since this log was not taken at the CPU: polls that repeat a block that was answered '
+                     'are right where the CPU did not hear it, and what comes behind a damaged frame where it did' % judge.excused)
 
 
 def end(option, read, counts, judge, breaches):
