@@ -130,7 +130,7 @@ def check_check(check):
                 re.findall(r'line (\d+): (\w+): (.*)', done.out))
     check.holds('how often, from where to where', 'fiolog: advance: 2 times, first in line 3, last in line 6\n' in done.err, done.err)
     timed_log = '07:15:02.100 TX 36 ff\n07:15:02.200 TX 36 00\n'
-    check.holds('since when', 'fiolog: advance: once, in line 2 at 26102.200000\n' in fiolog('check', text=timed_log).err)
+    check.holds('since when', 'fiolog: advance: once, in line 2 at 07:15:02.200\n' in fiolog('check', text=timed_log).err)
     with open(os.path.join(EXAMPLES, 'lost-answer.frames'), encoding='ascii') as file:
         done = fiolog('check', text=file.read())
     check.equal('a log of the bus does not accuse a right CPU', ('', 0, True),
@@ -301,6 +301,8 @@ def check_hostile(check, folder):
             file.write(octets)
         done = fiolog('decode', path)
         check.holds(name, done.out.startswith('1:     > poll block 5\n2:     < block 5') and words in done.err, done.err)
+    done = fiolog('decode', os.path.join(EXAMPLES, 'captures', 'udp.pcap'))
+    check.equal('a capture file', (1, True), (done.status, 'tshark reads it' in done.err))
     done = fiolog('decode', folder)
     check.equal('a folder', (3, 'fiolog: %s: Is a directory\n' % folder), (done.status, done.err))
 

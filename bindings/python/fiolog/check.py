@@ -1,13 +1,14 @@
 """`fiolog check`: every breach of the rules of transcripts, with what was due and what came."""
 
 import json
+import re
 import sys
 
 import fio2070
 
 from . import log, terminal
 from .counts import Counts
-from .decode import clock, direction_of
+from .decode import DATED, clock, direction_of
 from .events import DAMAGED, FRAME, REMARK
 from .judge import words_of
 from .message import POLL, message_of
@@ -25,6 +26,9 @@ WORDS = {
     'limits': 'F without C, C without 255 entries, or an input above 63',
     'rest': 'no entries, and the block before said with C that more wait',
     'refusal': 'done, to a configuration that names an input above 63'}
+
+
+_OF_DAY = re.compile(r'\d{1,2}:\d\d:\d\d(?:[.,]\d{1,9})?')
 
 
 def add_place(parser):
@@ -122,8 +126,11 @@ class Spans:
 
 
 def _place(event):
-    """The line of a frame, and its time where it has one."""
-    return 'in line %d' % event.number + (' at ' + clock(event.time) if event.time is not None else '')
+    """The line of a frame, and its time where it has one; a time of the day as the log writes it."""
+    if event.time is None:
+        return 'in line %d' % event.number
+    of_day = _OF_DAY.search(event.text) if event.time < DATED else None
+    return 'in line %d at %s' % (event.number, of_day[0] if of_day else clock(event.time))
 
 
 def due_of(found):

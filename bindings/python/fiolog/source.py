@@ -12,6 +12,8 @@ CHUNK = 1 << 16
 GZIP = b'\x1f\x8b\x08'
 # Of a line that is longer the first octets are kept, and it is no frame: memory stays bounded.
 LONGEST = 1 << 17
+# How files of pcap and pcapng begin.
+_CAPTURES = (b'\xd4\xc3\xb2\xa1', b'\xa1\xb2\xc3\xd4', b'\x4d\x3c\xb2\xa1', b'\xa1\xb2\x3c\x4d', b'\n\r\r\n')
 _MARKS = ((codecs.BOM_UTF8, 'utf-8'), (codecs.BOM_UTF16_LE, 'utf-16-le'), (codecs.BOM_UTF16_BE, 'utf-16-be'))
 
 
@@ -44,6 +46,8 @@ def _decoded(chunks):
     if first.startswith(GZIP):
         chunks = _unpacked(first, chunks)
         first = next(chunks, b'')
+    if first.startswith(_CAPTURES):
+        say('this is a capture file: tshark reads it by tools/wireshark/fio2070.lua, as docs/CAPTURES.md says')
     for mark, name in _MARKS:
         if first.startswith(mark):
             decoder = codecs.getincrementaldecoder(name)('replace')
