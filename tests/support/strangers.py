@@ -48,6 +48,15 @@ READ = [
     }
   }
 ''' % (digit, octets, octets) for digit, octets in zip('02', ['36:05', 'b6:05:00:00:00:00:00:01'])) + ']\n', ['-' + POLL, '-' + EMPTY]),
+    ('tcpdump -X', '07:15:02.100000 IP 127.0.0.1.2070 > 127.0.0.1.2071: UDP, length 2\n'
+     '\t0x0000:  4500 001e 0001 4000 4011 3ccc 7f00 0001  E.....@.@.<.....\n\t0x0010:  7f00 0001 0816 0817 000a 0000 3605       ............6.\n',
+     ['-' + POLL]),
+    ('plain text of Wireshark', 'No.     Time           Source       Destination  Protocol Length Info\n'
+     '      1 0.000000       127.0.0.1    127.0.0.2    UDP      50     2070 → 2071 Len=8\n\n'
+     '0000  00 00 00 00 00 00 00 00 00 00 00 00 08 00 45 00   ..............E.\n'
+     '0010  00 24 00 01 40 00 40 11 3c c6 7f 00 00 01 7f 00   .$..@.@.<.......\n'
+     '0020  00 02 08 16 08 17 00 10 00 00 b6 05 00 00 00 00   ................\n'
+     '0030  00 01                                             ..\n', ['-' + EMPTY]),
     ('tshark -T fields', '0.100\t127.0.0.1\t3605\n0.106\t127.0.0.2\tb605000000000001\n', ['-' + POLL, '-' + EMPTY]),
     ('jq', '{\n  "ts": 1.5,\n  "dir": "tx",\n  "data": [\n    54,\n    5\n  ]\n}\n', ['>' + POLL]),
     ('JSON, all on one line', '[{"dir": "tx", "data": "3605"}, {"dir": "rx", "data": "b605000000000001"}]\n', ['>' + POLL, '<' + EMPTY]),
@@ -90,6 +99,7 @@ READ = [
 # What is not read, or not all of it: nothing that is not there is.
 PASSED = [
     ('question and answer on one line', '36 05 -> B3 00\n36 05 -> 34\n', []),
+    ('a packet that is cut', '\t0x0000:  4500 0024 0001 4000 4011 3cc6 7f00 0001\n\t0x0010:  7f00 0002 0816 0817 0010 0000 b605\n', []),
     ('two frames on one line', 'TX 36 05 RX B3 00\n', []),
     ('base64', 'TX NgU=\nRX tgUAAAAAAAE=\n', []),
     ('a list of octets in brackets, one damaged', '[b6] [0?] [05] [34]\n', []),

@@ -55,6 +55,19 @@ class Dump:
         return True
 
 
+def carried(octets):
+    """The data of a datagram of UDP in a packet of IPv4, behind no header, that of Ethernet or that of Linux; empty where it is
+    none, or its lengths do not fit."""
+    for start in (0, 14, 16):
+        packet = octets[start:]
+        if len(packet) < 28 or packet[0] != 0x45 or packet[9] != 17 or start and octets[start - 2:start] != b'\x08\x00':
+            continue
+        whole, datagram = (int.from_bytes(packet[place:place + 2], 'big') for place in (2, 24))
+        if 20 + datagram == whole <= len(packet):
+            return packet[28:whole]
+    return b''
+
+
 def chain(octets):
     """Messages that follow one another, where all octets are such; no message of any length is in it."""
     found = []

@@ -505,6 +505,8 @@ class Reader:
         else:
             reading = join.first._replace(octets=join.octets)
             waiting.fits = [self.framing.fit(reading)]
+            if isinstance(join, joins.Dump) and joins.carried(join.octets):
+                waiting.fits = [self.framing.fit(reading._replace(octets=joins.carried(join.octets)))]
             if isinstance(join, joins.Dump) and not waiting.fits[0].message:
                 frames = joins.chain(join.octets)
                 if len(frames) > 1:
