@@ -476,42 +476,26 @@ class Reader:
 
     def _close(self, waiting, at_end=False):
         """Ends a frame of several lines, or a wait."""
-        join = waiting.join
-        if isinstance(join, bytearray) and not self.doubts.has_rows:
-            waiting.join = join = None      # one such line is a line like others
+        if isinstance(waiting.join, bytearray) and not self.doubts.has_rows:
+            waiting.join = None     # one such line is a line like others
             waiting.fits = [self.framing.fit(reading) for reading in waiting.found]
-            waiting.events = [self._event(waiting)] if self._event(waiting) else None
-        if waiting.events:
-            return
-        if join is None:
-            waiting.events = [self._passed(waiting, at_end)]
-            return
-        if isinstance(join, joins.Object):
-            waiting.fits = [self.framing.fit(reading) for reading in rows.in_text(join.text) or ()]
-        elif join == 'array':
-            waiting.fits = [self.framing.fit(reading) for reading in
-                            in_marks(' '.join(line for _, line in waiting.lines))]
-        elif isinstance(join, bytearray):
-            reading = Reading(('row',), 'octet a row', bytes(join), waiting.time, waiting.direction)
-            waiting.fits = [self.framing.fit(reading)]
-            frames = joins.chain(reading.octets) if waiting.time is None and not waiting.fits[0].message else ()
-            if len(frames) > 1 and all((waiting.direction == '<') == judge.is_answer(frame) for frame in frames):
-                waiting.events = self._chain(waiting, frames, reading)
-                return
-        elif isinstance(join, joins.Wrap) and join.is_twofold:
+            event = self._event(waiting)
+            waiting.events = [event] if event else None
+        if waiting.join is None:
+            waiting.events = waiting.events or [self._passed(waiting, at_end)]
+        elif isinstance(waiting.join, joins.Wrap) and waiting.join.is_twofold:
             waiting.events = [Line(number, PASSED, text, note='it may be one frame with the line below or above, or one by itself')
                               for number, text in waiting.lines]
-            return
         else:
-            reading = join.first._replace(octets=join.octets)
-            waiting.fits = [self.framing.fit(reading)]
-            if isinstance(join, joins.Dump) and joins.carried(join.octets):
-                waiting.fits = [self.framing.fit(reading._replace(octets=joins.carried(join.octets)))]
-            if isinstance(join, joins.Dump) and not waiting.fits[0].message:
-                frames = joins.chain(join.octets)
-                if len(frames) > 1:
-                    waiting.events = self._chain(waiting, frames, reading)
-                    return
+            waiting.events = self._joined(waiting)
+
+    def _joined(self, waiting):
+        """The events of the lines of one frame, or of several that follow one another."""
+        readings = self._readings_of(waiting)
+        waiting.fits = [self.framing.fit(reading) for reading in readings]
+        frames = self._frames_in(waiting, readings)
+        if frames:
+            return self._chain(waiting, frames, readings[0])
         event = self._event(waiting) if waiting.fits else None
         if event is None:
             # A dump or an array has its own marks: a short message needs no others.
@@ -524,7 +508,30 @@ class Reader:
         further = [Line(number, PART, text) for number, text in waiting.lines[1:]]
         if event.kind == PASSED:
             further = [one._replace(kind=PASSED, note=event.note) for one in further]
-        waiting.events = [event] + further
+        return [event] + further
+
+    @staticmethod
+    def _readings_of(waiting):
+        """The ways to read the lines of one frame."""
+        join = waiting.join
+        if isinstance(join, joins.Object):
+            return rows.in_text(join.text) or []
+        if join == 'array':
+            return in_marks(' '.join(line for _, line in waiting.lines))
+        if isinstance(join, bytearray):
+            return [Reading(('row',), 'octet a row', bytes(join), waiting.time, waiting.direction)]
+        inside = joins.carried(join.octets) if isinstance(join, joins.Dump) else b''
+        return [join.first._replace(octets=inside or join.octets)]
+
+    @staticmethod
+    def _frames_in(waiting, readings):
+        """The frames that follow one another in a dump, or in octets of one direction; none where it is one frame."""
+        is_row = isinstance(waiting.join, bytearray) and waiting.time is None
+        if not is_row and not isinstance(waiting.join, joins.Dump) or waiting.fits[0].message:
+            return []
+        frames = joins.chain(readings[0].octets)
+        is_right = not is_row or all((waiting.direction == '<') == judge.is_answer(frame) for frame in frames)
+        return frames if len(frames) > 1 and is_right else []
 
     def _chain(self, waiting, frames, reading):
         number, text = waiting.lines[0]
