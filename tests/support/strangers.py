@@ -100,6 +100,8 @@ READ = [
 PASSED = [
     ('question and answer on one line', '36 05 -> B3 00\n36 05 -> 34\n', []),
     ('a packet that is cut', '\t0x0000:  4500 0024 0001 4000 4011 3cc6 7f00 0001\n\t0x0010:  7f00 0002 0816 0817 0010 0000 b605\n', []),
+    ('what is no octets behind a direction', 'TX 36 05\nRX B3 00\nTX retries 36 00\nRX window 36:05\nCPU temperature 36,05\nTX to B3 00\n'
+     'write() 34\nTX mac b3:00\nRX id: 36-05\n', ['>3605', '<b300']),
     ('two frames on one line', 'TX 36 05 RX B3 00\n', []),
     ('base64', 'TX NgU=\nRX tgUAAAAAAAE=\n', []),
     ('a list of octets in brackets, one damaged', '[b6] [0?] [05] [34]\n', []),
