@@ -9,6 +9,8 @@ ghost use Rattle.fio_world.specs.Reports.{after_text, report_from, report_of};
 ghost use Rattle.fio_world.specs.Scripts.{scenario_of, scenario_with, script_in, HasGoodFront, IsScript};
 ghost use Rattle.fio_world.specs.Worlds.{ShowsMachine};
 
+mod endings;
+mod fronts;
 mod lines;
 mod record_lines;
 

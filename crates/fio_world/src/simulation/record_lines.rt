@@ -2,17 +2,19 @@
 //! of them.
 ghost use Rattle.std.specs.Prelude.{◌≡◌, ◌+◌, ◌≤◌, ◌++◌, length, take, IfOk, OnOk};
 ghost use Rattle.std.specs.List.{flat_map};
-ghost use Rattle.fio_show.specs.declared.entry_lines.TheConstants.{ENTRY_OCTETS};
 ghost use Rattle.fio_world.specs.ReportLines.{item_line};
-ghost use Rattle.fio_world.specs.declared.simulation.record_lines.TheConstants.{ROOM};
+ghost use Rattle.fio_world.specs.declared.simulation.record_lines.TheConstants.{LINE_ROOM, ROOM};
 
+use super::endings::{ENDING_ROOM, Ending};
+use super::fronts::{FRONT_ROOM, Fronts};
 use fio_cpu::Item;
-use fio_message::Entry;
-use fio_show::{ENTRY_OCTETS, EntryLines};
 use std::alloc::AllocError;
 
 /// The room in which lines are gathered.
 const ROOM: usize = 4096;
+
+/// The room that the line of an item takes at most.
+const LINE_ROOM: usize = FRONT_ROOM + ENDING_ROOM;
 
 /// Appends a line for each item of a record: `gap`, or `input I state L stamp S wide W`.
 ///
@@ -21,12 +23,13 @@ const ROOM: usize = 4096;
 pub fn push_items(text: &mut Vec<u8>, items: &[Item]) -> Result<(), AllocError>
     ensures { OnOk result (text.new.items ≡ text.old.items ++ flat_map item_line items.now) }
 {
-    let mut entry_lines = EntryLines::new();
+    let fronts = Fronts::new();
+    let mut ending = Ending::new(0, 0);
     let mut room = [0; ROOM];
     let mut end = 0;
     for item in items {
         let free = append_full(text, &room, end)?;
-        end = put_item(&mut room, free, &mut entry_lines, *item);
+        end = put_item(&mut room, free, &fronts, &mut ending, *item);
     }
     text.extend_from_slice(&room[..end])
 }
@@ -37,11 +40,11 @@ pub fn push_items(text: &mut Vec<u8>, items: &[Item]) -> Result<(), AllocError>
 #[inline(always)]
 fn append_full(text: &mut Vec<u8>, room: &[u8; ROOM], end: usize) -> Result<usize, AllocError>
     requires { end ≤ ROOM }
-    ensures free { IfOk result (λ left. left + ENTRY_OCTETS ≤ ROOM) }
+    ensures free { IfOk result (λ left. left + LINE_ROOM ≤ ROOM) }
     ensures same { IfOk result (λ left. text.new.items ++ take left room.now
         ≡ text.old.items ++ take end room.now) }
 {
-    if end <= ROOM - ENTRY_OCTETS {
+    if end <= ROOM - LINE_ROOM {
         return Ok(end);
     }
     text.extend_from_slice(&room[..end])?;
@@ -51,8 +54,14 @@ fn append_full(text: &mut Vec<u8>, room: &[u8; ROOM], end: usize) -> Result<usiz
 /// Puts the line of an item of the record behind the lines in the room, and returns where it ends.
 // Inlined, so that the end of the lines stays in a register.
 #[inline(always)]
-fn put_item(room: &mut [u8; ROOM], end: usize, entry_lines: &mut EntryLines, item: Item) -> usize
-    requires { end + ENTRY_OCTETS ≤ ROOM }
+fn put_item(
+    room: &mut [u8; ROOM],
+    end: usize,
+    fronts: &Fronts,
+    ending: &mut Ending,
+    item: Item,
+) -> usize
+    requires { end + LINE_ROOM ≤ ROOM }
     ensures within { result ≤ ROOM }
     ensures put { take result room.new ≡ take end room.old ++ item_line item }
 {
@@ -64,13 +73,10 @@ fn put_item(room: &mut [u8; ROOM], end: usize, entry_lines: &mut EntryLines, ite
             stamp,
             wide,
         } => {
-            let entry = Entry {
-                input,
-                level,
-                stamp,
-            };
-            let (line, count) = entry_lines.line(b"", entry, wide);
-            put_part(room, end, line, count)
+            let front = fronts.of(input);
+            let state = put_part(room, end, &front.octets, front.count);
+            let (octets, count) = ending.from_state(level, stamp, wide);
+            put_part(room, state, octets, count)
         }
     }
 }
