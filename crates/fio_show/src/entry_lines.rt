@@ -108,6 +108,8 @@ fn put_front<const N: usize>(line: &mut [u8; LINE_OCTETS], margin: &[u8; N], ent
 
 /// Puts the ending of a line with this stamp and wide time in its place, and returns how many octets
 /// it has.
+// Not inlined, so that the loop over the entries of a block stays short.
+#[inline(never)]
 fn put_ending(line: &mut [u8; LINE_OCTETS], stamp: u16, wide: u32) -> usize
     ensures length { result ≤ ENDING_ROOM }
     ensures put { take result (drop ENDING line.new) ≡ scan_ending stamp wide }

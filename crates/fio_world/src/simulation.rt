@@ -9,10 +9,13 @@ ghost use Rattle.fio_world.specs.Reports.{after_text, report_from, report_of};
 ghost use Rattle.fio_world.specs.Scripts.{scenario_of, scenario_with, script_in, HasGoodFront, IsScript};
 ghost use Rattle.fio_world.specs.Worlds.{ShowsMachine};
 
+mod endings;
+mod fronts;
 mod lines;
+mod record_lines;
 
-pub use self::lines::push_items;
 use self::lines::{push_ending, push_heard, push_quiet, push_refusal, push_sent};
+pub use self::record_lines::push_items;
 use crate::outcome::WorldError;
 use crate::script::{Script, ScriptError, read_header_and_steps};
 use crate::text::Report;

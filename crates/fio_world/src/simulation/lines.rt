@@ -1,21 +1,20 @@
 //! The lines of a report, appended to its text.
 ghost use Rattle.std.specs.Prelude.{◌≡◌, ◌≤◌, ℕ, ◌++◌, IsSomeAnd, OnOk, codes, decimal};
-ghost use Rattle.std.specs.List.{flat_map};
 ghost use Rattle.fio_module.specs.Settings.{Settings};
 ghost use Rattle.fio_world.specs.Link.{Machine};
-ghost use Rattle.fio_world.specs.ReportLines.{ending_lines, ending_text, heard_line, item_line, outcome_line, refusal_in, refused_line, sent_line};
+ghost use Rattle.fio_world.specs.ReportLines.{ending_lines, ending_text, heard_line, outcome_line, refusal_in, refused_line, sent_line};
 ghost use Rattle.fio_world.specs.Worlds.{ShowsMachine};
 ghost use Rattle.fio_world.specs.declared.outcome.Outcome.TheVariants as outcomes;
 ghost use Rattle.fio_cpu.specs.declared.poller.Heard.TheVariants as heards;
 ghost use Rattle.fio_show.specs.declared.pieces.TheConstants.{NAME_OCTETS};
 
+use super::record_lines::push_items;
 use crate::outcome::WorldError;
 use crate::push_line;
-use crate::text::{append_part, push_hexadecimal};
+use crate::text::push_hexadecimal;
 use crate::world::World;
 use fio_cpu::{Heard, Item};
-use fio_message::{Entry, Memory};
-use fio_show::EntryLines;
+use fio_message::Memory;
 use std::alloc::AllocError;
 
 pub(crate) fn push_quiet(text: &mut Vec<u8>, number: usize) -> Result<(), AllocError>
@@ -136,41 +135,4 @@ fn push_counts(
         b"\nrecord " {items.len() as u64} b"\n"
     )?;
     push_items(text, items)
-}
-
-/// Appends a line for each item of a record: `gap`, or `input I state L stamp S wide W`.
-///
-/// # Errors
-/// `AllocError` where the text could not grow.
-pub fn push_items(text: &mut Vec<u8>, items: &[Item]) -> Result<(), AllocError>
-    ensures { OnOk result (text.new.items ≡ text.old.items ++ flat_map item_line items.now) }
-{
-    let mut entry_lines = EntryLines::new();
-    for item in items {
-        push_item(text, &mut entry_lines, *item)?;
-    }
-    Ok(())
-}
-
-/// An item of the record.
-fn push_item(text: &mut Vec<u8>, entry_lines: &mut EntryLines, item: Item) -> Result<(), AllocError>
-    ensures { OnOk result (text.new.items ≡ text.old.items ++ item_line item) }
-{
-    match item {
-        Item::Gap => text.extend_from_slice(b"gap\n"),
-        Item::Entry {
-            input,
-            level,
-            stamp,
-            wide,
-        } => {
-            let entry = Entry {
-                input,
-                level,
-                stamp,
-            };
-            let (line, count) = entry_lines.line(b"", entry, wide);
-            append_part(text, line, count)
-        }
-    }
 }
