@@ -125,9 +125,12 @@ def check_check(check):
         check.equal('check of ' + os.path.basename(name), (verdict and verdict.groups(), 1 if verdict else 0),
                     (found and found.groups(), done.status))
     broken = '> 36ff\nnoise\n> 3600\n< b600018000020000000002\n> 3601\n> 3604\n< b6040000000000ff\n'
-    found = re.findall(r'line (\d+): (\w+): (.*)', fiolog('check', text=broken).out)
+    done = fiolog('check', text=broken)
     check.equal('every breach', [('3', 'advance', 'block 255 was due, 0 came'), ('6', 'advance', 'block 1 was due, 4 came')],
-                found)
+                re.findall(r'line (\d+): (\w+): (.*)', done.out))
+    check.holds('how often, from where to where', 'fiolog: advance: 2 times, first in line 3, last in line 6\n' in done.err, done.err)
+    timed_log = '07:15:02.100 TX 36 ff\n07:15:02.200 TX 36 00\n'
+    check.holds('since when', 'fiolog: advance: once, in line 2 at 07:15:02.200\n' in fiolog('check', text=timed_log).err)
     with open(os.path.join(EXAMPLES, 'lost-answer.frames'), encoding='ascii') as file:
         done = fiolog('check', text=file.read())
     check.equal('a log of the bus does not accuse a right CPU', ('', 0, True),
@@ -298,6 +301,8 @@ def check_hostile(check, folder):
             file.write(octets)
         done = fiolog('decode', path)
         check.holds(name, done.out.startswith('1:     > poll block 5\n2:     < block 5') and words in done.err, done.err)
+    done = fiolog('decode', os.path.join(EXAMPLES, 'captures', 'udp.pcap'))
+    check.equal('a capture file', (1, True), (done.status, 'tshark reads it' in done.err))
     done = fiolog('decode', folder)
     check.equal('a folder', (3, 'fiolog: %s: Is a directory\n' % folder), (done.status, done.err))
 

@@ -53,7 +53,7 @@ def fault_of_process():
 def on_serial(write, *words):
     """What a run writes whose serial port is a pseudo-terminal, at which this is written, and its status."""
     ours, theirs = pty.openpty()
-    command = started('--serial', os.ttyname(theirs), '--quiet', '--seconds', '6', *words)
+    command = started('--serial', os.ttyname(theirs), '--quiet', '--seconds', '5', *words)
     time.sleep(2)
     write(lambda octets: os.write(ours, octets))
     out = command.communicate(timeout=30)[0].decode()
@@ -63,20 +63,24 @@ def on_serial(write, *words):
 
 
 def fault_of_serial():
-    """A pseudo-terminal as serial port: frames with checks, then a damaged one, then a device that babbles."""
+    """A pseudo-terminal as serial port: frames with checks, of which an answer that the CPU heard is damaged here, one in two
+    pieces, then a damaged one, then a device that babbles. Nobody is accused."""
     from support.talking import rounds, stuffed
     frames = [octets for _, octets in rounds(20)]
+    lost = next(place for place, octets in enumerate(frames) if octets[0] == 182 and octets[2] and frames[place + 1][1] != octets[1])
 
     def write(put):
-        for octets in frames:
-            put(stuffed(octets))
+        for place, octets in enumerate(frames):
+            put(stuffed(octets)[:-2])
+            put(b'\x00\x7e' if place == lost else stuffed(octets)[-2:])
         put(stuffed(b'\x36\x05')[:-3] + b'\x00\x00\x7e')
         for _ in range(8):
             put(b'\x55' * 500)
         put(b'\x7e' + stuffed(b'\x36\x05'))
-    out, _ = on_serial(write)
+    out, status = on_serial(write)
     found = numbers_of(out)
-    return None if (found['frames'], found['wrong frame checks']) == (len(frames) + 1, 2) else out
+    expected = {'frames': len(frames), 'wrong frame checks': 3, 'breaches': 0, 'breaches in content': 0}
+    return None if expected == {name: found[name] for name in expected} and status == 0 else out
 
 
 def fault_of_doubled():
@@ -223,6 +227,23 @@ def check_process_ends(check):
         check.equal('live %s' % ' '.join(words), (3, False), (done.status, 'Traceback' in done.err))
 
 
+def check_ended_from_outside(check, folder):
+    """SIGTERM is as Ctrl-C; a pipe without a writer is left in time."""
+    path, pipe = os.path.join(folder, 'number'), os.path.join(folder, 'silent')
+    live = started('--exec', "sh -c 'echo 3605; echo $$ > %s; exec sleep 60'" % path, '--quiet')
+    while not os.path.exists(path) or not os.path.getsize(path):
+        time.sleep(0.05)
+    time.sleep(0.2)
+    live.terminate()
+    out = live.communicate(timeout=20)[0].decode()
+    with open(path, encoding='ascii') as file:
+        number = int(file.read())
+    check.equal('SIGTERM ends both, with the summary', (1, False), (numbers_of(out)['frames'], os.path.exists('/proc/%d' % number)))
+    os.mkfifo(pipe)
+    done = fiolog('live', '--fifo', pipe, '--seconds', '0.2')
+    check.equal('a pipe without a writer', (1, True), (done.status, 'no frame came' in done.err))
+
+
 def check_capture_in_pipe(check):
     """A capture in a pipe is read as it comes."""
     if not shutil.which('tshark'):
@@ -251,7 +272,7 @@ def main():
     check.fault('datagrams', fault_of_datagrams)
     with tempfile.TemporaryDirectory() as folder:
         check.fault('a pipe', fault_of_pipe, folder)
-        for part in (check_content, check_beginning, check_passed, check_status_line):
+        for part in (check_content, check_beginning, check_passed, check_status_line, check_ended_from_outside):
             part(check, folder)
     check_process_ends(check)
     check_capture_in_pipe(check)

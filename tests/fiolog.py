@@ -12,6 +12,7 @@ from support.damage import DAMAGED
 from support.fiolog import use_library
 from support.loggers import LOGGERS
 from support.sessions import SESSION, random_session, timed
+from support.strangers import PASSED, READ
 
 # A line, and the frame that it is; no frame where it may be read in several ways or in none.
 LINES = [
@@ -51,10 +52,12 @@ class Read:
 
     def __init__(self, text, **settings):
         from fiolog.reader import Reader
-        reader = Reader(**settings)
-        self.events = [event for number, line in enumerate(text.splitlines(), 1) for event in reader.feed(number, line)]
+        from fiolog.source import Ends
+        reader, ends = Reader(**settings), Ends()
+        lines = ends.lines(text.encode()) + [ends.left] * bool(ends.left)
+        self.events = [event for number, line in enumerate(lines, 1) for event in reader.feed(number, line.decode())]
         self.events += reader.end()
-        self.reader, self.lines = reader, len(text.splitlines())
+        self.reader, self.lines = reader, len(lines)
         self.frames = [event for event in self.events if event.kind == 'frame']
         self.octets = [event.octets for event in self.frames]
 
@@ -92,6 +95,14 @@ def check_lines(check):
         check.equal('the line %r' % line, [expected] if expected else [], [octets.hex() for octets in read.octets])
 
 
+def check_strangers(check):
+    """Each log of a tool: its frames with what it says of their directions, and an event for each line."""
+    for name, text, expected in READ + PASSED:
+        read = Read(text)
+        check.equal(name, expected, [(event.direction or '-') + event.octets.hex() for event in read.frames])
+        check.equal('%s, each line has an event' % name, list(range(1, read.lines + 1)), read.numbers())
+
+
 # What damage does to a line, at a place in it. A changed character is another octet where Python writes the octet so.
 DAMAGES = [lambda line, cut: line[:cut], lambda line, cut: line[cut:], lambda line, cut: line + line, lambda line, cut: '',
            lambda line, cut: line[:cut] + line[cut + 1:], lambda line, cut: line[:cut] + ' ' + line[cut:],
@@ -127,6 +138,20 @@ def fault_of_damage(name, seed):
     return 'of %d frames %r' % (len(silent), silent[0]) if silent else None
 
 
+def fault_of_damaged_stranger(name, text, expected):
+    """No line that is cut, changed, lost or doubled makes another frame in silence."""
+    from fiolog.judge import is_loose
+    draw, known, lines = random.Random(name), {one[1:] for one in expected}, text.splitlines()
+    for _ in range(12):
+        place, damage = draw.randrange(len(lines)), draw.choice(DAMAGES[:-1])
+        line = damage(lines[place], draw.randrange(len(lines[place]) + 1))
+        read = Read('\n'.join([*lines[:place], line, *lines[place + 1:]]) + '\n')
+        strange = [event for event in read.frames if event.octets.hex() not in known and not is_loose(event.octets)]
+        if strange and not read.reader.doubts.numbers and not read.reader.doubts.has_rows:
+            return '%r: %r' % (line, strange[0])
+    return None
+
+
 def check_damaged(check):
     """Each kind of damage is refused or remarked."""
     for name, text, count, words in DAMAGED:
@@ -151,10 +176,13 @@ def main():
     use_library(check, 'all of fiolog')
     check_forms(check)
     check_lines(check)
+    check_strangers(check)
     check_damaged(check)
     for place, name in enumerate(LOGGERS):
         for seed in range(2):
             check.fault('damage in %s, seed %d' % (name, seed), fault_of_damage, name, 2 * place + seed)
+    for name, text, expected in READ:
+        check.fault('damage in %s' % name, fault_of_damaged_stranger, name, text, expected)
     for seed in range(3):
         check.fault('noise, seed %d' % seed, fault_of_noise, seed)
     check.end()

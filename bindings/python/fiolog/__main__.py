@@ -19,6 +19,10 @@ COMMANDS = {
 }
 
 
+BEGINNING = ('Begin with `fiolog check LOG`: what is wrong, since when and how often. `fiolog decode LOG` writes what each frame '
+             'says, `fiolog record LOG` what became of the entries; `fiolog COMMAND --help` lists the options.')
+
+
 def parser_of(name):
     """The module of a subcommand, or None where it is not there."""
     try:
@@ -31,7 +35,7 @@ def parser_of(name):
 
 def arguments(words):
     """The command line."""
-    parser = argparse.ArgumentParser(prog='fiolog', description='Reads logs of the field I/O transition link.')
+    parser = argparse.ArgumentParser(prog='fiolog', description='Reads logs of the field I/O transition link.', epilog=BEGINNING)
     choices = parser.add_subparsers(dest='command', metavar='COMMAND', required=True)
     wanted = [word for word in words[:1] if word in COMMANDS] or COMMANDS
     for name in COMMANDS:

@@ -1,14 +1,15 @@
 """`fiolog check`: every breach of the rules of transcripts, with what was due and what came."""
 
 import json
+import re
 import sys
 
 import fio2070
 
 from . import log, terminal
 from .counts import Counts
-from .decode import direction_of
-from .events import DAMAGED, FRAME
+from .decode import DATED, clock, direction_of
+from .events import DAMAGED, FRAME, REMARK
 from .judge import words_of
 from .message import POLL, message_of
 
@@ -25,6 +26,9 @@ WORDS = {
     'limits': 'F without C, C without 255 entries, or an input above 63',
     'rest': 'no entries, and the block before said with C that more wait',
     'refusal': 'done, to a configuration that names an input above 63'}
+
+
+_OF_DAY = re.compile(r'\d{1,2}:\d\d:\d\d(?:[.,]\d{1,9})?')
 
 
 def add_place(parser):
@@ -50,6 +54,11 @@ class Judge:
 
     def __init__(self, at):
         self.at, self.checker, self.excused, self.polled = at, fio2070.Checker(), 0, None
+        self.is_behind_damage = False
+
+    def lose(self):
+        """A frame was damaged here: the CPU may have heard it, so up to the next poll nothing is said against the CPU."""
+        self.is_behind_damage = True
 
     def place(self, read, event):
         """Where this frame was logged: the CPU's end, the module's or the bus between."""
@@ -72,13 +81,14 @@ class Judge:
         hear = self.checker.sent if direction == '>' else self.checker.heard
         found = hear(event.octets)
         is_poll, before = len(event.octets) == 2 and event.octets[0] == POLL, self.polled
+        was_damaged = self.is_behind_damage
         if is_poll:
-            self.polled = event.octets[1]
+            self.polled, self.is_behind_damage = event.octets[1], False
         if found is None:
             return None
         rule = RULES[found.rule] if isinstance(found.rule, int) else str(found.rule)
-        if rule == 'advance' and place != 'cpu' and self.polled == before:
-            # Whether the CPU heard the answer is not known here: asking again may be right.
+        if place != 'cpu' and (was_damaged or rule == 'advance' and self.polled == before):
+            # Whether the CPU heard the answer is not known here: asking again, or for the next block, may be right.
             self.excused += 1
             return None
         return rule, self.words(rule, found, event), found
@@ -92,6 +102,37 @@ class Judge:
         return WORDS.get(rule, '')
 
 
+def is_lost(event):
+    """Whether a line has a frame that was damaged on its way here."""
+    return event.kind == REMARK and event.note.startswith('frame check')
+
+
+class Spans:
+    """How often each rule is broken, and from when to when."""
+
+    def __init__(self):
+        self.spans = {}
+
+    def add(self, rule, event):
+        """A breach of a rule."""
+        first, _, count = self.spans.get(rule, (event, event, 0))
+        self.spans[rule] = first, event, count + 1
+
+    def words(self):
+        """A line for each rule."""
+        for rule, (first, last, count) in self.spans.items():
+            yield '%s: %s' % (rule, 'once, ' + _place(first) if count == 1 else
+                              '%d times, first %s, last %s' % (count, _place(first), _place(last)))
+
+
+def _place(event):
+    """The line of a frame, and its time where it has one; a time of the day as the log writes it."""
+    if event.time is None:
+        return 'in line %d' % event.number
+    of_day = _OF_DAY.search(event.text) if event.time < DATED else None
+    return 'in line %d at %s' % (event.number, of_day[0] if of_day else clock(event.time))
+
+
 def due_of(found):
     """What was due and what came, where the library says it."""
     return {'due': found.due, 'got': found.got} if found.has_due else {}
@@ -103,8 +144,10 @@ def run(option):
         terminal.say('this libfio2070 has no checker; a later one has')
         return 3
     paint, read, counts = terminal.painter('auto'), log.Log(option, sys.stdout.flush, writes=option.json), Counts()
-    judge, name, is_open, breaches = Judge(option.at), None, not option.start_at_poll, 0
+    judge, name, is_open, breaches, spans = Judge(option.at), None, not option.start_at_poll, 0, Spans()
     for event in read.events():
+        if is_lost(event):
+            judge.lose()
         if event.kind not in (FRAME, DAMAGED):
             continue
         if name != read.name:
@@ -117,20 +160,23 @@ def run(option):
         if found:
             breaches += 1
             rule, words, breach = found
+            spans.add(rule, event)
             if option.json:
                 print(json.dumps({'file': name, 'line': event.number, 'rule': rule, **due_of(breach), 'says': words}))
             else:
                 print('line %d: %s: %s' % (event.number, paint('fault', rule), words))
     if not read.summary():
         return 1
+    for words in () if option.quiet else spans.words():
+        terminal.say(words)
     return end(option, read, counts, judge, breaches)
 
 
 def say_excused(judge):
     """Says how many polls are not judged."""
     if judge.excused:
-        terminal.say('%d polls repeat a block that was answered: where the CPU did not hear the answer they are right; '
-                     'this log was not taken at the CPU, so they are not judged' % judge.excused)
+        terminal.say('%d frames are not judged, since this log was not taken at the CPU: polls that repeat a block that was answered '
+                     'are right where the CPU did not hear it, and what comes behind a damaged frame where it did' % judge.excused)
 
 
 def end(option, read, counts, judge, breaches):

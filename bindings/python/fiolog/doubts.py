@@ -5,6 +5,7 @@ import re
 from collections import Counter
 
 from . import judge
+from .grammar import timed
 
 _LIST = re.compile(r'(?:(?:0x|\\x|[$%])?[0-9a-f]{1,2}(?:h\b)?(?![0-9a-z])[ \t,;:|<>-]*)+', re.IGNORECASE)
 _WORD = re.compile(r'(?:0x|\\x|[$%])?([0-9a-f]{1,2})(?![0-9a-f])', re.IGNORECASE)
@@ -55,7 +56,7 @@ class Doubts:
 
     def reason(self, number, text, same, octets, is_usual):
         """Why the frame that readings have is not taken; empty where nothing speaks against it."""
-        lengths = {reading.count for reading in same if reading.count is not None and self.counted[reading.shape]}
+        lengths = {reading.count for reading in timed(same) if reading.count is not None and self.counted[reading.shape]}
         if lengths and len(octets) not in lengths:
             return 'its count says %d, and %d octets are there' % (min(lengths), len(octets))
         declared = _LENGTH.search(text)
@@ -70,10 +71,12 @@ class Doubts:
         self.numbers += may_lose_digits(text, octets)
         return ''
 
-    def in_rows(self, octets, direction, is_uneven):
+    def in_rows(self, octets, direction, is_uneven, has_time):
         """Why a frame of one octet a row is not taken; empty where nothing speaks against it."""
         if direction and (direction == '<') != judge.is_answer(octets):
             return 'the type is one of the other direction: a row may be missing'
+        if not has_time and judge.is_loose(octets):
+            return 'the type has any length, and no time says where the frame ends'
         if is_uneven and not judge.is_sure(octets):
             return LOST_ROW
         self.loose += judge.is_loose(octets)

@@ -14,6 +14,7 @@ SOME = 32
 class Head(NamedTuple):
     """What is before the octets: the direction, and where the time and its seconds are."""
     direction: str
+    is_vague: bool
     time: Optional[Tuple[int, int]]
     second: Optional[Tuple[int, int]]
     parts: Tuple[Tuple[str, int, int], ...]

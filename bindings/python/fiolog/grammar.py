@@ -1,5 +1,6 @@
 """The ways to read a line of a log: pieces before the octets, then the octets."""
 
+import re
 from typing import List, NamedTuple, Optional, Tuple
 
 from . import times
@@ -16,6 +17,10 @@ MOST_STATES = 400
 COUNTS = ('count in brackets', 'count by name', 'count with unit', 'bare count')
 # A frame of 773 octets, as digits with much around each, and its column; longer lines are no log's.
 LONGEST_LINE = 16384
+
+
+# As `36 05 -> B3 00`: the arrow is no direction.
+_TWO_FRAMES = re.compile(r'(?:[0-9A-F]{2}[ ]){2,}(?:[-=]+>|\u2192|<[-=]+|/(?!/))', re.IGNORECASE)
 
 
 class Reading(NamedTuple):
@@ -36,6 +41,11 @@ class Reading(NamedTuple):
     def shape(self):
         """What lines of one form have in common."""
         return self.prefix, self.notation
+
+    @property
+    def is_vague(self):
+        """Whether the direction may be a name that is on all lines, as `fio: `, or the `->` of Arduino's monitor."""
+        return bool(ENDS.fullmatch(self.said)) or self.said == '->' and len(self.prefix) == 2
 
 
 class _Walk:
@@ -75,7 +85,10 @@ class _Walk:
         yield 'offset'
         if so_far.count is None:
             yield from COUNTS if so_far.direction else COUNTS[:3]
-        yield from ('label', 'logger', 'level', 'port', 'CAN', 'prompt', 'bracketed', 'priority', 'process', 'pair', 'sign')
+        yield from ('label', 'logger', 'level', 'port', 'CAN', 'prompt', 'bracketed', 'priority', 'process', 'pair', 'sign',
+                    'address', 'source', 'samples', 'record number')
+        if so_far.direction and 'title' not in so_far.prefix:
+            yield from ('other end', 'title')
         if so_far.time is not None and not so_far.direction:
             yield 'host'
         if not so_far.direction and words < MOST_WORDS:
@@ -99,6 +112,8 @@ class _Walk:
         if name in ('word', 'name'):
             word = piece[0].strip('.:,;| \t')
             return None if direction_of(word) and not ENDS.fullmatch(word) else step
+        if name == 'title':
+            return None if direction_in(piece[0]) else step
         if name == 'offset':
             return step._replace(offset=parts['offset'])
         if name in COUNTS:
@@ -127,7 +142,12 @@ def _head(text):
 
 def in_pieces(text) -> List[Reading]:
     """The readings by the pieces of the table."""
-    return _Walk(text).found if len(text) <= LONGEST_LINE else []
+    return _Walk(text).found if len(text) <= LONGEST_LINE and not _TWO_FRAMES.match(text) else []
+
+
+def timed(found):
+    """The readings with a time, where one has it: in the others the time may be a count, as in `(300)`."""
+    return [reading for reading in found if reading.time is not None] or found
 
 
 def in_marks(text) -> List[Reading]:
@@ -150,5 +170,5 @@ def head_of(reading):
     if reading.notation != 'hex' or reading.offset is not None or 'bare count' in reading.prefix:
         return None
     spans = {name: (start, end) for name, start, end in reading.spans}
-    return Head(reading.direction, spans.get('time'), spans.get('second') if 'minute' in spans else None,
+    return Head(reading.direction, reading.is_vague, spans.get('time'), spans.get('second') if 'minute' in spans else None,
                 reading.spans[1:], reading.count_at)

@@ -8,11 +8,13 @@ from .notations import HEX_LIST, from_digits, with_column
 # The longest frame with SDLC around it takes fewer octets, and an array of it fewer lines.
 MOST_OCTETS = 4096
 MOST_LINES = 1024
-WIDTHS = (8, 16, 24, 32)
+# Those of dumps; `xxd -p` has 30.
+WIDTHS = (8, 16, 24, 30, 32)
 _OPENED = re.compile(r'(?:=[^{}=;]*|\b(?:bytes|bytearray|frozenset|list)[ \t]*\(?)[{\[][^{}\[\]]*$')
 _CLOSED = re.compile(r'[}\]]')
 _ARRAY_LINE = re.compile(r'[ \t]*(?:(?:0x[0-9a-f]{1,2}|\d{1,3})(?:[ \t]*[,;][ \t]*|[ \t]+|$))*(?:/\*.*?\*/|//.*|#.*)?[ \t]*',
                          re.IGNORECASE)
+_DIGITS = re.compile('[0-9]')
 _COMMENT = re.compile(r'/\*.*?\*/|//.*$')
 
 
@@ -23,7 +25,12 @@ def opens_array(text):
 
 def goes_on(text):
     """Whether a line has octets of an array alone, or its end."""
-    return bool(_CLOSED.search(text)) or bool(_ARRAY_LINE.fullmatch(text))
+    return closes_array(text) or bool(_ARRAY_LINE.fullmatch(text))
+
+
+def closes_array(text):
+    """Whether a line has the end of an array, outside of its comments."""
+    return bool(_CLOSED.search(_COMMENT.sub(' ', text)))
 
 
 def offsets(text):
@@ -48,6 +55,19 @@ class Dump:
         return True
 
 
+def carried(octets):
+    """The data of a datagram of UDP in a packet of IPv4, behind no header, that of Ethernet or that of Linux; empty where it is
+    none, or its lengths do not fit."""
+    for start in (0, 14, 16):
+        packet = octets[start:]
+        if len(packet) < 28 or packet[0] != 0x45 or packet[9] != 17 or start and octets[start - 2:start] != b'\x08\x00':
+            continue
+        whole, datagram = (int.from_bytes(packet[place:place + 2], 'big') for place in (2, 24))
+        if 20 + datagram == whole <= len(packet):
+            return packet[28:whole]
+    return b''
+
+
 def chain(octets):
     """Messages that follow one another, where all octets are such; no message of any length is in it."""
     found = []
@@ -61,12 +81,51 @@ def chain(octets):
     return found
 
 
+_OBJECT = re.compile(r'[\[, \t]*\{')
+_KEY = re.compile(r'[ \t]*"[^"]*"[ \t]*:')
+_STRING = re.compile(r'"(?:[^"\\]|\\.)*"')
+
+
+def opens_object(text):
+    """Whether a line has the beginning of an object of JSON and nothing else."""
+    return bool(_OBJECT.fullmatch(text.rstrip()))
+
+
+class Object:
+    """An object of JSON on several lines."""
+
+    def __init__(self, text):
+        self.lines, self.depth, self.indent = [text], 1, len(text) - len(text.lstrip())
+
+    def takes(self, text):
+        """Adds a line that goes on; False where it does not."""
+        if len(self.lines) == 1 and not _KEY.match(text) or len(self.lines) > MOST_LINES:
+            return False
+        if opens_object(text) and len(text) - len(text.lstrip()) <= self.indent:
+            return False    # the next object begins, and this one has no end
+        self.lines.append(text)
+        plain = _STRING.sub('', text)
+        self.depth += plain.count('{') - plain.count('}')
+        return True
+
+    @property
+    def is_over(self):
+        """Whether its end is there."""
+        return self.depth <= 0
+
+    @property
+    def text(self):
+        """All of it on one line."""
+        return ' '.join(self.lines).strip()
+
+
 class Wrap:
     """Octets wrapped at a width: the first line lacks some, or is of any length."""
 
     def __init__(self, reading):
         self.first, self.octets, self.width = reading, reading.octets, len(reading.octets)
-        self.is_over = False
+        self.is_over = self.is_headless = False
+        self.is_twofold = False     # whether the last line may be a frame by itself
 
     def takes(self, octets):
         """Adds the octets of a line that has nothing else. False where they are too many."""
@@ -80,17 +139,23 @@ class Wrap:
 
 def is_open(octets, count, may_end):
     """Whether octets may go on, or, if they `may_end`, whether they may end here too."""
+    if judge.missing(octets):
+        return True
     if count:
         return len(octets) < count + may_end
-    if judge.spells(octets):
-        return may_end or not judge.is_sure(octets)
-    return judge.missing(octets) > 0
+    return judge.spells(octets) and (may_end or not judge.is_sure(octets))
 
 
 def is_wrapped(reading):
     """Whether the octets of a line end at a width, and may go on in the next one."""
     at_width = len(reading.octets) in WIDTHS or bool(reading.count) and len(reading.octets) >= WIDTHS[0]
     return at_width and is_open(reading.octets, reading.count, False)
+
+
+def behind_head(above, text, length):
+    """The octets behind the head of the line above, which a line repeats but for digits; None where it has another."""
+    is_same = length and _DIGITS.sub('0', text[:length]) == _DIGITS.sub('0', above[:length])
+    return bare(text[length:], True) if is_same else None
 
 
 def bare(text, has_column):

@@ -7,6 +7,7 @@ frame check."""
 import os
 import selectors
 import shlex
+import signal
 import socket
 import subprocess
 import sys
@@ -15,14 +16,14 @@ import time
 from . import check, sdlc, terminal
 from .counts import Counts
 from .decode import as_text
-from .events import DAMAGED, FRAME, PASSED, Line
+from .events import DAMAGED, FRAME, PASSED, REMARK, Line
 from .judge import is_answer, words_of
 from .message import message_of
 from .options import number_in
 from .pcapng import Writer
 from .reader import Reader
 from .rules import Rules
-from .source import LONGEST
+from .source import Ends
 
 CHUNK = 1 << 16
 LONGEST_DATAGRAM = 1 << 16
@@ -56,20 +57,18 @@ class Lines:
     """Lines of a log, as they come."""
 
     def __init__(self):
-        self.reader, self.left, self.number = Reader(), b'', 0
+        self.reader, self.ends, self.number = Reader(), Ends(), 0
 
     def feed(self, chunk):
         """The events of the lines that are whole now."""
-        lines = (self.left + chunk).split(b'\n')
-        self.left = lines.pop()[:LONGEST + 1]
-        for line in lines:
+        for line in self.ends.lines(chunk):
             self.number += 1
             for event in self.reader.feed(self.number, line.decode('utf-8', 'replace').rstrip('\r')):
                 yield event if event.time is not None else event._replace(time=time.time())
 
     def end(self):
         """The events of what is left."""
-        yield from self.feed(b'\n' if self.left else b'')
+        yield from self.feed(self.ends.end or b'\n' if self.ends.left else b'')
         yield from self.reader.end()
 
 
@@ -87,7 +86,8 @@ class Hdlc:
                 if frame and not was_lost:
                     yield from self._frame(frame)
             elif len(self.held) >= LONGEST_STUFFED:
-                self.wrong += not self.is_lost
+                if not self.is_lost:
+                    yield self._lost()
                 self.is_lost = True
             elif not self.is_lost:
                 self.held.append(octet)
@@ -96,11 +96,15 @@ class Hdlc:
         self.number += 1
         octets = sdlc.unstuffed(frame)
         if not sdlc.has_check(octets):
-            self.wrong += 1
+            yield self._lost()
             return
         message = sdlc.message(octets)
         if message:
             yield event_of(self.number, message)
+
+    def _lost(self):
+        self.wrong += 1
+        return Line(self.number, REMARK, '', note='frame check is wrong')
 
     def end(self):
         """Nothing: what has no flag behind it is no frame."""
@@ -149,6 +153,8 @@ class Station:
     def add(self, event):
         """A frame, good or damaged; other lines are passed over."""
         self.remark()
+        if check.is_lost(event) and self.rules:
+            self.rules.lose()
         if event.kind not in (FRAME, DAMAGED):
             if event.kind == PASSED and self.option.verbose:
                 self._say('line %d: %s: %s' % (event.number, event.note, event.text[:100]))
@@ -242,7 +248,8 @@ def opened(option):
         heard.bind((option.host, option.udp))
         return heard, lambda: heard.recv(LONGEST_DATAGRAM), Datagrams(), heard.close
     if option.fifo:
-        descriptor = os.open(option.fifo, os.O_RDONLY)
+        # Without a writer an open would wait, and not look at the time.
+        descriptor = os.open(option.fifo, os.O_RDONLY | os.O_NONBLOCK)
         return descriptor, lambda: os.read(descriptor, CHUNK), Lines(), lambda: os.close(descriptor)
     port = serial_port(option)
     if isinstance(port, int):
@@ -300,15 +307,29 @@ def chunks(file, read, is_ended):
                 continue
             try:
                 chunk = read()
-            except OSError:
-                return      # the other end of a terminal is gone
+            except BlockingIOError:
+                continue
+            except OSError as fault:
+                terminal.say('the line has ended: %s' % (fault.strerror or fault))
+                return
             if not chunk and not isinstance(file, socket.socket):
                 return
             yield chunk
 
 
+def end_at_signals():
+    """Lets what ends a process from outside be as Ctrl-C: the process of --exec is ended too, and the summary is written."""
+    def interrupt(number, frame):
+        raise KeyboardInterrupt
+    for name in ('SIGTERM', 'SIGHUP'):
+        number = getattr(signal, name, None)
+        if number and signal.getsignal(number) == signal.SIG_DFL:
+            signal.signal(number, interrupt)
+
+
 def run(option):
     """Hears the line until it ends."""
+    end_at_signals()
     try:
         file, read, source, end = opened(option)
     except ValueError as fault:

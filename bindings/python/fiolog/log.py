@@ -60,6 +60,8 @@ class Log:
     def _of_file(self, name):
         is_silent, feed, number = self.option.quiet or self.option.format != 'auto', self.reader.feed, 0
         descriptor = source.opened(name)
+        if not self.option.quiet and os.isatty(descriptor):
+            say('reading what is typed: a log is named behind the command')
         with Progress(descriptor, self.option.quiet, self.writes) as progress:
             for number, text in enumerate(source.lines_of(descriptor, progress.add, self.idle), 1):
                 for event in feed(number, text):

@@ -4,15 +4,23 @@ import re
 
 from .forms import CHECK_TAIL, DECIMAL, HEX, HEX_LIST, TAILS
 
+# Where dumps of 16 octets a row have a gap.
+HALF = 8
 _MARK = re.compile(r'0x|[^0-9a-f]+', re.IGNORECASE)
 _PAIRS = {'[': ']', '{': '}', '(': ')', '<': '>', '"': '"', "'": "'"}
 _SPLIT = re.compile(r'[ \t]{2,}|\t|[ \t]*\||[ \t]+(?=["\'<\[(:])')
 _QUOTED = re.compile(r'''(?P<prefix>\b(?:b|rb|br|u8))?(?P<quote>["'])(?P<text>(?:[^"'\\]|\\.|(?!(?P=quote))["'])*)(?P=quote)''')
-_LISTED = re.compile(r'\{(?P<braces>[^{}]*)\}|\[(?P<brackets>[^\[\]]*)\]|\((?P<rounds>[^()]*)\)')
+_LISTED = re.compile(r'\{(?P<braces>[^{}]*)\}|\[(?P<brackets>[^\[\]]*)\]|\((?P<rounds>[^()]*)\)|<<(?P<angles>[^<>]*)>>')
+_NUMBER = r'(?:\(\w+\)\s*)?(?:0x[0-9a-f]{1,2}[uU]?|-?\d{1,3})'
+_NUMBERS = re.compile(r'%s(?:[\s,;]+%s)*' % (_NUMBER, _NUMBER), re.IGNORECASE)
+# As Node.js writes a buffer.
+_BUFFER = re.compile(r'<Buffer ([0-9a-f ]+)>')
 # Octets of a list, each in quotes.
 _WORDS = re.compile(r'''(["'])(?:0x)?[0-9a-f]{1,2}\1(?:[ \t]*,[ \t]*\1(?:0x)?[0-9a-f]{1,2}\1)+''', re.IGNORECASE)
+# An octet in brackets of its own.
+_SINGLE = re.compile(r'[\[{(<](?:0x)?[0-9a-f?]{1,2}[\]})>]', re.IGNORECASE)
 _COMMENT = re.compile(r'/\*.*?\*/|//.*$')
-_ESCAPE = re.compile(r'\\(?:x([0-9a-fA-F]{1,2})|([0-7]{1,3})|(.))', re.DOTALL)
+_ESCAPE = re.compile(r'\\(?:x([0-9a-fA-F]{1,2})|([0-7]{1,3})|u00([0-9a-fA-F]{2})|(.))', re.DOTALL)
 _HALF_ESCAPE = re.compile(r'(?<!\\)(?:\\\\)*\\x(?![0-9a-fA-F]{2})')
 _ESCAPED = {'n': '\n', 'r': '\r', 't': '\t', 'a': '\a', 'b': '\b', 'f': '\f', 'v': '\v', 'e': '\x1b'}
 
@@ -30,15 +38,19 @@ def from_digits(text):
 
 
 def _from_numbers(text):
-    numbers = [int(one) for one in re.findall(r'\d+', text)]
-    return bytes(numbers) if numbers and max(numbers) < 256 else None
+    """The octets of numbers up to 255, or of signed ones; None where one is beyond, or lost its `0x`."""
+    words = re.findall(r'0x[0-9a-f]+|-?\b\d+', text.lower())
+    numbers = [int(word, 16 if word.startswith('0x') else 10) for word in words]
+    if not numbers or len({word.startswith('0x') for word in words}) > 1 or min(numbers) < -128 or max(numbers) > (127 if min(numbers) < 0 else 255):
+        return None
+    return bytes(number & 0xff for number in numbers)
 
 
-def _is_tail(text):
-    """Whether nothing but a remark, a count or an ending is left."""
+def _is_tail(text, count):
+    """Whether nothing but a remark, an ending or the count of the octets is left."""
     while text.strip():
         found = next((tail for tail in (pattern.match(text) for pattern in TAILS) if tail and tail.end()), None)
-        if not found:
+        if not found or int(found.groupdict().get('count') or count) != count:
             return False
         text = text[found.end():]
     return True
@@ -46,6 +58,8 @@ def _is_tail(text):
 
 def _shows(column, octets):
     """Whether a column of characters is that of the octets."""
+    if len(octets) > HALF and column[HALF:HALF + 1] == ' ' and len(column) > len(octets):
+        column = column[:HALF] + column[HALF + 1:]      # a gap between the halves of a row
     if not column or len(column) > len(octets):
         return False
     for shown, octet in zip(column.ljust(len(octets)), octets):
@@ -73,7 +87,7 @@ def _digits(text):
     """The list of octets that a text is but for its tail; nothing where it is none."""
     text = CHECK_TAIL.sub('', text)
     found = HEX_LIST.match(text)
-    return found[0] if found and _is_tail(text[found.end():]) else ''
+    return found[0] if found and _is_tail(text[found.end():], len(from_digits(found[0]))) else ''
 
 
 def _inside(text):
@@ -112,13 +126,14 @@ def readings(text):
 
 def from_literal(text):
     """The octets of a string literal of C, Python or a shell; None where a character is above 255 or lost a digit."""
-    if is_uneven([escape[1] for escape in _ESCAPE.finditer(text) if escape[1]]):
+    escapes = list(_ESCAPE.finditer(text))
+    if is_uneven([escape[1] for escape in escapes if escape[1]]) or any(escape[4] == 'u' for escape in escapes):
         return None
 
     def character(escape):
-        if escape[1]:
-            return chr(int(escape[1], 16))
-        return chr(int(escape[2], 8) & 0xff) if escape[2] else _ESCAPED.get(escape[3], escape[3])
+        if escape[1] or escape[3]:
+            return chr(int(escape[1] or escape[3], 16))
+        return chr(int(escape[2], 8) & 0xff) if escape[2] else _ESCAPED.get(escape[4], escape[4])
     try:
         return _ESCAPE.sub(character, text).encode('latin-1')
     except UnicodeEncodeError:
@@ -130,6 +145,11 @@ def _is_of_list(text, start, end):
     before, after = text[:start].rstrip(), text[end:].lstrip()
     has_comma = before.endswith(',') or after.startswith(',')
     return has_comma and bool(re.search(r'[\[({]', before) or re.search(r'[\])}]', after))
+
+
+def _has_lost_mark(text):
+    """Whether some words of a list have `0x` before them, and others have not."""
+    return len({word.startswith('0x') for word in re.split(r'[ \t,;]+', text.lower())}) > 1
 
 
 def delimited(text):
@@ -146,16 +166,20 @@ def delimited(text):
         literal = from_literal(quoted['text']) if quoted['prefix'] or '\\' in quoted['text'] else None
         if literal:
             yield quoted.start(), literal
+    for buffer in _BUFFER.finditer(text):
+        yield buffer.start(), from_digits(buffer[1].strip())
+    singles = len(_SINGLE.findall(text))
     for listed in _LISTED.finditer(text):
         if listed['brackets'] is not None and re.search(r'\w[ \t]*$', text[:listed.start()]):
             continue    # the length of an array
+        if singles > 1 and _SINGLE.fullmatch(listed[0]):
+            continue    # each octet is in brackets
         inner = _COMMENT.sub(' ', next(group for group in listed.groups() if group is not None)).strip(' \t,;')
-        found = re.fullmatch(r'(?:\(\w+\)\s*)?(?:0x[0-9a-f]{1,2}[uU]?|\d{1,3})(?:[\s,;]+(?:\(\w+\)\s*)?(?:0x[0-9a-f]{1,2}[uU]?|\d{1,3}))*',
-                             inner, re.IGNORECASE)
-        if found:
-            words = re.findall(r'0x[0-9a-f]+|\b\d+', re.sub(r'\(\w+\)', '', inner), re.IGNORECASE)
-            numbers = [int(word, 16) if word[:2] in ('0x', '0X') else int(word) for word in words]
-            if max(numbers) < 256:
-                yield listed.start(), bytes(numbers)
-        if HEX_LIST.fullmatch(inner) and from_digits(inner):
+        is_word = inner.isdecimal()     # as `(3605)`: milliseconds, a process
+        if is_word and (listed['rounds'] is not None or text[listed.end():].strip(' \t\r])};,')):
+            continue
+        numbers = _from_numbers(re.sub(r'\(\w+\)', '', inner)) if _NUMBERS.fullmatch(inner) else None
+        if numbers:
+            yield listed.start(), numbers
+        if not is_word and HEX_LIST.fullmatch(inner) and from_digits(inner) and not _has_lost_mark(inner):
             yield listed.start(), from_digits(inner)

@@ -8,11 +8,12 @@ import re
 from collections import Counter
 
 from . import joins, judge, rows
+from .clean import cleaned
 from .doubts import Doubts
 from .events import DAMAGED, FRAME, PART, PASSED, REMARK, Line
 from .fast import Quick
 from .fitting import AUTO, ORDERED, PLAIN, Framing
-from .grammar import BLANKS, Reading, head_of, heading, in_marks, in_pieces
+from .grammar import BLANKS, Reading, head_of, heading, in_marks, in_pieces, timed
 
 MOST_WAITING = 256
 # So many lines above the first frame may be a heading.
@@ -37,7 +38,7 @@ class _Waiting:
 
     def __init__(self, number, text, fits=(), join=None, time=None):
         self.lines, self.fits, self.join, self.time = [(number, text)], list(fits), join, time
-        self.events, self.is_uneven = None, False
+        self.events, self.is_uneven, self.found = None, False, ()
 
 
 class Reader:
@@ -49,17 +50,19 @@ class Reader:
         self.form, self.pattern = form, re.compile(pattern) if pattern else None
         self.framing = Framing(sdlc)
         self.shapes = Counter(OWN if form in _OWN_LINE else ())
-        self.has_dumps = False
+        self.has_dumps = self.has_whole = False     # whether lines have offsets; whether one has more than one octet
         self.quick, self.queue, self.noise, self.doubts = Quick(), [], {}, Doubts()
         self.table = self.pauses = self.above = None
         self.kinds, self.reasons = Counter(), Counter()
         self.agreeing = self.reversed = 0
+        self.sides = set()      # the directions that were there
         self.taken = ''         # what is said of the form, once it is known
 
     # ---- the order of events ----
 
     def feed(self, number, text):
         """The events that are certain once this line is read."""
+        text = cleaned(text) if len(text) <= LONGEST_ROW else text
         if not self.queue:
             event = self._quickly(number, text.strip())
             if event:
@@ -102,15 +105,21 @@ class Reader:
         self.kinds[FRAME] += 1
         self.doubts.loose += judge.is_loose(octets)
         self.doubts.heads += bool(head.direction or head.time)
-        return Line(number, FRAME, text, octets, time, self._noted(head.direction, octets))
+        return Line(number, FRAME, text, octets, time, self._noted(head, octets))
 
-    def _noted(self, direction, octets):
-        """Counts whether the direction is that of the type."""
-        if direction:
-            if (direction == '<') == judge.is_answer(octets):
-                self.agreeing += 1
-            else:
-                self.reversed += 1
+    def _noted(self, said, octets):
+        """The direction, counted by whether it is that of the type. A vague one that is not, in a log that has no other
+        one, is none."""
+        direction = said.direction
+        if not direction:
+            return ''
+        self.sides.add(direction)
+        if (direction == '<') == judge.is_answer(octets):
+            self.agreeing += 1
+        elif said.is_vague and len(self.sides) == 1:
+            return ''
+        else:
+            self.reversed += 1
         return direction
 
     # ---- one line ----
@@ -153,6 +162,8 @@ class Reader:
     def _foreign_line(self, number, text, stripped):
         if self.pattern:
             return self._decide(number, stripped, self._by_pattern(stripped))
+        if self.form in ('auto', 'json') and joins.opens_object(stripped):
+            return self.queue.append(_Waiting(number, stripped, join=joins.Object(text)))
         if self._is_row(number, stripped):
             return None
         noise = _DIGITS.sub('0', stripped)
@@ -160,7 +171,7 @@ class Reader:
             self.above = heading(stripped) or self.above
             return self.queue.append(Line(number, PASSED, stripped, note=self.noise[noise]))
         found = in_pieces(stripped)
-        if self._is_joined(number, text, found):
+        if self._is_octet(number, stripped, found) or self._is_joined(number, text, found):
             return None
         if not found and joins.opens_array(stripped):
             return self.queue.append(_Waiting(number, stripped, join='array', time=self._time_above()))
@@ -231,10 +242,11 @@ class Reader:
             return Line(number, PASSED, text, note=reason)
         self._know(same, best)
         head = head_of(reading) if best.message == reading.octets and self.framing.mode in (AUTO, PLAIN) else None
-        if head and waiting.join is None and not self.pattern and self.form in ('auto', 'log'):
+        self.has_whole |= len(best.message) > 1 and waiting.join is None
+        if head and self.has_whole and waiting.join is None and not self.pattern and self.form in ('auto', 'log'):
             self.quick.learn(text, reading.start, head)
         time = reading.time if reading.time is not None else waiting.time
-        return Line(number, FRAME, text, best.message, time, self._noted(reading.direction, best.message))
+        return Line(number, FRAME, text, best.message, time, self._noted(reading, best.message))
 
     def _doubt(self, waiting, same):
         """What speaks against the frame of these readings."""
@@ -242,8 +254,10 @@ class Reader:
             return ''
         self._note_quick()
         readings = [fit.reading for fit in same]
+        if isinstance(waiting.join, joins.Object):
+            return ''
         if isinstance(waiting.join, bytearray):
-            return self.doubts.in_rows(same[0].message, waiting.direction, waiting.is_uneven)
+            return self.doubts.in_rows(same[0].message, waiting.direction, waiting.is_uneven, waiting.time is not None)
         text = ' '.join(line for _, line in waiting.lines)
         return self.doubts.reason(waiting.lines[0][0], text, readings, readings[0].octets,
                                   any(self._is_usual(reading.shape) for reading in readings))
@@ -322,7 +336,11 @@ class Reader:
 
     def _is_row(self, number, text):
         if text.startswith(('{', '[{')) and self.form in ('auto', 'json'):
-            found = rows.in_object(text)
+            for one in rows.objects_in(text):
+                self._decide(number, text, rows.in_object(one))
+            if text.endswith(('}]', '}],')) and rows.objects_in(text):
+                return True
+            found = rows.in_text(text)
             if found is not None:
                 self._decide(number, text, found)
                 return True
@@ -340,22 +358,35 @@ class Reader:
             self.queue.append(Line(number, PASSED, text, note='a flag, a header or a check of SDLC'))
             return True
         found = list(self.table.readings(text))
-        if found and all(len(reading.octets) == 1 for reading in found):
-            self._octet(number, text, found[0])
+        if found and not self.has_whole and all(len(reading.octets) == 1 for reading in found):
+            self._octet(number, text, found[0], self.table.channel(text))
+            self._open_join().found = found
         else:
             self._decide(number, text, found)
         return True
 
-    def _octet(self, number, text, reading):
+    def _is_octet(self, number, text, found):
+        """Whether a line has one octet and more may follow below: a row without a table around."""
+        best = max(found, key=lambda reading: (bool(reading.direction), reading.time is not None), default=None)
+        if not best or not best.direction or any(len(reading.octets) != 1 for reading in found):
+            return False
+        is_whole = judge.spells(best.octets) and not judge.is_loose(best.octets)
+        if not self.doubts.has_rows and (is_whole or self.has_whole):
+            return False
+        self._octet(number, text, best, (best.prefix, best.direction))
+        self._open_join().found = found
+        return True
+
+    def _octet(self, number, text, reading, channel):
         """A row of one octet: frames end at pauses, and where the channel changes."""
         if self.pauses is None:
             self.pauses = rows.Pauses()
         is_pause = self.pauses.is_one(reading.time)
-        channel = self.table.channel(text)
         last = self._open_join()
-        self.doubts.has_rows = True
+        if not isinstance(last and last.join, bytearray):
+            last = None
         if last and (is_pause or last.channel != channel or len(last.join) > joins.MOST_OCTETS
-                     or reading.time is None and judge.spells(bytes(last.join))):
+                     or reading.time is None and not reading.direction and judge.spells(bytes(last.join))):
             self._close(last)
             last = None
         if not last:
@@ -364,6 +395,7 @@ class Reader:
             self.queue.append(last)
         last.lines.append((number, text))
         last.join += reading.octets
+        self.doubts.has_rows |= len(last.join) > 1
         last.is_uneven |= self.pauses.is_long and len(last.join) > 1
 
     # ---- frames on several lines ----
@@ -384,7 +416,7 @@ class Reader:
             if waiting.join.is_over:
                 self._close(waiting)
             return True
-        for reading in found:
+        for reading in timed(found):
             if self._may_wrap(reading) and joins.is_wrapped(reading):
                 self.queue.append(_Waiting(number, text, join=joins.Wrap(reading), time=self._time_above()))
                 return True
@@ -404,8 +436,12 @@ class Reader:
         """Whether a line belongs to the frame that is open, and is put to it."""
         join = waiting.join
         if isinstance(join, bytearray):
-            return bool(self.table and text.strip() and self._is_row(number, text.strip()))
-        if isinstance(join, joins.Dump):
+            if self.table:
+                return bool(text.strip() and self._is_row(number, text.strip()))
+            return self._is_octet(number, text.strip(), in_pieces(text.strip()))
+        if isinstance(join, joins.Object):
+            is_taken = join.takes(text)
+        elif isinstance(join, joins.Dump):
             found = [reading for reading in in_pieces(text.strip()) if reading.offset is not None]
             found.sort(key=lambda reading: reading.notation != 'column')
             is_taken = any(join.takes(reading) for reading in found)
@@ -416,40 +452,50 @@ class Reader:
         if not is_taken:
             return False
         waiting.lines.append((number, text.strip()))
-        if (joins._CLOSED.search(text) if join == 'array' else join.is_over):
+        if (joins.closes_array(text) if join == 'array' else join.is_over):
             self._close(waiting)
         return True
 
     def _wraps(self, waiting, text):
-        """Whether a line has the rest of wrapped octets and nothing else."""
-        octets = joins.bare(text, waiting.join.first.notation == 'column')
+        """Whether a line has the rest of wrapped octets and nothing else, or nothing but the head of the line above."""
+        join = waiting.join
+        octets = joins.bare(text, join.first.notation == 'column')
+        is_repeated = octets is None and not join.is_headless
+        if is_repeated:
+            octets = joins.behind_head(waiting.lines[0][1], text.strip(), join.first.start)
         if octets is None:
             return False
-        is_marked = text[:1] in BLANKS or bool(waiting.join.first.prefix)
-        if not is_marked and judge.spells(octets):
-            return False
-        return waiting.join.takes(octets)
+        is_indented = text[:1] in BLANKS and not is_repeated
+        if not is_indented and judge.spells(octets):
+            if judge.missing(join.octets) != len(octets) or join.first.prefix and not is_repeated and not judge.is_sure(octets):
+                return False
+            join.is_twofold = is_repeated or not join.first.prefix
+        is_taken = join.takes(octets)
+        join.is_headless |= is_taken and not is_repeated
+        return is_taken
 
     def _close(self, waiting, at_end=False):
         """Ends a frame of several lines, or a wait."""
-        join = waiting.join
-        if join is None:
-            waiting.events = [self._passed(waiting, at_end)]
-            return
-        if join == 'array':
-            waiting.fits = [self.framing.fit(reading) for reading in
-                            in_marks(' '.join(line for _, line in waiting.lines))]
-        elif isinstance(join, bytearray):
-            waiting.fits = [self.framing.fit(Reading(('row',), 'octet a row', bytes(join), waiting.time,
-                                                     waiting.direction))]
+        if isinstance(waiting.join, bytearray) and not self.doubts.has_rows:
+            waiting.join = None     # one such line is a line like others
+            waiting.fits = [self.framing.fit(reading) for reading in waiting.found]
+            event = self._event(waiting)
+            waiting.events = [event] if event else None
+        if waiting.join is None:
+            waiting.events = waiting.events or [self._passed(waiting, at_end)]
+        elif isinstance(waiting.join, joins.Wrap) and waiting.join.is_twofold:
+            waiting.events = [Line(number, PASSED, text, note='it may be one frame with the line below or above, or one by itself')
+                              for number, text in waiting.lines]
         else:
-            reading = join.first._replace(octets=join.octets)
-            waiting.fits = [self.framing.fit(reading)]
-            if isinstance(join, joins.Dump) and not waiting.fits[0].message:
-                frames = joins.chain(join.octets)
-                if len(frames) > 1:
-                    waiting.events = self._chain(waiting, frames)
-                    return
+            waiting.events = self._joined(waiting)
+
+    def _joined(self, waiting):
+        """The events of the lines of one frame, or of several that follow one another."""
+        readings = self._readings_of(waiting)
+        waiting.fits = [self.framing.fit(reading) for reading in readings]
+        frames = self._frames_in(waiting, readings)
+        if frames:
+            return self._chain(waiting, frames, readings[0])
         event = self._event(waiting) if waiting.fits else None
         if event is None:
             # A dump or an array has its own marks: a short message needs no others.
@@ -462,12 +508,34 @@ class Reader:
         further = [Line(number, PART, text) for number, text in waiting.lines[1:]]
         if event.kind == PASSED:
             further = [one._replace(kind=PASSED, note=event.note) for one in further]
-        waiting.events = [event] + further
+        return [event] + further
 
-    def _chain(self, waiting, frames):
+    @staticmethod
+    def _readings_of(waiting):
+        """The ways to read the lines of one frame."""
+        join = waiting.join
+        if isinstance(join, joins.Object):
+            return rows.in_text(join.text) or []
+        if join == 'array':
+            return in_marks(' '.join(line for _, line in waiting.lines))
+        if isinstance(join, bytearray):
+            return [Reading(('row',), 'octet a row', bytes(join), waiting.time, waiting.direction)]
+        inside = joins.carried(join.octets) if isinstance(join, joins.Dump) else b''
+        return [join.first._replace(octets=inside or join.octets)]
+
+    @staticmethod
+    def _frames_in(waiting, readings):
+        """The frames that follow one another in a dump, or in octets of one direction; none where it is one frame."""
+        is_row = isinstance(waiting.join, bytearray) and waiting.time is None
+        if not is_row and not isinstance(waiting.join, joins.Dump) or waiting.fits[0].message:
+            return []
+        frames = joins.chain(readings[0].octets)
+        is_right = not is_row or all((waiting.direction == '<') == judge.is_answer(frame) for frame in frames)
+        return frames if len(frames) > 1 and is_right else []
+
+    def _chain(self, waiting, frames, reading):
         number, text = waiting.lines[0]
-        reading = waiting.join.first
         time = reading.time if reading.time is not None else waiting.time
-        self.taken = self.taken or 'dump of frames that follow one another'
+        self.taken = self.taken or 'frames that follow one another'
         return ([Line(number, FRAME, text, frame, time, reading.direction) for frame in frames]
                 + [Line(place, PART, line) for place, line in waiting.lines[1:]])

@@ -10,7 +10,7 @@ from typing import NamedTuple
 import fio2070
 
 from . import log, plot, terminal
-from .check import add_place
+from .check import add_place, is_lost
 from .decode import clock
 from .events import DAMAGED, FRAME, Line
 from .message import BLOCK, LOST, POLL, message_of
@@ -67,6 +67,8 @@ def frames_judged(read, option):
     """Each frame with its breach, file after file; with --start-at-poll from the first poll on."""
     rules, name, is_open = Rules(option.at, not option.start_at_poll), None, not option.start_at_poll
     for event in read.events():
+        if is_lost(event):
+            rules.lose()
         if event.kind not in (FRAME, DAMAGED):
             continue
         if name != read.name:

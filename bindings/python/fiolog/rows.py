@@ -6,7 +6,7 @@ import re
 
 from . import times
 from .forms import COLUMNS, MATCHERS, TIMES, direction_of
-from .grammar import Reading
+from .grammar import Reading, in_pieces
 from .notations import delimited, readings
 
 DELIMITERS = '\t;,|'
@@ -123,14 +123,17 @@ def _flat(value, name=''):
             yield key, one
 
 
-def in_object(text):
-    """The ways to read a line that is an object of JSON; None where it is none."""
+def in_text(text):
+    """The ways to read a text that is an object of JSON; None where it is none."""
     try:
-        value = json.loads(text.rstrip(',').lstrip('['))
-    except ValueError:
+        value = json.loads(text.rstrip(',').lstrip('[, '))
+    except (ValueError, RecursionError):
         return None
-    if not isinstance(value, dict):
-        return None
+    return in_object(value) if isinstance(value, dict) else None
+
+
+def in_object(value):
+    """The ways to read an object of JSON."""
     time, direction, found = None, '', []
     for key, one in _flat(value):
         name = re.sub(r'([a-z])([A-Z])', r'\1_\2', str(key)).lstrip('@_')
@@ -144,7 +147,18 @@ def in_object(text):
         if COLUMNS['octets'].match(str(key)) or direction_of(str(key)):
             side = direction or direction_of(str(key))
             found += [Reading(('key ' + str(key),), 'cell', octets, time, side) for octets in octets_of(one)]
+            found += [reading._replace(prefix=('key ' + str(key), *reading.prefix), time=time or reading.time)
+                      for reading in (in_pieces(one.strip()) if isinstance(one, str) else ()) if reading.direction]
     return found
+
+
+def objects_in(text):
+    """The objects of a list of JSON on one line; none where it is no such list."""
+    try:
+        value = json.loads(text) if text.startswith('[') else None
+    except (ValueError, RecursionError):
+        return []
+    return [one for one in value if isinstance(one, dict)] if isinstance(value, list) else []
 
 
 class Pauses:

@@ -44,6 +44,11 @@ class Rules:
         self.judge, self.load = Judge(at), None
         self.content = fio2070.ContentChecker() if begins else None
 
+    def lose(self):
+        """A frame was damaged here: the rules on content begin again at the next poll."""
+        self.judge.lose()
+        self.content = None
+
     def breach(self, read, event):
         """The breach of a frame; None where it keeps all rules."""
         is_poll = len(event.octets) == 2 and event.octets[0] == POLL

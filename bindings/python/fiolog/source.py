@@ -12,7 +12,27 @@ CHUNK = 1 << 16
 GZIP = b'\x1f\x8b\x08'
 # Of a line that is longer the first octets are kept, and it is no frame: memory stays bounded.
 LONGEST = 1 << 17
+# How files of pcap and pcapng begin.
+_CAPTURES = (b'\xd4\xc3\xb2\xa1', b'\xa1\xb2\xc3\xd4', b'\x4d\x3c\xb2\xa1', b'\xa1\xb2\x3c\x4d', b'\n\r\r\n')
 _MARKS = ((codecs.BOM_UTF8, 'utf-8'), (codecs.BOM_UTF16_LE, 'utf-16-le'), (codecs.BOM_UTF16_BE, 'utf-16-be'))
+
+
+class Ends:
+    """Takes octets apart at the ends of lines: line feeds or, where there are none, carriage returns."""
+
+    def __init__(self):
+        self.left, self.end = b'', b''
+
+    def lines(self, chunk):
+        """The lines that are whole now; `left` is what comes behind them."""
+        text = self.left + chunk if self.left else chunk
+        if not self.end and b'\n' in text:
+            self.end = b'\n'
+        elif not self.end and text.count(b'\r') > 1:
+            self.end = b'\r'
+        *lines, left = text.split(self.end or b'\n')
+        self.left = left[:LONGEST + 1]
+        return lines
 
 
 def _text(octets):
@@ -26,6 +46,8 @@ def _decoded(chunks):
     if first.startswith(GZIP):
         chunks = _unpacked(first, chunks)
         first = next(chunks, b'')
+    if first.startswith(_CAPTURES):
+        say('this is a capture file: tshark reads it by tools/wireshark/fio2070.lua, as docs/CAPTURES.md says')
     for mark, name in _MARKS:
         if first.startswith(mark):
             decoder = codecs.getincrementaldecoder(name)('replace')
@@ -67,16 +89,12 @@ def _chunks(descriptor, seen, idle):
 def lines_of(descriptor, seen=lambda count: None, idle=lambda: None):
     """The lines of a file descriptor, without their ends, each as soon as it is there. `seen` is called with the
     number of octets that were read, `idle` before each read."""
-    left = b''
+    ends = Ends()
     for chunk in _decoded(_chunks(descriptor, seen, idle)):
-        lines = (left + chunk if left else chunk).split(b'\n')
-        left = lines.pop()
-        for line in lines:
+        for line in ends.lines(chunk):
             yield _text(line)
-        if len(left) > LONGEST:
-            left = left[:LONGEST + 1]
-    if left:
-        yield _text(left)
+    if ends.left:
+        yield _text(ends.left)
 
 
 def opened(name):

@@ -42,6 +42,8 @@ def seconds(parts):
             text = parts['epoch'].replace(',', '.')
             whole = text.partition('.')[0]
             return float(text) / 10 ** (len(whole) - EPOCH_DIGITS)
+        if parts.get('tick'):
+            return int(parts['tick']) / 1000
         if parts.get('number'):
             return float(parts['number'].replace(',', '.')) / UNITS.get((parts.get('unit') or 's').lower(), 1)
         return (_start(parts.get('year'), parts.get('month') or parts.get('name') or '', parts.get('day'),

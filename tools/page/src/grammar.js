@@ -7,7 +7,8 @@ import { secondsOf, timeIn } from './times.js';
 // A line has few pieces, and 773 octets with signs between; what goes on for longer is no log's.
 const MOST_PIECES = 12, MOST_WORDS = 5, LONGEST_LINE = 8192, MOST_STATES = 400;
 const COUNTS = ['count in brackets', 'count by name', 'count with unit', 'bare count'];
-const ANYWHERE = ['label', 'logger', 'level', 'port', 'CAN', 'prompt', 'bracketed', 'priority', 'process', 'pair', 'sign'];
+const ANYWHERE = ['label', 'logger', 'level', 'port', 'CAN', 'prompt', 'bracketed', 'priority', 'process', 'pair', 'sign', 'address', 'source', 'samples',
+  'record number'];
 const START = { prefix: [], time: null, clock: '', direction: '', said: '', count: null, offset: null, head: null };
 
 // The pieces that may come next.

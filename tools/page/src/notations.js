@@ -7,7 +7,9 @@ const MARK = /0x|[^0-9a-f]+/i;
 const PAIRS = { '[': ']', '{': '}', '(': ')', '<': '>', '"': '"', "'": "'" };
 const SPLIT = /[ \t]{2,}|\t|[ \t]*\||[ \t]+(?=["'<[(:])/g;
 const QUOTED = /(\b(?:b|rb|br|u8))?(["'])((?:[^"'\\]|\\.|(?!\2)["'])*)\2/g;
-const LISTED = /\{([^{}]*)\}|\[([^[\]]*)\]|\(([^()]*)\)/g;
+const LISTED = /\{([^{}]*)\}|\[([^[\]]*)\]|\(([^()]*)\)|<<([^<>]*)>>/g;
+// An octet in brackets of its own.
+const SINGLE = /[[{(<](?:0x)?[0-9a-f?]{1,2}[\]})>]/gi;
 // Octets of a list, each in quotes.
 const WORDS = /(["'])(?:0x)?[0-9a-f]{1,2}\1(?:[ \t]*,[ \t]*\1(?:0x)?[0-9a-f]{1,2}\1)+/gi;
 const COMMENT = /\/\*.*?\*\/|\/\/.*$/g;
@@ -15,7 +17,7 @@ const ESCAPE = /\\(?:x([0-9a-fA-F]{1,2})|([0-7]{1,3})|([^]))/g;
 // Python writes two digits behind each \x.
 const HALF_ESCAPE = /(?:^|[^\\])(?:\\\\)*\\x(?![0-9a-fA-F]{2})/;
 const ESCAPED = { n: '\n', r: '\r', t: '\t', a: '\x07', b: '\b', f: '\f', v: '\v', e: '\x1b' };
-const NUMBERS = /^(?:\(\w+\)\s*)?(?:0x[0-9a-f]{1,2}u?|\d{1,3})(?:[\s,;]+(?:\(\w+\)\s*)?(?:0x[0-9a-f]{1,2}u?|\d{1,3}))*$/i;
+const NUMBERS = /^(?:\(\w+\)\s*)?(?:0x[0-9a-f]{1,2}u?|-?\d{1,3})(?:[\s,;]+(?:\(\w+\)\s*)?(?:0x[0-9a-f]{1,2}u?|-?\d{1,3}))*$/i;
 
 // How many places of a line are tried, at most, for a column of characters and for quotes and brackets.
 const MOST_TRIED = 40;
@@ -40,6 +42,16 @@ export function fromDigits(text) {
 }
 
 const fromNumbers = (numbers) => numbers.length > 0 && numbers.every((it) => it < 256) ? Uint8Array.from(numbers) : null;
+
+// Whether some words of a list have `0x` before them, and others have not.
+const hasLostMark = (words) => new Set(words.map((word) => /^0x/i.test(word))).size > 1;
+
+// The octets of numbers up to 255, or of signed ones; null where one is beyond, or lost its `0x`.
+function fromWords(text) {
+  const words = text.match(/0x[0-9a-f]+|-?\b\d+/gi) || [], numbers = words.map(Number), least = Math.min(...numbers);
+  if (hasLostMark(words) || least < -128 || least < 0 && Math.max(...numbers) > 127) return null;
+  return fromNumbers(least < 0 ? numbers.map((it) => it & 255) : numbers);
+}
 
 // Whether nothing but a remark, a count or an ending is left behind a place.
 function isTail(patterns, text, place) {
@@ -103,7 +115,7 @@ export function readings(patterns, text) {
   if (octets.length > 0) found.push([digits ? 'hex' : 'digits', octets]);
   if (column) found.push(['column', column]);
   if (patterns.decimal.test(text) || patterns.decimal.test(inner)) {
-    const numbers = fromNumbers(inner.match(/\d+/g).map(Number));
+    const numbers = fromWords(inner);
     if (numbers) found.push(['decimal', numbers]);
   }
   return found;
@@ -137,12 +149,18 @@ export function delimited(patterns, line) {
     }
     if (!prefix || !HALF_ESCAPE.test(quoted)) add(index, fromLiteral(quoted));
   }
-  for (const { index, 1: braces, 2: brackets, 3: rounds } of firstMatches(text, LISTED)) {
+  const singles = (text.match(SINGLE) || []).length;
+  for (const { index, 0: whole, 1: braces, 2: brackets, 3: rounds, 4: angles } of firstMatches(text, LISTED)) {
     // Brackets behind a name have the length of an array.
     if (brackets !== undefined && /\w[ \t]*$/.test(text.slice(0, index))) continue;
-    const inner = (braces ?? brackets ?? rounds).replace(COMMENT, ' ').replace(/^[\s,;]+|[\s,;]+$/g, '');
-    if (NUMBERS.test(inner)) add(index, fromNumbers((inner.replace(/\(\w+\)/g, '').match(/0x[0-9a-f]+|\b\d+/gi) || []).map(Number)));
-    if (patterns.wholeList.test(inner)) add(index, fromDigits(inner));
+    // Each octet is in brackets.
+    if (singles > 1 && whole.length === (whole.match(SINGLE) || [''])[0].length) continue;
+    const inner = (braces ?? brackets ?? rounds ?? angles).replace(COMMENT, ' ').replace(/^[\s,;]+|[\s,;]+$/g, '');
+    // A number as `(3605)`: milliseconds, a process.
+    const isWord = /^\d+$/.test(inner);
+    if (isWord && (rounds !== undefined || /[^\s\])};,]/.test(text.slice(index + whole.length)))) continue;
+    if (NUMBERS.test(inner)) add(index, fromWords(inner.replace(/\(\w+\)/g, '')));
+    if (!isWord && patterns.wholeList.test(inner) && !hasLostMark(inner.split(/[ \t,;]+/))) add(index, fromDigits(inner));
   }
   return found;
 }

@@ -26,12 +26,15 @@ export function textOf(octets) {
   return new TextDecoder(name).decode(octets);
 }
 
+// What terminals and editors put into a line, and no logger means.
+const UNSEEN = /\x1b\[[0-?]*[ -/]*[@-~]|[\0\u200b-\u200f\u2060\ufeff]/g, BLANKS = /[\u00a0\u2000-\u200a\u202f\u205f\u3000]/g;
+
 // A line that is empty or a remark.
 const isSkipped = (line) => line === '' || /^(?:#|;|\/\/)/.test(line);
 
 // Reads a text: the form that it has, and its messages.
 export function readLog(text, patterns, judge) {
-  const lines = text.replace(/^\ufeff/, '').split('\n');
+  const lines = text.replace(UNSEEN, '').replace(BLANKS, ' ').split(text.includes('\n') ? '\n' : '\r');
   if (lines[lines.length - 1] === '') lines.pop();
   const list = new MessageList(lines.length, text.length);
   const own = ownForm(lines);

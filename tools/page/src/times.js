@@ -35,6 +35,7 @@ export function secondsOf(parts) {
     const text = parts.epoch.replace(',', '.');
     return Number(text) / 10 ** (text.split('.')[0].length - EPOCH_DIGITS);
   }
+  if (parts.tick) return Number(parts.tick) / 1000;
   if (parts.number) return numberOf(parts.number) / (UNITS[(parts.unit || 's').toLowerCase()] || 1);
   return dayOf(parts) + hoursOf(parts) * 3600 + Number(parts.minute || 0) * 60 + numberOf(parts.second);
 }
