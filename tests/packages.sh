@@ -234,7 +234,7 @@ else
     first 'make deb' twice deb
     holds 'two packages are one' same deb
     holds 'it depends on the C library alone' matches 'libc6 \(>= 2\.[0-9]+\)' "$(field Depends)"
-    holds 'it says what processor it needs' matches '.* SSE4\.1.*' "$(field Description | tr '\n' ' ')"
+    holds 'it says what processor it needs' matches '.* SSE4\.2.*' "$(field Description | tr '\n' ' ')"
     first 'the packages are unpacked' unpacks deb.1/*.deb
     documents=$room/root/usr/share/doc/fio2070
     holds 'the program of the package' shows "$room/root/usr/bin/fio2070"

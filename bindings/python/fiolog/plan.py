@@ -57,10 +57,10 @@ def row(option):
     per_block, waiting = LIMITS[option.limits]
     every = per_block * length // inputs
     apart = every // (option.lost + 1)
-    yield 'poll every', '%d ms' % every, '`enough` of `IsPolledInTime`'
+    yield 'poll every', '%d ms' % every, '`enough` of `FewChange`'
     if option.lost:
         yield ('begin a round every, so that %d lost in a row lose nothing' % option.lost, '%d ms' % apart,
-               '`enough` of `IsPolledInTime`')
+               '`enough` of `FewChange`')
     waits, late = most_exact(inputs, length, per_block, every, every)
     yield 'entries that wait, at most', waits, '`few_wait` of `KeepsUpExactly`'
     yield 'late, at most', '%d ms' % late, '`young` of `KeepsUpExactly`'
@@ -74,7 +74,7 @@ def row(option):
         yield 'outage within the pace, at most', '%d ms' % within, '`possible` of `outages_within_a_pace`'
     if option.every is not None:
         fits = 'nothing is lost' if option.every <= every else 'some may be lost in the densest traffic'
-        yield 'a poll every %d ms' % option.every, fits, ('`enough` of `IsPolledInTime`' if option.every <= every
+        yield 'a poll every %d ms' % option.every, fits, ('`enough` of `FewChange`' if option.every <= every
                                                           else COMPUTED)
     if option.outage is not None:
         yield from outage(option, inputs, length, per_block, waiting, longest)
