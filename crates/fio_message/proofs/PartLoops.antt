@@ -1,7 +1,7 @@
 -- Loops over parts: so many have been read from octets, or appended to them.
-use Rattle.std.proofs.Common.{◌≡◌, ℕ, suc, ◌+◌, ◌-◌, ◌*◌, ◌<◌, ◌≤◌, List, [], ◌∷◌, ◌++◌, length, get_or, take, drop, sym, ap, ◌∙◌, arith, append_assoc}
+use Rattle.std.proofs.Common.{◌≡◌, ℕ, suc, ◌+◌, ◌-◌, ◌*◌, ◌<◌, ◌≤◌, List, [], ◌∷◌, ◌++◌, length, get_or, set, take, drop, sym, ap, ◌∙◌, arith, append_assoc}
 use Rattle.std.specs.List.{AllByRecursion, flat_map}
-use Rattle.std.proofs.lemmas.List.{length-append, length-drop, append-nil, take_more, take_all}
+use Rattle.std.proofs.lemmas.List.{length-append, length-drop, length-set, append-nil, take_more, take_more_set}
 use Rattle.fio_message.specs.Reading.{parts_at}
 
 -- the parts up to the counter have been read, and the octets of the others are left
@@ -43,35 +43,36 @@ flat_map_push f [] x = sym (append-nil (f x))
 flat_map_push f (y ∷ ys) x =
     append_assoc (f y) (flat_map f ys) (f x) ∙ ap (λ (o : List ℕ). f y ++ o) (flat_map_push f ys x)
 
--- the octets of the first i parts have been appended, and these are within their ranges
-pub record IsWrittenSoFar {X : Type 0} (Fits : X → Type 0) (octets_of : X → List ℕ)
-    (old new : List ℕ) (parts : List X) (i : ℕ) : Type 0 where
-  pub appended : new ≡ old ++ flat_map octets_of (take i parts)
+-- the first slots have the octets of the first i parts, and these are within their ranges
+pub record IsPutSoFar {X : Type 0} (Fits : X → Type 0) (octets_of : X → List ℕ)
+    (room : ℕ) (slots : List (List ℕ)) (parts : List X) (i count : ℕ) : Type 0 where
+  pub put : flat_map (λ x. x) (take i slots) ≡ flat_map octets_of (take i parts)
   pub within : AllByRecursion Fits (take i parts)
-  pub len : length new ≡ length old + 3 * i
+  pub counted : count ≡ i
+  pub fits : i ≤ length parts
+  pub long : length slots ≡ room
 
-module _ {X : Type 0} (Fits : X → Type 0) (octets_of : X → List ℕ) (old new : List ℕ) (parts : List X) (i : ℕ) where
-  -- one more part is appended
-  pub write_more : (after : List ℕ) (part : X) → i < length parts → part ≡ get_or parts i part → Fits part
-      → length (octets_of part) ≡ 3 → after ≡ new ++ octets_of part
-      → IsWrittenSoFar Fits octets_of old new parts i → IsWrittenSoFar Fits octets_of old after parts (i + 1)
-  write_more after part lt read fits three is h =
+module _ {X : Type 0} (Fits : X → Type 0) (octets_of : X → List ℕ) (room : ℕ) (slots : List (List ℕ))
+    (parts : List X) (i count : ℕ) where
+  -- one more part is put
+  pub put_more : (part : X) (octets : List ℕ) → i < length parts → i < room → part ≡ get_or parts i part
+      → Fits part → octets ≡ octets_of part
+      → IsPutSoFar Fits octets_of room slots parts i count
+      → IsPutSoFar Fits octets_of room (set slots count octets) parts (i + 1) (count + 1)
+  put_more part octets lt below read fits is h =
       let before = flat_map octets_of (take i parts) in
       let more : take (i + 1) parts ≡ take i parts ++ part ∷ [] =
       take_more parts i part lt ∙ ap (λ x. take i parts ++ x ∷ []) (sym read) in
+      let slot : take (i + 1) (set slots count octets) ≡ take i slots ++ octets_of part ∷ [] =
+      rw (h.counted, is) (take_more_set slots i (octets_of part) (omega (arith, below, h.long))) in
       record {
-        appended = is
-            ∙ ap (λ (o : List ℕ). o ++ octets_of part) h.appended
-            ∙ append_assoc old before (octets_of part)
-            ∙ ap (λ (o : List ℕ). old ++ o) (flat_map_push octets_of (take i parts) part)
-            ∙ ap (λ xs. old ++ flat_map octets_of xs) (sym more);
+        put = ap (flat_map (λ x. x)) slot
+            ∙ sym (flat_map_push (λ x. x) (take i slots) (octets_of part))
+            ∙ ap (λ (o : List ℕ). o ++ octets_of part) h.put
+            ∙ flat_map_push octets_of (take i parts) part
+            ∙ ap (flat_map octets_of) (sym more);
         within = rw more (AllByRecursion-push Fits (take i parts) part h.within fits);
-        len = omega (arith, ap length is, length-append new (octets_of part), three, h.len);
+        counted = ap (λ n. n + 1) h.counted;
+        fits = omega (arith, lt);
+        long = length-set slots count octets ∙ h.long;
       }
-
-  -- all parts have been appended
-  pub all_written : length parts ≤ i → IsWrittenSoFar Fits octets_of old new parts i
-      → (new ≡ old ++ flat_map octets_of parts) × AllByRecursion Fits parts
-  all_written le h =
-      let all : take i parts ≡ parts = take_all i parts le in
-      (h.appended ∙ ap (λ xs. old ++ flat_map octets_of xs) all, rw all at h.within)

@@ -16,6 +16,9 @@ use crate::layouts::{before_entries, status_and_stamp};
 use crate::limits::FRAME_OCTETS;
 use byteorder::{BigEndian, ByteOrder};
 
+/// How many parts of three octets a frame has room for.
+const FRAME_PARTS: usize = FRAME_OCTETS / 3;
+
 /// Appends octets, for which there is room.
 fn append(frame: &mut Frame, octets: &[u8])
     requires { length frame.old.items + length octets.now ≤ FRAME_OCTETS }
@@ -38,46 +41,40 @@ fn append_u32(frame: &mut Frame, number: u32)
     append(frame, &octets);
 }
 
-/// Appends an item of a configuration, in three octets at once.
-fn append_item(frame: &mut Frame, item: &InputItem)
-    requires { length frame.old.items + 3 ≤ FRAME_OCTETS }
-    ensures appended { frame.new.items ≡ frame.old.items ++ item_octets item.now }
-    ensures within { IsItem item.now }
-{
-    append(frame, &item.octets());
-}
-
-/// Appends an entry of a block, in three octets at once.
-fn append_entry(frame: &mut Frame, entry: &Entry)
-    requires { length frame.old.items + 3 ≤ FRAME_OCTETS }
-    ensures appended { frame.new.items ≡ frame.old.items ++ entry_octets entry.now }
-    ensures within { IsEntry entry.now }
-{
-    append(frame, &entry.octets());
-}
-
 /// Appends all items, three octets each.
+// They are put together first, and then appended at once: an append of each would store the frame's length each time.
+#[inline(never)]
 fn append_items(frame: &mut Frame, items: &[InputItem])
     requires { length frame.old.items + 3 * length items.now ≤ FRAME_OCTETS }
     ensures appended { frame.new.items ≡ frame.old.items ++ flat_map item_octets items.now }
     ensures within { AllByRecursion IsItem items.now }
     ensures len { length frame.new.items ≡ length frame.old.items + 3 * length items.now }
 {
+    let mut octets = [[0; 3]; FRAME_PARTS];
+    let mut count = 0;
     for item in items {
-        append_item(frame, item);
+        octets[count] = item.octets();
+        count += 1;
     }
+    append(frame, octets[..count].as_flattened());
 }
 
 /// Appends all entries, three octets each.
+// As `append_items` does.
+#[inline(never)]
 fn append_entries(frame: &mut Frame, entries: &[Entry])
     requires { length frame.old.items + 3 * length entries.now ≤ FRAME_OCTETS }
     ensures appended { frame.new.items ≡ frame.old.items ++ flat_map entry_octets entries.now }
     ensures within { AllByRecursion IsEntry entries.now }
     ensures len { length frame.new.items ≡ length frame.old.items + 3 * length entries.now }
 {
+    let mut octets = [[0; 3]; FRAME_PARTS];
+    let mut count = 0;
     for entry in entries {
-        append_entry(frame, entry);
+        octets[count] = entry.octets();
+        count += 1;
     }
+    append(frame, octets[..count].as_flattened());
 }
 
 /// Appends the octets after the type.
