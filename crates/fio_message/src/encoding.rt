@@ -3,7 +3,7 @@
 ghost use Rattle.std.specs.Prelude.{◌≡◌, ◌≤◌, ◌+◌, ◌*◌, ◌++◌, length};
 ghost use Rattle.std.specs.Int.{w32, to_be_bytes};
 ghost use Rattle.std.specs.List.{AllByRecursion, flat_map};
-ghost use Rattle.fio_message.specs.Octets.{IsOctets, IsItem, IsEntry, item_octets, entry_octets, inputs_octets};
+ghost use Rattle.fio_message.specs.Octets.{IsOctets, IsItem, IsEntry, item_octets, entry_octets};
 ghost use Rattle.fio_message.specs.Commands.{IsCommand, SpellsCommand, command_fields};
 ghost use Rattle.fio_message.specs.Answers.{IsAnswer, SpellsAnswer, answer_fields};
 
@@ -11,8 +11,7 @@ use crate::answers::Answer;
 use crate::commands::Command;
 use crate::fields::{Entry, InputItem};
 use crate::frames::Frame;
-use crate::inputs::inputs_to_octets;
-use crate::layouts::{before_entries, status_and_stamp};
+use crate::layouts::{before_entries, flags_and_counts, inputs_and_stamp, status_and_stamp};
 use crate::limits::FRAME_OCTETS;
 use byteorder::{BigEndian, ByteOrder};
 
@@ -125,16 +124,6 @@ pub fn encode_command(command: &Command) -> Frame
     frame
 }
 
-/// Appends the levels of the inputs in eight octets, then the stamp.
-#[inline(always)]
-fn append_inputs(frame: &mut Frame, inputs: u64, stamp: u32)
-    requires { length frame.old.items + 12 ≤ FRAME_OCTETS }
-    ensures { frame.new.items ≡ frame.old.items ++ (inputs_octets inputs ++ to_be_bytes w32 stamp) }
-{
-    append(frame, &inputs_to_octets(inputs));
-    append_u32(frame, stamp);
-}
-
 /// Appends the octets after the type.
 #[inline(always)]
 fn append_answer_fields(frame: &mut Frame, answer: &Answer)
@@ -149,14 +138,17 @@ fn append_answer_fields(frame: &mut Frame, answer: &Answer)
             transmit_errors,
             stamp,
         } => {
-            append(frame, &[*flags, *receive_errors, *transmit_errors]);
-            append_u32(frame, *stamp);
+            let fields = flags_and_counts(*flags, *receive_errors, *transmit_errors, *stamp);
+            append(frame, &fields);
         }
         Answer::LoadCounter { status }
         | Answer::ConfigureInputs { status }
         | Answer::Watchdog { status } => frame.push(*status),
-        Answer::RawInputs { inputs, stamp } | Answer::FilteredInputs { inputs, stamp } => {
-            append_inputs(frame, *inputs, *stamp);
+        Answer::RawInputs { inputs, stamp } => {
+            append(frame, &inputs_and_stamp(*inputs, *stamp));
+        }
+        Answer::FilteredInputs { inputs, stamp } => {
+            append(frame, &inputs_and_stamp(*inputs, *stamp));
         }
         Answer::Block {
             block,
