@@ -15,9 +15,6 @@ use crate::layouts::{before_entries, flags_and_counts, inputs_and_stamp, status_
 use crate::limits::FRAME_OCTETS;
 use byteorder::{BigEndian, ByteOrder};
 
-/// How many parts of three octets a frame has room for.
-const FRAME_PARTS: usize = FRAME_OCTETS / 3;
-
 /// Appends octets, for which there is room.
 fn append(frame: &mut Frame, octets: &[u8])
     requires { length frame.old.items + length octets.now ≤ FRAME_OCTETS }
@@ -49,13 +46,16 @@ fn append_items(frame: &mut Frame, items: &[InputItem])
     ensures within { AllByRecursion IsItem items.now }
     ensures len { length frame.new.items ≡ length frame.old.items + 3 * length items.now }
 {
-    let mut octets = [[0; 3]; FRAME_PARTS];
+    let mut octets = [0; FRAME_OCTETS];
     let mut count = 0;
     for item in items {
-        octets[count] = item.octets();
-        count += 1;
+        let part = item.octets();
+        octets[count] = part[0];
+        octets[count + 1] = part[1];
+        octets[count + 2] = part[2];
+        count += 3;
     }
-    append(frame, octets[..count].as_flattened());
+    append(frame, &octets[..count]);
 }
 
 /// Appends all entries, three octets each.
@@ -67,13 +67,16 @@ fn append_entries(frame: &mut Frame, entries: &[Entry])
     ensures within { AllByRecursion IsEntry entries.now }
     ensures len { length frame.new.items ≡ length frame.old.items + 3 * length entries.now }
 {
-    let mut octets = [[0; 3]; FRAME_PARTS];
+    let mut octets = [0; FRAME_OCTETS];
     let mut count = 0;
     for entry in entries {
-        octets[count] = entry.octets();
-        count += 1;
+        let part = entry.octets();
+        octets[count] = part[0];
+        octets[count + 1] = part[1];
+        octets[count + 2] = part[2];
+        count += 3;
     }
-    append(frame, octets[..count].as_flattened());
+    append(frame, &octets[..count]);
 }
 
 /// Appends the octets after the type.
