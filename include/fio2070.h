@@ -4,7 +4,7 @@
  * The code behind these calls is proved: each does what its description says for all octets, all
  * lengths and all contents of its structs. docs/C-LIBRARY.md says what that covers. These calls
  * allocate nothing, keep no static data, start no thread, and call memcpy, memmove and memset
- * alone. On x86-64 it needs a processor with SSE4.1.
+ * alone. On x86-64 it needs a processor with SSE4.2 and POPCNT (see fio2070_processor_fits).
  *
  * What the caller owes, and nothing checks:
  *  - A pointer points to as many objects as its length says, aligned as C asks of their type. Where that
@@ -44,6 +44,21 @@
 #ifdef __cplusplus
 extern "C" {
 #endif
+
+/* Not in the header of the portable library: */
+#if defined(__GNUC__) && !defined(FIO2070_PORTABLE)
+/** Returns 1 if the processor that runs the program has the instructions that the archive is made of, else 0: there any
+ * other call may end the program. It is compiled with the program, by gcc and clang alone, and is not proved. */
+static inline uint8_t fio2070_processor_fits(void) {
+#if defined(__x86_64__)
+    __builtin_cpu_init();
+    return __builtin_cpu_supports("sse4.2") && __builtin_cpu_supports("popcnt");
+#else
+    return 1;
+#endif
+}
+#endif
+/* So far. */
 
 /** The version of this header: 10,000 for each major version, 100 for each minor one, 1 for each patch. */
 #define FIO2070_VERSION 10000

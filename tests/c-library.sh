@@ -49,7 +49,7 @@ described() {
     python3 - "$1" "$top/include/fio2070.h" <<'end'
 import glob, re, sys
 import xml.etree.ElementTree as xml
-declared = set(re.findall(r'fio2070_\w+(?=\()', open(sys.argv[2]).read()))
+declared = set(re.findall(r'fio2070_\w+(?=\()', re.sub('^static.*', '', open(sys.argv[2]).read(), flags=re.M)))
 described = set()
 for path in glob.glob(sys.argv[1] + '/xml/*_8h.xml') + glob.glob(sys.argv[1] + '/xml/struct*.xml'):
     for one in xml.parse(path).iter():
@@ -108,7 +108,7 @@ prefixed() {
 # exports ARCHIVE: it has exactly the functions that the header declares.
 exports() {
     nm -g "$1" | awk '$2 == "T" { print $3 }' | sort >exported
-    grep -o 'fio2070_[a-z0-9_]*(' "$top/include/fio2070.h" | tr -d '(' | sort -u | diff exported -
+    grep -v '^static' "$top/include/fio2070.h" | grep -o 'fio2070_[a-z0-9_]*(' | tr -d '(' | sort -u | diff exported -
 }
 
 # fits COMPILER: with it the structs have the layout of the library, as the header asserts.
@@ -121,6 +121,22 @@ fits() {
 # fits_not COMPILER: it is told that the archive has no code for its processor.
 fits_not() {
     ! "$1" -ffreestanding -I "$top/include" -fsyntax-only header.c 2>said && grep -q '#error "libfio2070.a' said
+}
+
+# tells PROGRAM RUN..: run so, the header tells the program that the processor fits.
+tells() {
+    printf '%s\n' '#include "fio2070.h"' 'int main(void) { return fio2070_processor_fits() != 1; }' >fitting.c
+    # shellcheck disable=SC2086
+    cc -std=c99 $strict -I "$top/include" fitting.c -o "$1" || return 2
+    program=./$1
+    shift
+    "$@" "$program"
+}
+
+# tells_not PROGRAM RUN..: run so, it tells that it does not fit.
+tells_not() {
+    tells "$@"
+    [ "$?" = 1 ]
 }
 
 # names_variable: where the archive is not, cargo is told which variable names its folder.
@@ -190,6 +206,13 @@ for processor in aarch64-linux-gnu m68k-linux-gnu arm-linux-gnueabihf powerpc-li
     holds "layout on $processor" fits "$processor-gcc"
     case $processor in aarch64*) ;; *) holds "no archive for $processor" fits_not "$processor-gcc" ;; esac
 done
+holds 'this processor fits' tells fitting
+if has_command qemu-x86_64 && [ "$(uname -m)" = x86_64 ]; then
+    holds 'one without POPCNT does not fit' tells_not fitting qemu-x86_64 -cpu Penryn
+    holds 'one of x86-64-v2 fits' tells fitting qemu-x86_64 -cpu Nehalem
+else
+    skip 'processors that fit' 'no qemu-x86_64 here (Debian package qemu-user)'
+fi
 for compiler in g++ clang++; do
     [ -n "$(command -v "$compiler")" ] || continue
     [ "$compiler" = g++ ] || set -- -fsanitize=address,undefined -fno-sanitize-recover=all

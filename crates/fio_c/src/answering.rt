@@ -10,7 +10,7 @@ ghost use Rattle.fio_c.specs.Written.{WritesAnswer};
 
 use crate::module::ErrorCounts;
 use crate::written::write_front;
-use fio_message::{CommandView, FRAME_OCTETS, Frame, read_command};
+use fio_message::{CommandView, FRAME_OCTETS, read_command};
 use fio_module::{EntryRing, ModuleState};
 
 /// Takes the octets of a frame, writes those of the answer, with these error counts, to the front of
@@ -40,8 +40,8 @@ pub(crate) fn answer<R: EntryRing>(
     }
 }
 
-/// Carries out any command, and writes the answer. It is apart, since its room for an answer is
-/// cleared at its entry, and a poll needs none.
+/// Carries out any command, and writes the answer.
+// Not inlined: a poll needs no room for a short answer.
 #[inline(never)]
 fn obey<R: EntryRing>(
     state: &mut ModuleState,
@@ -59,17 +59,16 @@ fn obey<R: EntryRing>(
         out.old out.new result }
     ensures same_memory { R.memory ring.new ≡ R.memory ring.old }
 {
-    let mut frame = Frame::new();
     match command {
         CommandView::Status { clear } => {
-            state.tell_status(clear, errors.receive, errors.transmit, &mut frame);
-            write_front(frame.as_slice(), out)
+            let answer = state.clear_flags(clear, errors.receive, errors.transmit);
+            write_front(answer.as_slice(), out)
         }
         other => {
-            if state.obey(ring, other, &mut frame) {
-                write_front(frame.as_slice(), out)
-            } else {
-                0
+            let reply = state.carry_out(ring, other);
+            match state.octets_of(&reply) {
+                Some(octets) => write_front(octets, out),
+                None => 0,
             }
         }
     }

@@ -1,7 +1,7 @@
 -- Loops over parts: so many have been read from octets, or appended to them.
-use Rattle.std.proofs.Common.{◌≡◌, ℕ, suc, ◌+◌, ◌-◌, ◌*◌, ◌<◌, ◌≤◌, List, [], ◌∷◌, ◌++◌, length, get_or, take, drop, sym, ap, ◌∙◌, arith, append_assoc}
+use Rattle.std.proofs.Common.{◌≡◌, ℕ, suc, ◌+◌, ◌-◌, ◌*◌, ◌<◌, ◌≤◌, List, [], ◌∷◌, ◌++◌, length, get_or, set, take, drop, sym, ap, ◌∙◌, arith, append_assoc}
 use Rattle.std.specs.List.{AllByRecursion, flat_map}
-use Rattle.std.proofs.lemmas.List.{length-append, length-drop, append-nil, take_more, take_all}
+use Rattle.std.proofs.lemmas.List.{length-append, length-drop, length-set, append-nil, take_more, take_more_set}
 use Rattle.fio_message.specs.Reading.{parts_at}
 
 -- the parts up to the counter have been read, and the octets of the others are left
@@ -43,35 +43,53 @@ flat_map_push f [] x = sym (append-nil (f x))
 flat_map_push f (y ∷ ys) x =
     append_assoc (f y) (flat_map f ys) (f x) ∙ ap (λ (o : List ℕ). f y ++ o) (flat_map_push f ys x)
 
--- the octets of the first i parts have been appended, and these are within their ranges
-pub record IsWrittenSoFar {X : Type 0} (Fits : X → Type 0) (octets_of : X → List ℕ)
-    (old new : List ℕ) (parts : List X) (i : ℕ) : Type 0 where
-  pub appended : new ≡ old ++ flat_map octets_of (take i parts)
-  pub within : AllByRecursion Fits (take i parts)
-  pub len : length new ≡ length old + 3 * i
+-- three octets more are put
+put_three : (slots : List ℕ) (p a b c : ℕ) → p + 2 < length slots
+    → take (p + 3) (set (set (set slots p a) (p + 1) b) (p + 2) c) ≡ take p slots ++ a ∷ b ∷ c ∷ []
+put_three slots p a b c below =
+    let one = set slots p a in
+    let two = set one (p + 1) b in
+    let next : p + 2 ≡ p + 1 + 1 = omega arith in
+    let last : p + 3 ≡ p + 2 + 1 = omega arith in
+    let first : take (p + 1) one ≡ take p slots ++ a ∷ [] = take_more_set slots p a (omega (arith, below)) in
+    let second : take (p + 2) two ≡ take (p + 1) one ++ b ∷ [] =
+    ap (λ n. take n two) next
+    ∙ take_more_set one (p + 1) b (omega (arith, below, length-set slots p a)) in
+    ap (λ n. take n (set two (p + 2) c)) last
+    ∙ take_more_set two (p + 2) c (omega (arith, below, length-set slots p a, length-set one (p + 1) b))
+    ∙ ap (λ (o : List ℕ). o ++ c ∷ []) (second ∙ ap (λ (o : List ℕ). o ++ b ∷ []) first)
+    ∙ ap (λ (o : List ℕ). o ++ c ∷ []) (append_assoc (take p slots) (a ∷ []) (b ∷ []))
+    ∙ append_assoc (take p slots) (a ∷ b ∷ []) (c ∷ [])
 
-module _ {X : Type 0} (Fits : X → Type 0) (octets_of : X → List ℕ) (old new : List ℕ) (parts : List X) (i : ℕ) where
-  -- one more part is appended
-  pub write_more : (after : List ℕ) (part : X) → i < length parts → part ≡ get_or parts i part → Fits part
-      → length (octets_of part) ≡ 3 → after ≡ new ++ octets_of part
-      → IsWrittenSoFar Fits octets_of old new parts i → IsWrittenSoFar Fits octets_of old after parts (i + 1)
-  write_more after part lt read fits three is h =
-      let before = flat_map octets_of (take i parts) in
+-- the octets of the first i parts have been put, and these are within their ranges
+pub record IsPutSoFar {X : Type 0} (Fits : X → Type 0) (octets_of : X → List ℕ)
+    (room : ℕ) (slots : List ℕ) (parts : List X) (i count : ℕ) : Type 0 where
+  pub put : take count slots ≡ flat_map octets_of (take i parts)
+  pub within : AllByRecursion Fits (take i parts)
+  pub counted : count ≡ 3 * i
+  pub fits : i ≤ length parts
+  pub long : length slots ≡ room
+
+module _ {X : Type 0} (Fits : X → Type 0) (octets_of : X → List ℕ) (room : ℕ) (slots : List ℕ)
+    (parts : List X) (i count : ℕ) where
+  -- one more part is put
+  pub put_more : (part : X) (a b c : ℕ) → i < length parts → count + 2 < room → part ≡ get_or parts i part
+      → Fits part → octets_of part ≡ a ∷ b ∷ c ∷ []
+      → IsPutSoFar Fits octets_of room slots parts i count
+      → IsPutSoFar Fits octets_of room (set (set (set slots count a) (count + 1) b) (count + 2) c) parts (i + 1) (count + 3)
+  put_more part a b c lt below read fits is h =
       let more : take (i + 1) parts ≡ take i parts ++ part ∷ [] =
       take_more parts i part lt ∙ ap (λ x. take i parts ++ x ∷ []) (sym read) in
+      let one = set slots count a in
+      let two = set one (count + 1) b in
       record {
-        appended = is
-            ∙ ap (λ (o : List ℕ). o ++ octets_of part) h.appended
-            ∙ append_assoc old before (octets_of part)
-            ∙ ap (λ (o : List ℕ). old ++ o) (flat_map_push octets_of (take i parts) part)
-            ∙ ap (λ xs. old ++ flat_map octets_of xs) (sym more);
+        put = put_three slots count a b c (omega (arith, below, h.long))
+            ∙ ap (λ (o : List ℕ). o ++ a ∷ b ∷ c ∷ []) h.put
+            ∙ ap (λ (o : List ℕ). flat_map octets_of (take i parts) ++ o) (sym is)
+            ∙ flat_map_push octets_of (take i parts) part
+            ∙ ap (flat_map octets_of) (sym more);
         within = rw more (AllByRecursion-push Fits (take i parts) part h.within fits);
-        len = omega (arith, ap length is, length-append new (octets_of part), three, h.len);
+        counted = omega (arith, h.counted);
+        fits = omega (arith, lt);
+        long = length-set two (count + 2) c ∙ length-set one (count + 1) b ∙ length-set slots count a ∙ h.long;
       }
-
-  -- all parts have been appended
-  pub all_written : length parts ≤ i → IsWrittenSoFar Fits octets_of old new parts i
-      → (new ≡ old ++ flat_map octets_of parts) × AllByRecursion Fits parts
-  all_written le h =
-      let all : take i parts ≡ parts = take_all i parts le in
-      (h.appended ∙ ap (λ xs. old ++ flat_map octets_of xs) all, rw all at h.within)

@@ -3,7 +3,7 @@
 ghost use Rattle.std.specs.Prelude.{◌≡◌, ◌≤◌, ◌+◌, ◌*◌, ◌++◌, length};
 ghost use Rattle.std.specs.Int.{w32, to_be_bytes};
 ghost use Rattle.std.specs.List.{AllByRecursion, flat_map};
-ghost use Rattle.fio_message.specs.Octets.{IsOctets, IsItem, IsEntry, item_octets, entry_octets, inputs_octets};
+ghost use Rattle.fio_message.specs.Octets.{IsOctets, IsItem, IsEntry, item_octets, entry_octets};
 ghost use Rattle.fio_message.specs.Commands.{IsCommand, SpellsCommand, command_fields};
 ghost use Rattle.fio_message.specs.Answers.{IsAnswer, SpellsAnswer, answer_fields};
 
@@ -11,8 +11,7 @@ use crate::answers::Answer;
 use crate::commands::Command;
 use crate::fields::{Entry, InputItem};
 use crate::frames::Frame;
-use crate::inputs::inputs_to_octets;
-use crate::layouts::{before_entries, status_and_stamp};
+use crate::layouts::{before_entries, flags_and_counts, inputs_and_stamp, status_and_stamp};
 use crate::limits::FRAME_OCTETS;
 use byteorder::{BigEndian, ByteOrder};
 
@@ -38,46 +37,46 @@ fn append_u32(frame: &mut Frame, number: u32)
     append(frame, &octets);
 }
 
-/// Appends an item of a configuration, in three octets at once.
-fn append_item(frame: &mut Frame, item: &InputItem)
-    requires { length frame.old.items + 3 ≤ FRAME_OCTETS }
-    ensures appended { frame.new.items ≡ frame.old.items ++ item_octets item.now }
-    ensures within { IsItem item.now }
-{
-    append(frame, &item.octets());
-}
-
-/// Appends an entry of a block, in three octets at once.
-fn append_entry(frame: &mut Frame, entry: &Entry)
-    requires { length frame.old.items + 3 ≤ FRAME_OCTETS }
-    ensures appended { frame.new.items ≡ frame.old.items ++ entry_octets entry.now }
-    ensures within { IsEntry entry.now }
-{
-    append(frame, &entry.octets());
-}
-
 /// Appends all items, three octets each.
+// They are put together first, and then appended at once: an append of each would store the frame's length each time.
+#[inline(never)]
 fn append_items(frame: &mut Frame, items: &[InputItem])
     requires { length frame.old.items + 3 * length items.now ≤ FRAME_OCTETS }
     ensures appended { frame.new.items ≡ frame.old.items ++ flat_map item_octets items.now }
     ensures within { AllByRecursion IsItem items.now }
     ensures len { length frame.new.items ≡ length frame.old.items + 3 * length items.now }
 {
+    let mut octets = [0; FRAME_OCTETS];
+    let mut count = 0;
     for item in items {
-        append_item(frame, item);
+        let part = item.octets();
+        octets[count] = part[0];
+        octets[count + 1] = part[1];
+        octets[count + 2] = part[2];
+        count += 3;
     }
+    append(frame, &octets[..count]);
 }
 
 /// Appends all entries, three octets each.
+// As `append_items` does.
+#[inline(never)]
 fn append_entries(frame: &mut Frame, entries: &[Entry])
     requires { length frame.old.items + 3 * length entries.now ≤ FRAME_OCTETS }
     ensures appended { frame.new.items ≡ frame.old.items ++ flat_map entry_octets entries.now }
     ensures within { AllByRecursion IsEntry entries.now }
     ensures len { length frame.new.items ≡ length frame.old.items + 3 * length entries.now }
 {
+    let mut octets = [0; FRAME_OCTETS];
+    let mut count = 0;
     for entry in entries {
-        append_entry(frame, entry);
+        let part = entry.octets();
+        octets[count] = part[0];
+        octets[count + 1] = part[1];
+        octets[count + 2] = part[2];
+        count += 3;
     }
+    append(frame, &octets[..count]);
 }
 
 /// Appends the octets after the type.
@@ -128,16 +127,6 @@ pub fn encode_command(command: &Command) -> Frame
     frame
 }
 
-/// Appends the levels of the inputs in eight octets, then the stamp.
-#[inline(always)]
-fn append_inputs(frame: &mut Frame, inputs: u64, stamp: u32)
-    requires { length frame.old.items + 12 ≤ FRAME_OCTETS }
-    ensures { frame.new.items ≡ frame.old.items ++ (inputs_octets inputs ++ to_be_bytes w32 stamp) }
-{
-    append(frame, &inputs_to_octets(inputs));
-    append_u32(frame, stamp);
-}
-
 /// Appends the octets after the type.
 #[inline(always)]
 fn append_answer_fields(frame: &mut Frame, answer: &Answer)
@@ -152,14 +141,17 @@ fn append_answer_fields(frame: &mut Frame, answer: &Answer)
             transmit_errors,
             stamp,
         } => {
-            append(frame, &[*flags, *receive_errors, *transmit_errors]);
-            append_u32(frame, *stamp);
+            let fields = flags_and_counts(*flags, *receive_errors, *transmit_errors, *stamp);
+            append(frame, &fields);
         }
         Answer::LoadCounter { status }
         | Answer::ConfigureInputs { status }
         | Answer::Watchdog { status } => frame.push(*status),
-        Answer::RawInputs { inputs, stamp } | Answer::FilteredInputs { inputs, stamp } => {
-            append_inputs(frame, *inputs, *stamp);
+        Answer::RawInputs { inputs, stamp } => {
+            append(frame, &inputs_and_stamp(*inputs, *stamp));
+        }
+        Answer::FilteredInputs { inputs, stamp } => {
+            append(frame, &inputs_and_stamp(*inputs, *stamp));
         }
         Answer::Block {
             block,

@@ -1,9 +1,11 @@
 //! The octets round the lists of messages, each written here alone: whatever gives the list, a writer puts
 //! these before it and behind it.
-ghost use Rattle.std.specs.Prelude.{◌≡◌, [], ◌∷◌};
+ghost use Rattle.std.specs.Prelude.{◌≡◌, [], ◌∷◌, ◌++◌};
 ghost use Rattle.std.specs.Int.{w32, to_be_bytes};
+ghost use Rattle.fio_message.specs.Octets.{inputs_octets};
 ghost use Rattle.fio_message.specs.declared.types.TheConstants.{BLOCK_ANSWER, CONFIGURE_INPUTS};
 
+use crate::inputs::inputs_to_octets;
 use crate::types::{BLOCK_ANSWER, CONFIGURE_INPUTS};
 use byteorder::{BigEndian, ByteOrder};
 
@@ -30,5 +32,28 @@ pub fn status_and_stamp(status: u8, stamp: u32) -> [u8; 5]
 {
     let mut octets = [status; 5];
     BigEndian::write_u32(&mut octets[1..], stamp);
+    octets
+}
+
+/// The flags, the error counts and the stamp, most significant octet first: what is behind the type of an
+/// answer 177.
+#[inline]
+pub fn flags_and_counts(flags: u8, receive_errors: u8, transmit_errors: u8, stamp: u32) -> [u8; 7]
+    ensures { result ≡ flags ∷ receive_errors ∷ transmit_errors ∷ to_be_bytes w32 stamp }
+{
+    let mut octets = [flags, receive_errors, transmit_errors, 0, 0, 0, 0];
+    BigEndian::write_u32(&mut octets[3..], stamp);
+    octets
+}
+
+/// The levels of the inputs and the stamp, most significant octet first: what is behind the type of an answer
+/// 180 or 181.
+#[inline]
+pub fn inputs_and_stamp(inputs: u64, stamp: u32) -> [u8; 12]
+    ensures { result ≡ inputs_octets inputs ++ to_be_bytes w32 stamp }
+{
+    let mut octets = [0; 12];
+    octets[..8].copy_from_slice(&inputs_to_octets(inputs));
+    BigEndian::write_u32(&mut octets[8..], stamp);
     octets
 }

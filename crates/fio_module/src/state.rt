@@ -7,6 +7,7 @@ use crate::limits::Limits;
 use crate::outputs::Outputs;
 use crate::ring::EntryRing;
 use crate::waiting::push_changed;
+pub use commands::{Reply, ShortAnswer};
 use fio_input::{Counter, Filters};
 use fio_message::KeptBlock;
 

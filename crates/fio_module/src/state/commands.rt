@@ -1,6 +1,7 @@
 //! The commands that a module carries out, and its answers.
-ghost use Rattle.std.specs.Prelude.{◌≡◌, ℕ, List, ◌∷◌, Some};
+ghost use Rattle.std.specs.Prelude.{◌≡◌, ◌<◌, ℕ, List, ◌∷◌, length, Some, None, MatchOption};
 ghost use Rattle.circular_buffer.specs.Buffer.{Buffer};
+ghost use Rattle.fio_message.specs.Octets.{IsOctets};
 ghost use Rattle.fio_message.specs.Views.{command_of, items_of};
 ghost use Rattle.fio_message.specs.declared.commands.Command.TheVariants as commands;
 ghost use Rattle.fio_message.specs.Answers.{SpellsAnswer};
@@ -8,22 +9,62 @@ ghost use Rattle.fio_message.specs.declared.answers.Answer.TheVariants as answer
 ghost use Rattle.fio_module.specs.Flags.{flags_of};
 ghost use Rattle.fio_module.specs.Life.{Commanded, Life, counter_of};
 ghost use Rattle.fio_module.specs.Settings.{Settings};
-ghost use Rattle.fio_module.specs.State.{IsAfter, Obeys, frame_if};
+ghost use Rattle.fio_module.specs.State.{IsAfter, Obeys, frame_if, reply_frame};
 
 use super::ModuleState;
 use crate::limits::{LEAST_TIMEOUT, MOST_TIMEOUT};
 use crate::outputs::Outputs;
 use crate::ring::EntryRing;
-use fio_message::{
-    Answer, CommandView, Frame, ItemsView, error_status, set_before_status, write_answer,
+use arrayvec::ArrayVec;
+use fio_message::types::{
+    CONFIGURE_INPUTS_ANSWER, FILTERED_INPUTS_ANSWER, IDENTIFY_ANSWER, LOAD_COUNTER_ANSWER,
+    RAW_INPUTS_ANSWER, SET_OUTPUTS_ANSWER, STATUS_ANSWER, WATCHDOG_ANSWER,
 };
+use fio_message::{
+    CommandView, Frame, ItemsView, error_status, flags_and_counts, inputs_and_stamp,
+    set_before_status, status_and_stamp,
+};
+
+/// The most octets that an answer has which is no block.
+const SHORT_OCTETS: usize = 13;
+
+/// The octets of an answer that is no block: 2 to 13.
+pub type ShortAnswer = ArrayVec<u8, SHORT_OCTETS>;
+
+/// What a command is answered.
+#[derive(Debug, Drop)]
+pub enum Reply {
+    /// Nothing.
+    Nothing,
+    /// These octets.
+    Short(ShortAnswer),
+    /// The block that was sent last, which is `ModuleState::block`.
+    Block,
+}
+
+/// A short answer: its type, and the octets after it.
+fn short_answer(code: u8, fields: &[u8]) -> ShortAnswer
+    requires { length fields.now < SHORT_OCTETS }
+    ensures written { result.items ≡ code ∷ fields.now }
+    ensures within { IsOctets fields.now }
+{
+    let mut answer = ShortAnswer::new();
+    answer.push(code);
+    let _ = answer.try_extend_from_slice(fields);
+    answer
+}
+
+/// Writes a short answer into a frame, in place of what it holds.
+fn write_short(answer: &ShortAnswer, frame: &mut Frame)
+    ensures { frame.new.items ≡ answer.now.items }
+{
+    frame.clear();
+    let _ = frame.try_extend_from_slice(answer.as_slice());
+}
 
 impl ModuleState {
     /// Carries out a command that is read in place, and writes the answer into `frame`. Commands 56,
     /// 57 and 59 get none and change nothing (own profile): the result is then `false`.
-    ///
-    /// Each command has a function of its own, which is not inlined and writes into the one frame:
-    /// room for a frame of its own would be cleared at each entry.
     pub fn obey<R: EntryRing>(
         &mut self,
         ring: &mut R,
@@ -34,30 +75,62 @@ impl ModuleState {
             (command_of command.entry) (frame_if result frame.new) }
         ensures same_memory { R.memory ring.new ≡ R.memory ring.old }
     {
+        let reply = self.carry_out(ring, command);
+        self.write_reply(&reply, frame)
+    }
+
+    /// Carries out a command as `obey` does, and says what the answer is. It needs no frame.
+    pub fn carry_out<R: EntryRing>(&mut self, ring: &mut R, command: CommandView<'_>) -> Reply
+        ensures obeyed { Obeys self.old (R.held ring.old) self.new (R.held ring.new)
+            (command_of command.entry) (reply_frame self.new result) }
+        ensures same_memory { R.memory ring.new ≡ R.memory ring.old }
+    {
         match command {
-            CommandView::Status { clear } => self.tell_status(clear, 0, 0, frame),
-            CommandView::LoadCounter { load } => self.load_counter(load, frame),
-            CommandView::ConfigureInputs { items } => self.configure(items, frame),
-            CommandView::RawInputs => self.raw_inputs(frame),
-            CommandView::FilteredInputs => self.filtered_inputs(frame),
+            CommandView::Status { clear } => Reply::Short(self.clear_flags(clear, 0, 0)),
+            CommandView::LoadCounter { load } => Reply::Short(self.load_counter(load)),
+            CommandView::ConfigureInputs { items } => Reply::Short(self.configure(items)),
+            CommandView::RawInputs => Reply::Short(self.raw_inputs()),
+            CommandView::FilteredInputs => Reply::Short(self.filtered_inputs()),
             CommandView::Poll { block } => {
                 self.poll(ring, block);
-                self.sent.copy_to(frame);
+                Reply::Block
             }
             CommandView::SetOutputs { levels, controls } => {
-                self.set_outputs(*levels, *controls, frame);
+                Reply::Short(self.set_outputs(*levels, *controls))
             }
-            CommandView::Watchdog { timeout } => self.set_watchdog(timeout, frame),
-            CommandView::Identify => self.identify(frame),
-            CommandView::Other { .. } => return false,
+            CommandView::Watchdog { timeout } => Reply::Short(self.set_watchdog(timeout)),
+            CommandView::Identify => Reply::Short(self.identify()),
+            CommandView::Other { .. } => Reply::Nothing,
+        }
+    }
+
+    /// The octets of a reply that `carry_out` gave last, `None` where there is no answer.
+    pub fn octets_of<'a>(&'a self, reply: &'a Reply) -> Option<&'a [u8]>
+        ensures { MatchOption result
+            (reply_frame self.now reply.now ≡ None)
+            (λ octets. reply_frame self.now reply.now ≡ Some (record { items = octets.now })) }
+    {
+        match reply {
+            Reply::Nothing => None,
+            Reply::Short(answer) => Some(answer.as_slice()),
+            Reply::Block => Some(self.block()),
+        }
+    }
+
+    /// Writes a reply that `carry_out` gave last into `frame`. Where there is no answer the result is `false`.
+    pub(crate) fn write_reply(&self, reply: &Reply, frame: &mut Frame) -> bool
+        ensures { frame_if result frame.new ≡ reply_frame self.now reply.now }
+    {
+        match reply {
+            Reply::Nothing => return false,
+            Reply::Short(answer) => write_short(answer, frame),
+            Reply::Block => self.sent.copy_to(frame),
         }
         true
     }
 
     /// Carries out command 49 as `obey` does, but that the answer has these error counts (TEES 2009,
     /// answer 177): clears the flags whose bits are one, and writes those that are left.
-    // Not inlined: see `obey`.
-    #[inline(never)]
     pub fn tell_status(
         &mut self,
         clear: u8,
@@ -71,100 +144,79 @@ impl ModuleState {
             × SpellsAnswer (answers.Status (flags_of (Commanded (commands.Status clear) ∷ life))
             receive_errors transmit_errors (counter_of life)) frame.new.items }
     {
-        self.flags &= !clear;
-        write_answer(
-            &Answer::Status {
-                flags: self.flags,
-                receive_errors,
-                transmit_errors,
-                stamp: self.counter.now(),
-            },
-            frame,
-        );
+        let answer = self.clear_flags(clear, receive_errors, transmit_errors);
+        write_short(&answer, frame);
     }
 
-    // Not inlined: see `obey`.
-    #[inline(never)]
-    fn load_counter(&mut self, load: u32, frame: &mut Frame)
+    /// Carries out command 49 as `tell_status` does, and returns the octets of the answer.
+    pub fn clear_flags(&mut self, clear: u8, receive_errors: u8, transmit_errors: u8) -> ShortAnswer
+        ensures { (settings : Settings) (ring : Buffer (List ℕ)) (life : Life)
+            → IsAfter settings self.old ring life
+            → IsAfter settings self.new ring (Commanded (commands.Status clear) ∷ life)
+            × SpellsAnswer (answers.Status (flags_of (Commanded (commands.Status clear) ∷ life))
+            receive_errors transmit_errors (counter_of life)) result.items }
+    {
+        self.flags &= !clear;
+        let stamp = self.counter.now();
+        short_answer(
+            STATUS_ANSWER,
+            &flags_and_counts(self.flags, receive_errors, transmit_errors, stamp),
+        )
+    }
+
+    fn load_counter(&mut self, load: u32) -> ShortAnswer
         ensures { (ring : Buffer (List ℕ))
-            → Obeys self.old ring self.new ring (commands.LoadCounter load) (Some frame.new) }
+            → Obeys self.old ring self.new ring (commands.LoadCounter load) (Some result) }
     {
         self.counter.ask_load(load);
-        write_answer(
-            &Answer::LoadCounter {
-                status: error_status(false),
-            },
-            frame,
-        );
+        short_answer(LOAD_COUNTER_ANSWER, &[error_status(false)])
     }
 
-    // Not inlined: see `obey`.
-    #[inline(never)]
-    fn configure(&mut self, items: ItemsView<'_>, frame: &mut Frame)
+    fn configure(&mut self, items: ItemsView<'_>) -> ShortAnswer
         ensures { (ring : Buffer (List ℕ)) → Obeys self.old ring self.new ring
-            (commands.ConfigureInputs (record { items = items_of items.entry })) (Some frame.new) }
+            (commands.ConfigureInputs (record { items = items_of items.entry })) (Some result) }
     {
         let status = error_status(self.filters.configure_from(&items).is_err());
-        write_answer(&Answer::ConfigureInputs { status }, frame);
+        short_answer(CONFIGURE_INPUTS_ANSWER, &[status])
     }
 
-    // Not inlined: see `obey`.
-    #[inline(never)]
-    fn raw_inputs(&self, frame: &mut Frame)
+    fn raw_inputs(&self) -> ShortAnswer
         ensures { (ring : Buffer (List ℕ))
-            → Obeys self.now ring self.now ring commands.RawInputs (Some frame.new) }
+            → Obeys self.now ring self.now ring commands.RawInputs (Some result) }
     {
-        write_answer(
-            &Answer::RawInputs {
-                inputs: self.filters.raw(),
-                stamp: self.counter.now(),
-            },
-            frame,
-        );
+        let (inputs, stamp) = (self.filters.raw(), self.counter.now());
+        short_answer(RAW_INPUTS_ANSWER, &inputs_and_stamp(inputs, stamp))
     }
 
-    // Not inlined: see `obey`.
-    #[inline(never)]
-    fn filtered_inputs(&self, frame: &mut Frame)
+    fn filtered_inputs(&self) -> ShortAnswer
         ensures { (ring : Buffer (List ℕ))
-            → Obeys self.now ring self.now ring commands.FilteredInputs (Some frame.new) }
+            → Obeys self.now ring self.now ring commands.FilteredInputs (Some result) }
     {
-        write_answer(
-            &Answer::FilteredInputs {
-                inputs: self.filters.filtered(),
-                stamp: self.counter.now(),
-            },
-            frame,
-        );
+        let (inputs, stamp) = (self.filters.filtered(), self.counter.now());
+        short_answer(FILTERED_INPUTS_ANSWER, &inputs_and_stamp(inputs, stamp))
     }
 
-    // Not inlined: see `obey`.
-    #[inline(never)]
-    fn set_outputs(&mut self, levels: [u8; 8], controls: [u8; 8], frame: &mut Frame)
+    fn set_outputs(&mut self, levels: [u8; 8], controls: [u8; 8]) -> ShortAnswer
         ensures { (ring : Buffer (List ℕ))
-            → Obeys self.old ring self.new ring (commands.SetOutputs levels controls) (Some frame.new) }
+            → Obeys self.old ring self.new ring (commands.SetOutputs levels controls) (Some result) }
     {
         self.outputs = Outputs { levels, controls };
-        write_answer(&Answer::outputs_set(self.counter.now()), frame);
+        short_answer(SET_OUTPUTS_ANSWER, &status_and_stamp(0, self.counter.now()))
     }
 
-    // Not inlined: see `obey`.
-    #[inline(never)]
-    fn set_watchdog(&mut self, timeout: u8, frame: &mut Frame)
+    fn set_watchdog(&mut self, timeout: u8) -> ShortAnswer
         ensures { (ring : Buffer (List ℕ))
-            → Obeys self.old ring self.new ring (commands.Watchdog timeout) (Some frame.new) }
+            → Obeys self.old ring self.new ring (commands.Watchdog timeout) (Some result) }
     {
         let status = set_before_status(self.watchdog != 0);
         self.watchdog = timeout.clamp(LEAST_TIMEOUT, MOST_TIMEOUT);
-        write_answer(&Answer::Watchdog { status }, frame);
+        short_answer(WATCHDOG_ANSWER, &[status])
     }
 
-    // Not inlined: see `obey`.
-    #[inline(never)]
-    fn identify(&self, frame: &mut Frame)
+    fn identify(&self) -> ShortAnswer
         ensures { (ring : Buffer (List ℕ))
-            → Obeys self.now ring self.now ring commands.Identify (Some frame.new) }
+            → Obeys self.now ring self.now ring commands.Identify (Some result) }
     {
-        write_answer(&Answer::identity(self.id), frame);
+        short_answer(IDENTIFY_ANSWER, &[self.id])
     }
 }
