@@ -1,4 +1,4 @@
--- What a decoder needs in place of octets of a wrong length fits in a frame.
+-- What a decoder needs instead of octets of a wrong length fits in a frame.
 use Rattle.std.proofs.Common.{◌≡◌, ℕ, ◌+◌, ◌*◌, ◌<◌, ◌≤◌, Bool, true, false, if◌then◌else◌, List, [], ◌∷◌, length, Option, Some, None, Err, arith}
 use Rattle.std.specs.Prelude.{◌==◌, slice_index_or}
 use Rattle.fio_message.specs.declared.faults.DecodeError.{DecodeError}

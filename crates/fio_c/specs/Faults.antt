@@ -37,7 +37,7 @@ text_of_error (Some error) = fault_text error
 abbrev pub text_of : Fault → List ℕ
 text_of fault = text_of_error (error_in fault)
 
--- what is needed in place of octets of a wrong length fits in a frame
+-- what is needed instead of octets of a wrong length fits in a frame
 abbrev pub NeedFitsFrame : DecodeError → Type 0
 NeedFitsFrame (WrongLength needed got) = needed ≤ FRAME_OCTETS
 NeedFitsFrame other = Unit {0}

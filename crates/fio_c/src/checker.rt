@@ -10,13 +10,13 @@ use fio_check::{Breach as BreachFound, Checker as CheckerOf, Facts};
 #[derive(Clone, Copy)]
 #[repr(C)]
 pub struct Checker {
-    /// 1 where a command stands directly above.
+    /// 1 where a command is directly above.
     pub has_awaited: u8,
     /// The type of the answer to it.
     pub awaited: u8,
     /// 1 where it names an input above 63.
     pub absent_named: u8,
-    /// 1 where a poll stands above.
+    /// 1 where a poll is above.
     pub has_polled: u8,
     /// The number of the latest poll.
     pub polled: u8,
@@ -24,7 +24,7 @@ pub struct Checker {
     pub answered: u8,
     /// 1 where the latest poll has another number than the poll before it.
     pub advanced: u8,
-    /// 0 where no block answer stands above, 1 where the latest has no C, 2 where it has.
+    /// 0 where no block answer is above, 1 where the latest has no C, 2 where it has.
     pub more: u8,
     /// 1 below a breach, until the next poll.
     pub skips: u8,

@@ -23,7 +23,7 @@ pub extern "C" fn fio2070_counter_tick(counter: &mut Counter)
     counter.tick();
 }
 
-/// Asks for a load of this number at the next line sync (TEES 2009), in place of one that was asked
+/// Asks for a load of this number at the next line sync (TEES 2009), instead of one that was asked
 /// for before (own profile).
 #[unsafe(no_mangle)]
 pub extern "C" fn fio2070_counter_ask_load(counter: &mut Counter, number: u32)

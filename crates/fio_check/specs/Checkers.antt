@@ -86,7 +86,7 @@ abbrev pub verdict_of_checker : List TranscriptLine → Verdict
 verdict_of_checker lines =
     unwrap_or (earliest_above (verdict_found_at lines) (length lines)) (Good (length lines))
 
--- no poll stands below the one place and above the other
+-- no poll is below the one place and above the other
 abbrev pub HasNoPollBetween : List TranscriptLine → ℕ → ℕ → Type 0
 HasNoPollBetween lines above below = (between : ℕ) → above < between → between < below
     → number_polled (observation_at lines between) ≡ None

@@ -100,7 +100,7 @@ facts_with facts (Block number status entries absent) = record facts {
 }
 facts_with facts observation = record facts { awaited = None; absent_named = false }
 
--- the number that a poll must have below these lines, if a poll stands there
+-- the number that a poll must have below these lines, if a poll is there
 abbrev pub number_due : Facts → Option ℕ
 number_due facts =
     option_map (λ polled. if facts.answered then (polled + 1) % 256 else polled) facts.polled

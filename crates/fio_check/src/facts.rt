@@ -9,7 +9,7 @@ use fio_message::types::BLOCK_ANSWER;
 /// What the rules read of the lines above. `default()` is that nothing is above.
 #[derive(Clone, Copy, Debug, Default, PartialEq, Eq, Hash)]
 pub struct Facts {
-    /// The type of the answer to the command directly above, if a command stands there.
+    /// The type of the answer to the command directly above, if a command is there.
     pub awaited: Option<u8>,
     /// Whether that command names an input above 63.
     pub absent_named: bool,

@@ -12,11 +12,11 @@ use fio_message::{BLOCK_ENTRIES, BlockStatus};
 pub enum Rule {
     /// The octets are a message of their direction.
     Readable,
-    /// An answer stands directly below the command that it answers.
+    /// An answer is directly below the command that it answers.
     Pair,
     /// A block answer has the number of the poll directly above.
     Number,
-    /// A poll has the next number where a block answer stands directly below the earlier poll, else
+    /// A poll has the next number where a block answer is directly below the earlier poll, else
     /// the same number again. The next number after 255 is 0.
     Advance,
     /// A block answer has E only where its poll has the number of the poll before it, or is the

@@ -127,7 +127,7 @@ blocks_leave settings some room (Scanned raw ∷ life) =
     (blocks_leave settings some room life)
 blocks_leave settings some room (other ∷ life) = blocks_leave settings some room life
 
--- ---- what stands stays
+-- ---- what holds stays
 
 -- a block that was made stays where it is
 made_stays : (new : Bool) (blocks : List MadeBlock) (added block : MadeBlock) (k : ℕ) → slice_get blocks k ≡ Some block

@@ -127,7 +127,7 @@ fn load(octets: &[u8], first: usize) -> u8x16
     u8x16::from_slice(&octets[first..])
 }
 
-/// Puts the lanes in place of the 16 octets from the first one on.
+/// Puts the lanes over the 16 octets from the first one on.
 fn store(octets: &mut [u8], first: usize, lanes: u8x16)
     requires { first + LANES ≤ length octets.old }
     ensures below { (i : ℕ) → i < first → slice_index octets.new i ≡ slice_index octets.old i }

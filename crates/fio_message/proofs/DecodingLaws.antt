@@ -9,7 +9,7 @@ use Rattle.fio_message.specs.Decoding.{is_length, message_in, fault_in}
 use Rattle.fio_message.proofs.Whole.{fields_fit, fields_needed, whole_or_refused}
 
 module _ {V : Type 0} (length_of : List ℕ → Option ℕ) (read : ℕ → List ℕ → V) where
-  -- a code and fields that are as many as they need, and fit in a frame, are what is read of them
+  -- a code and fields that have the length needed, and fit in a frame, are what is read of them
   message_in-fitting : (code : ℕ) (fields : List ℕ) → length fields ≤ 772
       → length_of (code ∷ fields) ≡ Some (suc (length fields))
       → message_in length_of read (code ∷ fields) ≡ Some (read code fields)
@@ -38,7 +38,7 @@ module _ {V : Type 0} (length_of : List ℕ → Option ℕ) (read : ℕ → List
   unfolding message_in
   message_in-long code fields lt = rw (lt-leb (length fields) 772 lt) refl
 
-  -- octets that are not as many as needed are no message
+  -- octets that do not have the length needed are no message
   message_in-unfit : (code : ℕ) (fields : List ℕ)
       → is_length (length_of (code ∷ fields)) (1 + length fields) ≡ false
       → message_in length_of read (code ∷ fields) ≡ None

@@ -19,7 +19,7 @@ pub record IsGrammar {V : Type 0} (Spells : V → List ℕ → Type 0) (length_o
   pub takes : (code : ℕ) (fields : List ℕ) → IsOctets fields → length fields ≤ 772
       → length_of (code ∷ fields) ≡ Some (suc (length fields)) → Spells (read code fields) (code ∷ fields)
 
--- a code and fields that fit in a frame, are as many as they need, and are read as this message
+-- a code and fields that fit in a frame, have the length that they need, and are read as this message
 pub record IsReadAgain {V : Type 0} (length_of : List ℕ → Option ℕ) (read : ℕ → List ℕ → V)
     (message : V) (code : ℕ) (fields : List ℕ) : Type 0 where
   pub again : read code fields ≡ message

@@ -1,4 +1,4 @@
--- Octets that are as many as their message needs, and fit in a frame; all others are refused.
+-- Octets that have the length that their message needs, and fit in a frame; all others are refused.
 use Rattle.std.proofs.Common.{◌≡◌, ◌⊎◌, ℕ, suc, ◌≤◌, List, [], ◌∷◌, length, Option, Some, None, refl, sym, ap, ◌∙◌, arith, inl, inr}
 use Rattle.std.proofs.lemmas.Bool.{cases_lt, cases_eq}
 use Rattle.fio_message.specs.declared.faults.DecodeError.{DecodeError}

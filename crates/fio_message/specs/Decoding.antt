@@ -14,12 +14,12 @@ use Rattle.fio_message.specs.Blocks.{Block}
 use Rattle.fio_message.specs.Reading.{command_at, answer_at}
 use Rattle.fio_message.specs.declared.limits.TheConstants.{BODY_OCTETS, FRAME_OCTETS}
 
--- whether so many octets are as many as needed; None says that no message has their type
+-- whether so many octets are the number needed; None says that no message has their type
 abbrev pub is_length : Option ℕ → ℕ → Bool
 is_length None count = false
 is_length (Some needed) count = needed == count
 
--- The message that octets spell: what is read of them, where they are as many as needed and fit in
+-- The message that octets spell: what is read of them, where they have the length needed and fit in
 -- a frame.
 unfoldable pub message_in :
     {V : Type 0} → (List ℕ → Option ℕ) → (ℕ → List ℕ → V) → List ℕ → Option V
@@ -37,7 +37,7 @@ command_in octets = message_in command_length command_at octets
 abbrev pub answer_in : List ℕ → Option Answer
 answer_in octets = message_in answer_length answer_at octets
 
--- the fault of octets that fit in a frame: their type is unknown, or they are not as many as needed
+-- the fault of octets that fit in a frame: their type is unknown, or they do not have the length needed
 abbrev pub mismatch : Option ℕ → ℕ → ℕ → DecodeError
 mismatch None code got = UnknownType code
 mismatch (Some needed) code got = WrongLength needed got

@@ -31,7 +31,7 @@ block_sent_again block = record {
   stamp = block.stamp;
 }
 
--- Where the status stands in the octets of a block, after as many entries as the octet at place 2
+-- Where the status is in the octets of a block, after as many entries as the octet at place 2
 -- counts; and these octets with the status of the block sent again. Only private contracts speak of
 -- these two.
 abbrev pub status_place : List ℕ → ℕ

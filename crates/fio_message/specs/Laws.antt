@@ -28,7 +28,7 @@ module _ {V : Type 0} (Spells : V → List ℕ → Type 0) where
   abbrev pub NoTwoSpellOneList : Type 0
   NoTwoSpellOneList = (a b : V) (octets : List ℕ) → Spells a octets → Spells b octets → a ≡ b
 
-  -- 1 to 773 octets of a known type are spelled exactly if they are as many as needed
+  -- 1 to 773 octets of a known type are spelled exactly if they have the length needed
   abbrev pub IsSpelledAtNeededLength : (List ℕ → Option ℕ) → Type 0
   IsSpelledAtNeededLength length_of =
       (octets : List ℕ) (needed : ℕ) → IsOctets octets → IsFrameLength (length octets) →

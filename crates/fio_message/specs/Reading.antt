@@ -1,4 +1,4 @@
--- What is read of octets, field by field, where they are as many as their message needs. Only the
+-- What is read of octets, field by field, where they have the length that their message needs. Only the
 -- definitions of decoding and of the block view rest on these: crates above speak of `command_in`
 -- and `answer_in`, or of spelling. Where an octet is missing it is read as 0, which no claim rests
 -- on.

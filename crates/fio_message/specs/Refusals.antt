@@ -16,7 +16,7 @@ Refuses needed octets (UnknownType code) =
 Refuses needed octets (WrongLength right got) =
     IsFrameLength got × (got ≡ length octets) × (needed ≡ Some right) × (right ≢ got)
 
--- The octets are a type and fields, fit in a frame, and are as many as their message needs: what is
+-- The octets are a type and fields, fit in a frame, and have the length that their message needs: what is
 -- left where no fault applies. The private first step of all decoders cites it.
 pub record IsWhole (needed : Option ℕ) (octets : List ℕ) (code : ℕ) (fields : List ℕ) : Type 0 where
   pub parts : octets ≡ code ∷ fields

@@ -148,7 +148,7 @@ impl AnswerView<'_> {
     }
 }
 
-/// The answer with this type and these octets after it, which are as many as it needs.
+/// The answer with this type and these octets after it, which have the length that it needs.
 #[inline(always)]
 fn view_of(code: u8, fields: &[u8]) -> AnswerView<'_>
     requires frame { length fields.now ≤ BODY_OCTETS }

@@ -119,7 +119,7 @@ impl CommandView<'_> {
     }
 }
 
-/// The command with this type and these octets after it, which are as many as it needs.
+/// The command with this type and these octets after it, which have the length that it needs.
 #[inline(always)]
 fn view_of(code: u8, fields: &[u8]) -> CommandView<'_>
     requires frame { length fields.now ≤ BODY_OCTETS }

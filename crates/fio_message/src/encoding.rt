@@ -104,7 +104,7 @@ fn append_command_fields(frame: &mut Frame, command: &Command)
     }
 }
 
-/// Writes the octets that a command spells, in place of what the frame holds. They are those of
+/// Writes the octets that a command spells, which replace what the frame holds. They are those of
 /// `encode_command`, with no frame moved.
 #[inline(always)]
 pub fn write_command(command: &Command, frame: &mut Frame)
@@ -167,7 +167,7 @@ fn append_answer_fields(frame: &mut Frame, answer: &Answer)
     }
 }
 
-/// Writes the octets that an answer spells, in place of what the frame holds. They are those of
+/// Writes the octets that an answer spells, which replace what the frame holds. They are those of
 /// `encode_answer`, with no frame moved.
 #[inline(always)]
 pub fn write_answer(answer: &Answer, frame: &mut Frame)

@@ -40,7 +40,7 @@ impl KeptBlock {
         &self.octets[..length]
     }
 
-    /// Keeps a block in place of what is there. Its entries are those of the first part and then of
+    /// Keeps a block, which replaces what is there. Its entries are those of the first part and then of
     /// the second, no more than `most`.
     pub fn write(
         &mut self,
@@ -112,7 +112,7 @@ impl KeptBlock {
         mark_again(kept);
     }
 
-    /// Writes the octets in place of what the frame holds.
+    /// Writes the octets, which replace what the frame holds.
     pub fn copy_to(&self, frame: &mut Frame)
         ensures { frame.new.items ≡ kept_octets self.now }
     {

@@ -32,7 +32,7 @@ module _ (settings : Settings) (range : AreInRange settings) (scans : ℕ) (life
   abbrev IsOften : Life → Type 0
   IsOften later = scans_since_block later life ≤ scans
 
-  -- so few stand beyond it
+  -- so few are beyond it
   few_stand : (later : Life) → NoneIsApplied (filter_events later) → IsOften later → IsTaken later
       → length (log_of (later ++ life)) ≤ newest_end settings (later ++ life) + settings.per_block
   few_stand later none often t =

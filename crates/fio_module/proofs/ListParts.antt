@@ -1,4 +1,4 @@
--- What stands in parts of a list, and what holds of it.
+-- What is in parts of a list, and what holds of it.
 use Rattle.std.proofs.Common.{◌≡◌, ℕ, zero, suc, ◌+◌, ◌-◌, ◌<◌, ◌≤◌, List, [], ◌∷◌, ◌++◌, length, drop, Some, slice_get, refl, ap, ◌∙◌, arith}
 use Rattle.std.specs.List.{AllByRecursion}
 
@@ -11,7 +11,7 @@ pub each-back : {A : Type 0} (P : A → Type 0) (xs ys : List A) → AllByRecurs
 each-back P [] ys all = all
 each-back P (x ∷ xs) ys all = each-back P xs ys all.1
 
--- what stands in one of two lists
+-- what is in one of two lists
 pub get_in_front : {A : Type 0} (xs ys : List A) (k : ℕ) (x : A) → k < length xs → slice_get (xs ++ ys) k ≡ Some x
     → slice_get xs k ≡ Some x
 get_in_front [] ys k x low is = absurd (omega arith)
@@ -26,7 +26,7 @@ get_in_back (z ∷ xs) ys (suc k) x high is =
     let same : suc k - length (z ∷ xs) ≡ k - length xs = omega arith in
     ap (slice_get ys) same ∙ get_in_back xs ys k x (omega arith) is
 
--- what holds of what stands at each place holds of each
+-- what holds of what is at each place holds of each
 pub each-from_get : {A : Type 0} (P : A → Type 0) (xs : List A) → ((k : ℕ) (x : A) → slice_get xs k ≡ Some x → P x)
     → AllByRecursion P xs
 each-from_get P [] at = tt
@@ -40,7 +40,7 @@ get_in_drop (suc n) [] k x is = absurd (cc is)
 get_in_drop (suc n) (y ∷ xs) k x is =
     let same : suc n + k ≡ suc (n + k) = omega arith in ap (slice_get (y ∷ xs)) same ∙ get_in_drop n xs k x is
 
--- what stands in one of two lists stands in both, and the last element stands at the end
+-- what is in one of two lists is in both, and the last element is at the end
 pub get_from_front : {A : Type 0} (xs ys : List A) (k : ℕ) (x : A) → slice_get xs k ≡ Some x → slice_get (xs ++ ys) k ≡ Some x
 get_from_front [] ys k x is = absurd (cc is)
 get_from_front (z ∷ xs) ys zero x is = is

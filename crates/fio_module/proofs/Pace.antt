@@ -94,7 +94,7 @@ module _ (settings : Settings) (opened filter scans most : ℕ) (life : Life) (s
   abbrev IsFew : Life → Type 0
   IsFew later = FewStayOpen opened filter (filter_events later) (filter_events life)
 
-  -- how many stand beyond the newest block
+  -- how many are beyond the newest block
   abbrev beyond : Life → ℕ
   beyond later = length (log_of (later ++ life)) - newest_end settings (later ++ life)
 
@@ -113,7 +113,7 @@ module _ (settings : Settings) (opened filter scans most : ℕ) (life : Life) (s
         few = reports_times_filter opened filter (filter_events upto) (filter_events rest) some (few_since opened filter upto before life few);
       }
 
-  -- few stand beyond the newest block
+  -- few are beyond the newest block
   bound : (later : Life) → IsFew later → IsPaced settings scans life later
       → beyond later * filter + opened * 1 ≤ opened * (scans_behind scans later life + filter)
   bound later stay p =

@@ -1,4 +1,4 @@
--- What has happened to a module. Histories and lives stand newest first.
+-- What has happened to a module. Histories and lives are newest first.
 use Rattle.std.specs.Prelude.{ℕ, List, [], ◌∷◌, Option, Some, None}
 use Rattle.fio_message.specs.declared.commands.Command.{Command}
 use Rattle.fio_message.specs.declared.commands.Command.TheVariants.{LoadCounter, ConfigureInputs}

@@ -15,7 +15,7 @@ use Rattle.fio_module.specs.Sendings.{answer_of, latest_sending}
 use Rattle.fio_module.specs.Flags.{flags_of, watchdog_of, word_of}
 use Rattle.fio_message.specs.declared.limits.TheConstants.{INPUTS}
 
--- the answer to a command after a life. Where a stamp stands it is the counter after that life
+-- the answer to a command after a life. A stamp is the counter after that life
 abbrev pub answer_to : Settings → Life → Command → Option Answer
 -- the flags that are left after the clearing; both error counts stay 0
 answer_to settings life (Status clear) =

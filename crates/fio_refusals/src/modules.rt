@@ -9,7 +9,7 @@ pub(crate) fn new(alloc: Global) -> Answer {
     made(Module::new(alloc, 2))
 }
 
-/// The same with other limits.
+/// Like the one above, with other limits.
 pub(crate) fn with_limits(alloc: Global) -> Answer {
     let Some(limits) = Limits::new(1, 8192) else {
         return Answer::Wrong;

@@ -12,7 +12,7 @@ pub(crate) fn new(alloc: Global) -> Answer {
     made(World::new(alloc, 2, 255))
 }
 
-/// The same with other limits.
+/// Like the one above, with other limits.
 pub(crate) fn with_limits(alloc: Global) -> Answer {
     let Some(limits) = Limits::new(1, 8192) else {
         return Answer::Wrong;

@@ -21,7 +21,7 @@ ending-short stamp wide few more =
     let ten = length-decimal-le 10 wide (omega arith) (omega (arith, more)) (omega (arith, more)) in
     omega (arith, five, ten, length-append (decimal stamp) (codes " wide " ++ (decimal wide ++ codes "\n")), length-append (decimal wide) (codes "\n"))
 
--- octets that stand at the front of 32 that are copied before others
+-- octets that are at the front of 32 that are copied before others
 pub copied-front : (octets rest behind : List ℕ) (count : ℕ) → length octets ≡ count → count ≤ 32
     → take count (take 32 (octets ++ rest) ++ behind) ≡ octets
 copied-front octets rest behind count long few =
@@ -34,7 +34,7 @@ one_digit : (level : Bool) → length (decimal (bit_of level)) ≤ 1
 one_digit true = length-decimal-le 1 1 (omega arith) (omega arith) (omega arith)
 one_digit false = length-decimal-le 1 0 (omega arith) (omega arith) (omega arith)
 
--- what stands before it
+-- what is before it
 module _ (margin : List ℕ) (input : ℕ) (level : Bool) where
   abbrev pub front : List ℕ
   front = margin ++ (codes "input " ++ (decimal input ++ (codes " state " ++ decimal (bit_of level))))

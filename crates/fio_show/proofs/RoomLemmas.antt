@@ -3,7 +3,7 @@ use Rattle.std.proofs.Common.{◌≡◌, ℕ, ◌+◌, ◌-◌, ◌≤◌, List,
 use Rattle.std.proofs.Math.Seq.{drop-append-add}
 use Rattle.std.proofs.lemmas.List.{drop-drop}
 
--- what stands from `end` on is kept where octets are put before it
+-- what is from `end` on is kept where octets are put before it
 pub kept : (old new octets : List ℕ) (start end at : ℕ) → drop start new ≡ octets ++ drop end old → start + length octets ≡ end → end ≤ at
     → drop at new ≡ drop at old
 kept old new octets start end at put starts past =

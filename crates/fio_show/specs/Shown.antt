@@ -1,4 +1,4 @@
--- What follows the first line of a message, which stands in the frame until it is written.
+-- What follows the first line of a message, which is in the frame until it is written.
 use Rattle.std.specs.Prelude.{ℕ, List, [], ◌++◌, codes}
 use Rattle.std.specs.List.{flat_map}
 use Rattle.fio_message.specs.Views.{items_of, entries_of, body_of}

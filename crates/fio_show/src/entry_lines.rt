@@ -10,7 +10,7 @@ use crate::put_pieces;
 use fio_message::Entry;
 use std::marker::Model;
 
-/// Where the ending of a line starts, behind room for what stands before it.
+/// Where the ending of a line starts, behind room for what is before it.
 const ENDING: usize = 64;
 
 /// Room for the line of an entry: all of it is copied, since a known number of octets is copied without
@@ -42,7 +42,7 @@ impl Model for EntryLines {
 
     ghost view = { λ v. tt };
 
-    // The stamp and the wide time stand in the place of the ending.
+    // The stamp and the wide time are in the ending.
     ghost invariant = { λ v. (take v.ending (drop ENDING v.line) ≡ scan_ending v.stamp v.wide)
         × (v.ending ≤ ENDING_ROOM) };
 }

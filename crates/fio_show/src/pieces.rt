@@ -14,7 +14,7 @@ pub const NAME_OCTETS: usize = 40;
 /// The most digits of a number of 64 bits.
 const DIGITS: usize = 20;
 
-/// Puts pieces before what stands in a line from `end` on: octets of a known number as they are
+/// Puts pieces before what is in a line from `end` on: octets of a known number as they are
 /// (`b".."` or `(octets)`), a number of at most 64 bits in decimal digits (`{number}`), an octet or
 /// octets in hexadecimal digits of lower case (`[octet]`, `[&octets]`). Its value is where the line
 /// starts then.
@@ -61,7 +61,7 @@ pub fn line_end(line: &[u8; LINE_OCTETS]) -> usize
     line.len()
 }
 
-/// Puts octets, whose number is known when this is compiled, before what stands in a line from `end`
+/// Puts octets, whose number is known when this is compiled, before what is in a line from `end`
 /// on, for which there has to be room, and returns where the line starts then. What stood from `end`
 /// on stays.
 // Inlined, so that the places and lengths of the pieces of a line are known when it is compiled.

@@ -2,7 +2,7 @@
 //! again, that calls succeed at sizes beyond 65,536, and failing readers and writers. Refused memory is the matter of the
 //! crate `fio_refusals`; worked examples are rows of `tests/`, over the program and the library for C.
 //!
-//! They stand in a crate of their own, since a crate with tests is proved twice.
+//! They are in a crate of their own, since a crate with tests is proved twice.
 #![tactic(auto)]
 
 /// More than sixteen bits count of frames, events, lines and digits.

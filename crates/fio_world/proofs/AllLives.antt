@@ -150,19 +150,19 @@ apart_order from to (first ∷ blocks) (suc j) zero s t apart less p q = absurd 
 apart_order from to (first ∷ blocks) (suc j) (suc k) s t apart less p q =
     apart_order first.end to blocks j k s t apart.2 (omega arith) p q
 
--- the transitions of a block stand in a log from its start up to its end
+-- the transitions of a block are in a log from its start up to its end
 pub record StandsIn (log : List Transition) (block : MadeBlock) : Type 0 where
   pub count : block.start + length block.transitions ≡ block.end
   pub places : (i : ℕ) (t : Transition) → slice_get block.transitions i ≡ Some t
       → slice_get log (block.start + i) ≡ Some t
 
--- what stands in a log stands in a longer one
+-- what is in a log is in a longer one
 stands-more : (log more : List Transition) (block : MadeBlock) → StandsIn log block
     → StandsIn (log ++ more) block
 stands-more log more block s =
     record { count = s.count; places = λ i t is. get_before_push log more (block.start + i) t (s.places i t is) }
 
--- a part of a life's log stands behind the logs before it
+-- a part of a life's log is behind the logs before it
 stands-behind : (past log : List Transition) (per_block : ℕ) (block : MadeBlock)
     → IsPartOf log per_block block
     → StandsIn (past ++ log) (behind (length past) block)
@@ -184,7 +184,7 @@ stand-follow past log per_block before [] follow = tt
 stand-follow past log per_block before (block ∷ blocks) follow =
     (stands-behind past log per_block block follow.1, stand-follow past log per_block block.end blocks follow.2)
 
--- the blocks of a life stand in its log, joined to those before it
+-- the blocks of a life are in its log, joined to those before it
 stand-joined : (settings : Settings) (blocks : List MadeBlock) (past : List Transition) (life : Life)
     → AllByRecursion (StandsIn past) blocks
     → AllByRecursion (StandsIn (past ++ log_of life)) (joined settings blocks (length past) life)
@@ -193,7 +193,7 @@ stand-joined settings blocks past life stand =
     (each-map (StandsIn past) (StandsIn (past ++ log_of life)) (stands-more past (log_of life)) blocks stand)
     (stand-follow past (log_of life) settings.per_block 0 (blocks_of settings life) (blocks_follow settings life))
 
--- the blocks of the lives before the present one stand in their logs
+-- the blocks of the lives before the present one are in their logs
 past_stand : (settings : Settings) (history : History)
     → AllByRecursion (StandsIn (past_log history)) (past_blocks settings history)
 past_stand settings [] = tt
@@ -202,7 +202,7 @@ past_stand settings (Restart ∷ history) =
     (stand-joined settings (past_blocks settings history) (past_log history) (life_of history) (past_stand settings history))
 past_stand settings (other ∷ history) = past_stand settings history
 
--- the blocks of all lives stand in the joined log
+-- the blocks of all lives are in the joined log
 pub blocks_stand : (settings : Settings) (history : History)
     → AllByRecursion (StandsIn (whole_log history)) (all_blocks settings history)
 blocks_stand settings history =

@@ -5,7 +5,7 @@ use Rattle.std.proofs.lemmas.List.{take_more}
 use Rattle.std.specs.Fmt.{digits, digit_glyph, padded_integral, format_spec}
 use Rattle.hex.specs.Hex.{encode_with, encode_lower, lower_digits}
 
--- the digits of two lists of octets stand one after the other
+-- the digits of two lists of octets are one after the other
 encode_with-append : (table front back : List ℕ)
     → encode_with table (front ++ back) ≡ encode_with table front ++ encode_with table back
 unfolding encode_with

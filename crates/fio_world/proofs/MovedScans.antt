@@ -71,7 +71,7 @@ hears_earlier settings first machine last (Raise mask ∷ events) index all lead
     (rest.0, (refl, subst (λ m. Leads settings first m events last) (sym (heard-then settings first machine (Raise mask) index tt)) rest.1))
 hears_earlier settings first machine last (other ∷ events) index all leads = absurd all.0
 
--- what stands before the delivery of the poll stays there
+-- what is before the delivery of the poll stays there
 then_moved : (settings : Settings) (first : ℕ) (machine last : Machine) (events : List Event) (command answer : ℕ) (later : List Event)
     → AllByRecursion ReachesModule later
     → Leads settings first machine (events ++ Poll ∷ ToModule command ∷ (later ++ ToCpu answer ∷ [])) last

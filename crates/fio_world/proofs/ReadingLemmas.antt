@@ -39,7 +39,7 @@ with_first-start read most count values left lines none zeroth all =
     let nothing_less : most - count ≡ most = omega (arith, zeroth) in
     rw (none, nothing_less, all) (with_first-none (read most lines))
 
--- what is read in all, where these events stand above the lines
+-- what is read in all, where these events are above the lines
 unfoldable pub read_on : List Event → ℕ → Bool → List (ℕ × List ℕ) → Result (List Event) ScriptError
 read_on events count restarts lines = with_first events (values_or_fault (readings (MAX_EVENTS - count) restarts lines))
 
@@ -128,7 +128,7 @@ same_line restarts number above line (Some other) form read is same is_one =
     let form_is : other ≡ form = cc is in
     rw (← same) (sym (read_again restarts number above (event_of form) (rw (← form_is) read) is_one))
 
--- lines that give these events stand above the lines that are left
+-- lines that give these events are above the lines that are left
 pub record HaveRead (restarts : Bool) (all left : List (ℕ × List ℕ)) (events : List Event) : Type 0 where
   pub above : List (ℕ × List ℕ)
   pub all_are : all ≡ above ++ left

@@ -47,7 +47,7 @@ deliverable frames last index fine =
     let found = some_block frames (index - 1) (omega arith) in
     record { place = index - 1; numbered = omega arith; frame = found.0; found = found.1; in_order = order }
 
--- the frame with a number stands at the place before
+-- the frame with a number is at the place before
 pub frame_at_place : (frames : List SentFrame) (place : ℕ)
     → item_numbered frames (place + 1) ≡ slice_get frames place
 frame_at_place frames place = let next : place + 1 ≡ suc place = omega arith in ap (item_numbered frames) next

@@ -1,4 +1,4 @@
--- Frames that stand end to end, and where each ends.
+-- Frames that are end to end, and where each ends.
 use Rattle.std.specs.Prelude.{◌==◌, ◌&&◌, nat_le, ◌-◌, ℕ, zero, suc, Bool, List, [], ◌∷◌, length, take, drop}
 use Rattle.fio_message.specs.declared.limits.TheConstants.{FRAME_OCTETS}
 use Rattle.std.specs.List.{list_all}

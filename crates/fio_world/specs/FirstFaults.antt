@@ -12,7 +12,7 @@ values_or_fault [] = Ok []
 values_or_fault (Ok value ∷ rest) = with_first (value ∷ []) (values_or_fault rest)
 values_or_fault (Err e ∷ rest) = Err e
 
--- the fault stands at a place above which each reading is a value
+-- the fault is at a place above which each reading is a value
 abbrev pub IsFirstFault : {A E : Type 0} → List (Result A E) → E → Type 0
 IsFirstFault {A} {E} readings e =
     (values : List A) × (rest : List (Result A E)) × (readings ≡ map Ok values ++ (Err e ∷ rest))

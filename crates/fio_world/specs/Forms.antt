@@ -8,7 +8,7 @@ use Rattle.fio_world.specs.Words.{after_prefix, halves_of}
 abbrev pub exactly : {A : Type 0} → List ℕ → Option A → List ℕ → Option A → Option A
 exactly words value line other = if bytes_eq line words then value else other
 
--- the line begins so, and what stands after it is read so
+-- the line begins so, and what is after it is read so
 abbrev pub begins : {A : Type 0} → List ℕ → (List ℕ → Option A) → List ℕ → Option A → Option A
 begins beginning read line other = option_map_or read (after_prefix beginning line) other
 

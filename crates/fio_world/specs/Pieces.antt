@@ -42,7 +42,7 @@ pub record HasLoss (blocks : List MadeBlock) (before start : ℕ) : Type 0 where
   pub forward : before < start
 
 -- The pieces are a life's transition log from one place up to another: each entry is the one that
--- stands next in the log, and only a gap mark passes some over, from where a block ended to where
+-- is next in the log, and only a gap mark passes some over, from where a block ended to where
 -- the next one, which says so, starts.
 abbrev pub ArePieces : Settings → Life → ℕ → List Piece → ℕ → Type 0
 ArePieces settings life from [] to = to ≡ from

@@ -16,7 +16,7 @@ pub record Report : Type 0 where
 abbrev pub after_text : List ℕ → Report → Report
 after_text text rest = record { text = text ++ rest.text; good = rest.good }
 
--- an event that is refused has the last line; else its line stands above what follows
+-- an event that is refused has the last line; else its line is above what follows
 abbrev pub unless_refused : ℕ → Option Refusal → List ℕ → Report → Report
 unless_refused number None line rest = after_text line rest
 unless_refused number (Some reason) line rest =

@@ -13,7 +13,7 @@ entries_got (Gap ∷ pieces) = entries_got pieces
 entries_got (EntryPiece entry ∷ pieces) = entry ∷ entries_got pieces
 
 -- The pieces rise through a log: there are strictly rising places in it, one for each entry in
--- order, and each entry is the one that stands there.
+-- order, and each entry is the one that is there.
 pub record Rises (log : List Transition) (pieces : List Piece) : Type 0 where
   pub places : List ℕ
   pub rise : IsStrictlyIncreasing places

@@ -5,7 +5,7 @@ use Rattle.std.specs.Char.{is_ascii_digit}
 use Rattle.std.specs.Str.{bytes_eq}
 use Rattle.std.specs.Str.Parse.{digits_value}
 
--- what stands after a line's beginning, where the line begins so
+-- what is after a line's beginning, where the line begins so
 abbrev pub after_prefix : List ℕ → List ℕ → Option (List ℕ)
 after_prefix prefix line =
     if bytes_eq (take (length prefix) line) prefix then Some (drop (length prefix) line) else None
@@ -14,7 +14,7 @@ after_prefix prefix line =
 abbrev pub is_blank : ℕ → Bool
 is_blank octet = octet == 32
 
--- what stands before a line's first blank, and what stands after it
+-- what is before a line's first blank, and what is after it
 abbrev pub halves_of : List ℕ → Option (List ℕ × List ℕ)
 halves_of line = option_map (λ end. (take end line, drop (end + 1) line)) (position is_blank line)
 

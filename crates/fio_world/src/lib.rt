@@ -14,7 +14,7 @@
 //! frames (`Frames`), the record as pieces of the transition log (`Pieces`), the headline (`Headline`),
 //! what else is promised (`Claims`), the order of rounds that it rests on (`Rounds`), the rising record,
 //! through restarts too (`Rising`), what arrives (`Delivery`), how soon (`InTime`, `AnyTime`), also from
-//! the raw sample on (`NewLevels`), all of it for one run (`Sound`). What contracts see of a world: frames that stand end to end (`EndToEnd`), both ends
+//! the raw sample on (`NewLevels`), all of it for one run (`Sound`). What contracts see of a world: frames that are end to end (`EndToEnd`), both ends
 //! (`Ends`), what an event did (`Effects`), and how a world shows the machine (`Worlds`). The laws are the
 //! contracts of the module `laws`.
 //!

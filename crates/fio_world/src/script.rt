@@ -40,7 +40,7 @@ pub struct Script {
 pub enum ScriptError {
     /// The first line is no header of a version that there is, or there is no line.
     BadHeader,
-    /// 10,000 events stand above the line, whatever it holds.
+    /// 10,000 events are above the line, whatever it holds.
     TooManyEvents {
         /// The number of the line.
         line: usize,

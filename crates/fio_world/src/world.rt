@@ -64,7 +64,7 @@ impl World {
         World::with_limits(alloc, id, first, Limits::STANDARD)
     }
 
-    /// The same with a module of these limits.
+    /// Like `new`, with a module of these limits.
     ///
     /// # Errors
     /// `Memory` where there is none for the module's waiting entries.
@@ -100,7 +100,7 @@ impl World {
         World::run_with_limits(alloc, id, first, Limits::STANDARD, events)
     }
 
-    /// The same with a module of these limits.
+    /// Like `run`, with a module of these limits.
     ///
     /// # Errors
     /// Those of `run`.

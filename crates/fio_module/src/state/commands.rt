@@ -54,7 +54,7 @@ fn short_answer(code: u8, fields: &[u8]) -> ShortAnswer
     answer
 }
 
-/// Writes a short answer into a frame, in place of what it holds.
+/// Writes a short answer into a frame, instead of what it holds.
 fn write_short(answer: &ShortAnswer, frame: &mut Frame)
     ensures { frame.new.items ≡ answer.now.items }
 {

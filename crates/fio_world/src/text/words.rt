@@ -7,14 +7,14 @@ use fio_message::{Memory, inputs_from_octets};
 use hex::{FromHex, FromHexError};
 use std::alloc::Global;
 
-/// What stands after a line's beginning, or `None` where the line begins otherwise.
+/// What is after a line's beginning, or `None` where the line begins otherwise.
 pub fn after_prefix<'a>(line: &'a [u8], prefix: &[u8]) -> Option<&'a [u8]>
     ensures { option_map (λ rest. rest.now) result ≡ after_prefix prefix.now line.now }
 {
     line.strip_prefix(prefix)
 }
 
-/// What is before a line's first blank, and what stands after it. `None` where it has none.
+/// What is before a line's first blank, and what is after it. `None` where it has none.
 pub fn split_at_blank(line: &[u8]) -> Option<(&[u8], &[u8])>
     ensures { option_map (λ cut. (cut.0.now, cut.1.now)) result ≡ halves_of line.now }
 {

@@ -2,7 +2,7 @@
 use fio_cpu::Heard;
 
 /// What an event did. A frame that was sent is named by its number among those of its direction: its
-/// octets stand in the world.
+/// octets are in the world.
 #[derive(Clone, Copy)]
 pub(crate) enum Effect {
     /// The CPU sent the frame with this number.

@@ -11,7 +11,7 @@ use fio_message::{FRAME_OCTETS, Frame, Memory};
 use std::alloc::Global;
 use std::marker::Model;
 
-/// Frames, numbered from 1. Their octets stand end to end.
+/// Frames, numbered from 1. Their octets are end to end.
 #[derive(Drop)]
 pub(crate) struct StoredFrames {
     octets: Vec<u8>,

@@ -163,7 +163,7 @@ impl World {
         self.to_module.octets_or_none(index)
     }
 
-    /// The same of the frame to the CPU.
+    /// The octets of the frame to the CPU with this number, or none where there is no such frame.
     pub(crate) fn octets_to_cpu(&self, index: usize) -> &[u8]
         ensures is { result.now ≡ octets_numbered self.now.to_cpu index }
         ensures short { length result.now ≤ FRAME_OCTETS }
