@@ -48,7 +48,7 @@ abbrev pub answer_code : Answer → ℕ
 answer_code answer = answered_code answer + ANSWER
 
 -- The octets after the type: numbers most significant octet first, a stamp in four octets, a count
--- before its entries, a body as it stands. The bits of a flag or status octet stand as they are,
+-- before its entries, a body as it is. The bits of a flag or status octet are kept as they are,
 -- also those that have no name (own profile). Named are: of the flags, from bit 7 down, P (the
 -- module was reset), E, K, R, T, M, L and W; of a status, those of the file `Status`. Letters and
 -- order of the flags and all places are own profile.

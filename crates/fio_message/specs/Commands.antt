@@ -38,7 +38,7 @@ command_code Identify = IDENTIFY
 command_code (Other kind _) = other_command_code kind
 
 -- The octets after the type: a number most significant octet first, a count before its items, the
--- data octets of the outputs before the control octets, a body as it stands. Flags to clear stand
+-- data octets of the outputs before the control octets, a body as it is. Flags to clear are
 -- in the places of the flags of an answer: from bit 7 down P, E, K, R, T, M, L and W (own profile).
 abbrev pub command_fields : Command → List ℕ
 command_fields (Status clear) = clear ∷ []

@@ -20,7 +20,7 @@ is_new (Some before) number = not (before == number)
 pub record MadeBlock : Type 0 where
   -- where the block before it ended, 0 for the first
   pub before : ℕ
-  -- the places from which and up to which its transitions stand
+  -- the places from which and up to which its transitions are
   pub start : ℕ
   pub end : ℕ
   pub transitions : List Transition

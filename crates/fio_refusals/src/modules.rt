@@ -24,7 +24,7 @@ fn made(module: Result<Module, Memory>) -> Answer {
     }
 }
 
-/// Octets, and what a module answers to them, whose inputs report each change: nothing where nothing stands.
+/// Octets, and what a module answers to them, whose inputs report each change: nothing where nothing is there.
 const ANSWERS: [(&[u8], &[u8]); 12] = [
     (&[0x31, 0x80], &[0xb1, 0, 0, 0, 0, 0, 0, 0]),
     (&[0x32, 0, 0, 0, 5], &[0xb2, 0]),

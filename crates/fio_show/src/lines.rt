@@ -13,7 +13,7 @@ use fio_input::widen;
 use fio_message::{Entry, InputItem, inputs_to_octets};
 
 /// The line of words alone, at most `NAME_OCTETS`.
-// Inlined, so that the places and lengths of the pieces of a line are known when it is compiled.
+// Inlined: the compiler then knows where each piece of a line is, and how long.
 #[inline(always)]
 pub(crate) fn put_words<const N: usize>(line: &mut [u8; LINE_OCTETS], words: &[u8; N]) -> usize
     requires { N ≤ NAME_OCTETS }

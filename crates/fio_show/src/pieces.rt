@@ -1,6 +1,7 @@
 //! Lines, written in pieces. A line is put together in room on the stack from its last piece to its
 //! first, since a number is written from its last digit to its first. `put_pieces!` takes the pieces
 //! in the order in which they are read.
+//! All calls are inlined: the compiler then knows where each piece of a line is, and how long.
 ghost use Rattle.std.specs.Prelude.{◌≡◌, ◌+◌, ◌*◌, ◌≤◌, ◌++◌, ℕ, [], length, take, drop, decimal};
 ghost use Rattle.fio_show.specs.Digits.{digits_of, octet_digits};
 ghost use Rattle.fio_show.specs.declared.pieces.TheConstants.{DIGITS, LINE_OCTETS};
@@ -52,7 +53,6 @@ macro_rules! put_pieces {
 }
 
 /// Where a line without a piece starts: behind its room.
-// Inlined, so that the places and lengths of the pieces of a line are known when it is compiled.
 #[inline(always)]
 pub fn line_end(line: &[u8; LINE_OCTETS]) -> usize
     ensures start { result ≡ LINE_OCTETS }
@@ -64,7 +64,6 @@ pub fn line_end(line: &[u8; LINE_OCTETS]) -> usize
 /// Puts octets, whose number is known when this is compiled, before what is in a line from `end`
 /// on, for which there has to be room, and returns where the line starts then. What stood from `end`
 /// on stays.
-// Inlined, so that the places and lengths of the pieces of a line are known when it is compiled.
 #[inline(always)]
 pub fn put<const N: usize>(line: &mut [u8; LINE_OCTETS], end: usize, octets: &[u8; N]) -> usize
     requires { (N ≤ end) × (end ≤ LINE_OCTETS) }
@@ -78,7 +77,6 @@ pub fn put<const N: usize>(line: &mut [u8; LINE_OCTETS], end: usize, octets: &[u
 }
 
 /// Puts octets at the beginning of others.
-// Inlined, so that the places and lengths of the pieces of a line are known when it is compiled.
 #[inline(always)]
 fn begin_with<const N: usize>(octets: &mut [u8], first: &[u8; N])
     requires { N ≤ length octets.old }
@@ -90,7 +88,6 @@ fn begin_with<const N: usize>(octets: &mut [u8], first: &[u8; N])
 }
 
 /// Puts a number in decimal digits, as `put` puts octets.
-// Inlined, so that the places and lengths of the pieces of a line are known when it is compiled.
 #[inline(always)]
 pub fn put_decimal(line: &mut [u8; LINE_OCTETS], end: usize, number: u64) -> usize
     requires { (DIGITS ≤ end) × (end ≤ LINE_OCTETS) }
@@ -102,7 +99,6 @@ pub fn put_decimal(line: &mut [u8; LINE_OCTETS], end: usize, number: u64) -> usi
 }
 
 /// Puts a number in decimal digits and, behind it, octets, as `put_decimal` and `put` put them.
-// Inlined, so that the places and lengths of the pieces of a line are known when it is compiled.
 #[inline(always)]
 pub fn put_number<const N: usize>(
     line: &mut [u8; LINE_OCTETS],
@@ -120,7 +116,6 @@ pub fn put_number<const N: usize>(
 }
 
 /// Puts an octet in two hexadecimal digits of lower case, as `put` puts octets.
-// Inlined, so that the places and lengths of the pieces of a line are known when it is compiled.
 #[inline(always)]
 #[tactic(auto, unfolding(crate::specs::Digits::octet_digits))]
 pub fn put_octet(line: &mut [u8; LINE_OCTETS], end: usize, octet: u8) -> usize
@@ -134,7 +129,6 @@ pub fn put_octet(line: &mut [u8; LINE_OCTETS], end: usize, octet: u8) -> usize
 }
 
 /// Puts octets in hexadecimal digits of lower case, two for each, as `put` puts octets.
-// Inlined, so that the places and lengths of the pieces of a line are known when it is compiled.
 #[inline(always)]
 #[tactic(auto, unfolding(crate::specs::Digits::digits_of))]
 pub fn put_hexadecimal(line: &mut [u8; LINE_OCTETS], end: usize, octets: &[u8]) -> usize

@@ -1,4 +1,4 @@
--- Begin with `Program`: the text and the exit status for each tool and input. Below it stand, in this
+-- Begin with `Program`: the text and the exit status for each tool and input. Below it are, in this
 -- order: the command line; the four texts, each above what it is made of; the laws of transcripts;
 -- and what is read and written.
 pub mod Program

@@ -77,7 +77,7 @@ module _ (settings : Settings) (range : AreInRange settings) (first : ℕ) (mach
       (taken_are_pieces settings life machine.round behind) in
       record { pieces = pieces; prefix = pieces_begin_log settings life (map piece_of machine.items) _ pieces }
 
-  -- where the record stands
+  -- how far the record is
   stands : StandsAtTaken settings machine
   stands =
       let made : next_round machine.polls ≡ length (blocks_in settings machine) = k.one_life.in_life.made in

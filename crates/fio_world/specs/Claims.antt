@@ -19,7 +19,7 @@ use Rattle.fio_world.specs.Pieces.{piece_of, pieces_of_blocks, ArePieces}
 abbrev pub blocks_in : Settings → Machine → List MadeBlock
 blocks_in settings machine = blocks_of settings (life_of machine.history)
 
--- Where the record stands: the CPU has taken all blocks that the module has made, or all but the
+-- How far the record is: the CPU has taken all blocks that the module has made, or all but the
 -- last, and the record is what the taken blocks are.
 pub record StandsAtTaken (settings : Settings) (machine : Machine) : Type 0 where
   pub behind :

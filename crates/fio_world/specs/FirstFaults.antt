@@ -17,7 +17,7 @@ abbrev pub IsFirstFault : {A E : Type 0} → List (Result A E) → E → Type 0
 IsFirstFault {A} {E} readings e =
     (values : List A) × (rest : List (Result A E)) × (readings ≡ map Ok values ++ (Err e ∷ rest))
 
--- what is collected is all the values, or the fault above which no other stands
+-- what is collected is all the values, or the fault above which there is no other
 pub record Collects {A E : Type 0} (readings : List (Result A E)) : Type 0 where
   pub values : (vs : List A) → values_or_fault readings ≡ Ok vs → readings ≡ map Ok vs
   pub fault : (e : E) → values_or_fault readings ≡ Err e → IsFirstFault readings e

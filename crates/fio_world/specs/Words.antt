@@ -10,7 +10,7 @@ abbrev pub after_prefix : List ℕ → List ℕ → Option (List ℕ)
 after_prefix prefix line =
     if bytes_eq (take (length prefix) line) prefix then Some (drop (length prefix) line) else None
 
--- the octet 32, which stands between words
+-- the octet 32, which is between words
 abbrev pub is_blank : ℕ → Bool
 is_blank octet = octet == 32
 

@@ -46,7 +46,7 @@ fn line_end(text: &[u8]) -> usize
     at
 }
 
-/// How many of sixteen octets stand before the first line feed among them.
+/// How many of sixteen octets are before the first line feed among them.
 // Inlined, so that the sixteen octets stay in a register.
 #[inline(always)]
 fn before_feed(octets: u8x16) -> usize

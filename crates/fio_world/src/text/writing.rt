@@ -19,7 +19,7 @@ macro_rules! push_line {
 }
 
 /// Appends a line that starts at this place of its room.
-// Inlined, so that the places and lengths of the pieces of a line are known when it is compiled.
+// Inlined: the compiler then knows where each piece of a line is, and how long.
 #[inline(always)]
 pub fn append_line(
     text: &mut Vec<u8>,
@@ -33,7 +33,7 @@ pub fn append_line(
 }
 
 /// Appends so many of these octets, the first.
-// Inlined, so that the places and lengths of the pieces of a line are known when it is compiled. All
+// Inlined: the compiler then knows where each piece of a line is, and how long. All
 // are copied, since a known number is copied without a call, and those behind are cut off again.
 #[inline(always)]
 pub fn append_part(text: &mut Vec<u8>, octets: &[u8], count: usize) -> Result<(), AllocError>

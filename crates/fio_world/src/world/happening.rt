@@ -57,7 +57,7 @@ impl WorldEvent for Step<'_> {
 
 impl World {
     /// Lets an event in the form of its line happen, or refuses it and changes nothing. What needs
-    /// room for a frame or a command stands apart: the room would be cleared for each event.
+    /// room for a frame or a command is apart: the room would be cleared for each event.
     // Inlined, so that an event of a known form goes straight to what it does.
     #[inline(always)]
     fn take(&mut self, form: &EventForm<'_>) -> Result<Effect, WorldError>
