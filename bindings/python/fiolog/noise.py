@@ -3,6 +3,7 @@
 import re
 
 from .grammar import heading
+from .literals import LOST_ESCAPE, OF_DIGITS, has_lost_in
 
 MOST_NOISE = 4096
 _DIGITS = re.compile('[0-9]')
@@ -16,6 +17,8 @@ def reason_of(text):
         return 'the last octet has one digit: the line may be cut'
     if _LOST_DIGIT.search(text):
         return 'an octet has one digit, and others have two'
+    if has_lost_in(text):
+        return LOST_ESCAPE
     if heading(text):
         return 'a heading'
     return 'no form of line that is known' if _HAS_OCTETS.search(text) else 'no octets'
@@ -32,6 +35,6 @@ class Noise:
         return self.reasons.get(_DIGITS.sub('0', text))
 
     def learn(self, text, reason):
-        """Keeps the reason of a line."""
-        if len(self.reasons) < MOST_NOISE:
+        """Keeps the reason of a line, unless other digits may be octets in it."""
+        if len(self.reasons) < MOST_NOISE and not OF_DIGITS.search(text):
             self.reasons[_DIGITS.sub('0', text)] = reason
