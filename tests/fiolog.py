@@ -152,6 +152,23 @@ def fault_of_damaged_stranger(name, text, expected):
     return None
 
 
+def fault_of_lost_characters(seed):
+    """A literal in which all is escaped, and which lost characters, makes no other frame in silence."""
+    draw = random.Random(seed)
+    frames = [octets for octets in random_session(seed, 60) if octets[0] in (0x31, 0x33, 0x36, 0xb3, 0xb5, 0xb6)]
+    for _ in range(60):
+        literals = [''.join('\\x%02x' % octet for octet in octets) for octets in frames]
+        place = draw.randrange(len(frames))
+        cut = draw.randrange(len(literals[place]))
+        literals[place] = literals[place][:cut] + literals[place][draw.randrange(cut, cut + 40) + 1:]
+        read = Read(''.join('%s(3, "%s", 4096) = %d\n' % ('read' if octets[0] & 0x80 else 'write', literal, len(octets))
+                            for octets, literal in zip(frames, literals)))
+        strange = [event for event in read.frames if event.octets not in frames]
+        if strange and not read.reader.doubts.remarks:
+            return '%r' % (strange[0],)
+    return None
+
+
 def check_damaged(check):
     """Each kind of damage is refused or remarked."""
     for name, text, count, words in DAMAGED:
@@ -183,6 +200,8 @@ def main():
             check.fault('damage in %s, seed %d' % (name, seed), fault_of_damage, name, 2 * place + seed)
     for name, text, expected in READ:
         check.fault('damage in %s' % name, fault_of_damaged_stranger, name, text, expected)
+    for seed in range(4):
+        check.fault('lost characters in literals, seed %d' % seed, fault_of_lost_characters, seed)
     for seed in range(3):
         check.fault('noise, seed %d' % seed, fault_of_noise, seed)
     check.end()

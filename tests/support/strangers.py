@@ -32,6 +32,7 @@ READ = [
     ('Saleae, an octet a line', 'Time [s],Analyzer Name,Decoded Protocol Result\n0.100,TX,0x36\n0.10001,TX,0x05\n0.2,RX,0xB3\n0.20001,RX,0x00\n',
      ['>' + POLL, '<b300']),
     ('strace -xx', 'write(3, "\\x36\\x05", 2) = 2\nread(3, "\\xb6\\x05\\x00\\x00\\x00\\x00\\x00\\x01", 4096) = 8\n', ['>' + POLL, '<' + EMPTY]),
+    ('strace -x', 'write(3, "\\x36\\x05", 2) = 2\nwrite(3, "\\x36\\x06", 2) = 2\nwrite(3, "6\\n", 2) = 2\n', ['>3605', '>3606', '>360a']),
     ('tshark -T json', '[\n' + ','.join('''  {
     "_source": {
       "layers": {
@@ -116,5 +117,8 @@ PASSED = [
     ('the rest of a row that may be a frame', 'b605038c41218d41228e412300000036\n05\n3605\n', ['-b605038c41218d41228e41230000003605', '-3605']),
     ('a row and a frame, or one frame', 'b605088c41218d41228e41238f4124904125914126924127934128000000\n3605\n', []),
     ('\\u of a letter above 255', 'TX "6\\u0105"\n', []),
+    ('an escape without its digits', 'write(3, "\\x36\\x05", 2) = 2\nwrite(3, "\\x36\\x", 2) = 2\n', ['>3605']),
+    ('an escape without its beginning', 'TX "\\x36\\x05"\nTX "\\x36A"\nRX "\\xb30"\nRX "\\xb3\\0"\n', ['>3605']),
+    ('octets lost in a call', 'write(3, "\\x36\\x05", 2) = 2\nread(3, "\\xb3\\x00", 4096) = 8\n', ['>3605']),
     ('a lone half of \\u', 'TX "6\\u000"\n', []),
 ]

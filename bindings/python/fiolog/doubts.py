@@ -1,11 +1,13 @@
 """What speaks against a frame although its octets spell a message: a count or a length that does not fit, an octet that
-lost a digit, a line that lost its beginning. What is only known later is a remark on the lines above."""
+lost a digit, a literal that lost characters, a line that lost its beginning. What is only known later is a remark on the
+lines above."""
 
 import re
 from collections import Counter
 
 from . import judge
 from .grammar import timed
+from .literals import ALL, LOST_ESCAPE, SOME, kind_at
 
 _LIST = re.compile(r'(?:(?:0x|\\x|[$%])?[0-9a-f]{1,2}(?:h\b)?(?![0-9a-z])[ \t,;:|<>-]*)+', re.IGNORECASE)
 _WORD = re.compile(r'(?:0x|\\x|[$%])?([0-9a-f]{1,2})(?![0-9a-f])', re.IGNORECASE)
@@ -52,6 +54,7 @@ class Doubts:
 
     def __init__(self):
         self.counted, self.singles, self.padded, self.heads, self.loose, self.numbers = Counter(), 0, 0, 0, 0, 0
+        self.literals = Counter()   # by which characters they escape
         self.early, self.remarks, self.has_rows = [], [], False
 
     def reason(self, number, text, same, octets, is_usual):
@@ -67,6 +70,10 @@ class Doubts:
         single, padded = digits_of(text[min(reading.start for reading in same):], octets)
         if single and self.padded > self.singles:
             return LOST_DIGIT
+        kind = kind_at(text, same[0].start) if same[0].notation == 'marks' else ''
+        if kind == SOME and self.literals[ALL] > self.literals[SOME]:
+            return LOST_ESCAPE
+        self._note_literal(number, kind)
         self._learn(number, same, octets, single, padded)
         self.numbers += may_lose_digits(text, octets)
         return ''
@@ -113,6 +120,15 @@ class Doubts:
         self.padded += count
         if self.padded > self.singles and not was_usual:
             self._remark('digit')
+
+    def _note_literal(self, number, kind):
+        """Notes which characters a literal escapes: where most escape all, those that do not were damaged."""
+        was_usual = self.literals[ALL] > self.literals[SOME]
+        self.literals[kind] += bool(kind)
+        if kind == SOME and len(self.early) < MOST_EARLY:
+            self.early.append((number, 'literal', LOST_ESCAPE))
+        if self.literals[ALL] > self.literals[SOME] and not was_usual:
+            self._remark('literal')
 
     def _remark(self, kind):
         """What was taken early, and is doubtful now."""

@@ -21,6 +21,8 @@ LONGEST_LINE = 16384
 
 # As `36 05 -> B3 00`: the arrow is no direction.
 _TWO_FRAMES = re.compile(r'(?:[0-9A-F]{2}[ ]){2,}(?:[-=]+>|\u2192|<[-=]+|/(?!/))', re.IGNORECASE)
+# Behind the octets of a call, as strace writes it, is how many they were.
+_RETURNED = re.compile(r'"(?:[^"\\]|\\.)*"(?:\.{3})?, .*\)[ \t]+=[ \t]*(?P<count>\d{1,5})(?!\S)')
 
 
 class Reading(NamedTuple):
@@ -155,7 +157,9 @@ def in_marks(text) -> List[Reading]:
     found = []
     for start, octets in delimited(text):
         time, direction = _head(text[:start])
-        found.append(Reading(('text',), 'marks', octets, time, direction, start=start))
+        returned = _RETURNED.match(text, start)
+        count = int(returned['count']) if returned else None
+        found.append(Reading(('text',), 'marks', octets, time, direction, count, start=start))
     return found
 
 

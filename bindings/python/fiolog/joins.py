@@ -23,14 +23,27 @@ def opens_array(text):
     return bool(_OPENED.search(_COMMENT.sub(' ', text)))
 
 
-def goes_on(text):
-    """Whether a line has octets of an array alone, or its end."""
-    return closes_array(text) or bool(_ARRAY_LINE.fullmatch(text))
+class Array:
+    """An array of a program, from the line that opens it."""
+
+    def __init__(self):
+        self.count, self.is_over = 1, False
+
+    def takes(self, text):
+        """Adds a line that has octets of an array alone, or its end; False where it has more, or there are too many."""
+        is_end = bool(_CLOSED.search(_COMMENT.sub(' ', text)))
+        if self.count >= MOST_LINES or not is_end and not _ARRAY_LINE.fullmatch(text):
+            return False
+        self.count, self.is_over = self.count + 1, is_end
+        return True
 
 
-def closes_array(text):
-    """Whether a line has the end of an array, outside of its comments."""
-    return bool(_CLOSED.search(_COMMENT.sub(' ', text)))
+class Rows:
+    """Octets of one channel, one a row. `found` has the readings of the last row."""
+
+    def __init__(self, channel, direction):
+        self.octets, self.channel, self.direction = bytearray(), channel, direction
+        self.found, self.is_uneven = (), False
 
 
 def offsets(text):

@@ -1,7 +1,8 @@
-"""Octets as logs write them: digits with all kinds of signs between, numbers, and string literals."""
+"""Octets as logs write them: digits with all kinds of signs between, and numbers; these and literals inside a line."""
 
 import re
 
+from . import literals
 from .forms import CHECK_TAIL, DECIMAL, HEX, HEX_LIST, TAILS
 
 # Where dumps of 16 octets a row have a gap.
@@ -9,7 +10,6 @@ HALF = 8
 _MARK = re.compile(r'0x|[^0-9a-f]+', re.IGNORECASE)
 _PAIRS = {'[': ']', '{': '}', '(': ')', '<': '>', '"': '"', "'": "'"}
 _SPLIT = re.compile(r'[ \t]{2,}|\t|[ \t]*\||[ \t]+(?=["\'<\[(:])')
-_QUOTED = re.compile(r'''(?P<prefix>\b(?:b|rb|br|u8))?(?P<quote>["'])(?P<text>(?:[^"'\\]|\\.|(?!(?P=quote))["'])*)(?P=quote)''')
 _LISTED = re.compile(r'\{(?P<braces>[^{}]*)\}|\[(?P<brackets>[^\[\]]*)\]|\((?P<rounds>[^()]*)\)|<<(?P<angles>[^<>]*)>>')
 _NUMBER = r'(?:\(\w+\)\s*)?(?:0x[0-9a-f]{1,2}[uU]?|-?\d{1,3})'
 _NUMBERS = re.compile(r'%s(?:[\s,;]+%s)*' % (_NUMBER, _NUMBER), re.IGNORECASE)
@@ -20,19 +20,12 @@ _WORDS = re.compile(r'''(["'])(?:0x)?[0-9a-f]{1,2}\1(?:[ \t]*,[ \t]*\1(?:0x)?[0-
 # An octet in brackets of its own.
 _SINGLE = re.compile(r'[\[{(<](?:0x)?[0-9a-f?]{1,2}[\]})>]', re.IGNORECASE)
 _COMMENT = re.compile(r'/\*.*?\*/|//.*$')
-_ESCAPE = re.compile(r'\\(?:x([0-9a-fA-F]{1,2})|([0-7]{1,3})|u00([0-9a-fA-F]{2})|(.))', re.DOTALL)
 _HALF_ESCAPE = re.compile(r'(?<!\\)(?:\\\\)*\\x(?![0-9a-fA-F]{2})')
-_ESCAPED = {'n': '\n', 'r': '\r', 't': '\t', 'a': '\a', 'b': '\b', 'f': '\f', 'v': '\v', 'e': '\x1b'}
-
-
-def is_uneven(words):
-    """Whether one word of digits has a single one, and another a zero before its digit: then a digit is lost."""
-    return any(len(word) == 1 for word in words) and any(word[0] == '0' for word in words if len(word) > 1)
 
 
 def from_digits(text):
     """The octets of a list of hexadecimal words; none where one has lost a digit."""
-    if is_uneven(_MARK.split(text)):
+    if literals.is_uneven(_MARK.split(text)):
         return b''
     return bytes.fromhex(''.join('0' + one if len(one) == 1 else one for one in _MARK.split(text)))
 
@@ -124,22 +117,6 @@ def readings(text):
             yield 'decimal', numbers
 
 
-def from_literal(text):
-    """The octets of a string literal of C, Python or a shell; None where a character is above 255 or lost a digit."""
-    escapes = list(_ESCAPE.finditer(text))
-    if is_uneven([escape[1] for escape in escapes if escape[1]]) or any(escape[4] == 'u' for escape in escapes):
-        return None
-
-    def character(escape):
-        if escape[1] or escape[3]:
-            return chr(int(escape[1] or escape[3], 16))
-        return chr(int(escape[2], 8) & 0xff) if escape[2] else _ESCAPED.get(escape[4], escape[4])
-    try:
-        return _ESCAPE.sub(character, text).encode('latin-1')
-    except UnicodeEncodeError:
-        return None
-
-
 def _is_of_list(text, start, end):
     """Whether an octet in quotes is one of a list in brackets."""
     before, after = text[:start].rstrip(), text[end:].lstrip()
@@ -155,7 +132,7 @@ def _has_lost_mark(text):
 def delimited(text):
     """Octets in quotes, braces or brackets anywhere in a line: where they begin, and each way to read them."""
     text = _unquoted(text)
-    for quoted in _QUOTED.finditer(text):
+    for quoted in literals.QUOTED.finditer(text):
         inner = quoted['text'].strip()
         if not quoted['prefix'] and HEX_LIST.fullmatch(inner) and '\\' not in inner and from_digits(inner):
             if len(from_digits(inner)) > 1 or not _is_of_list(text, *quoted.span()):
@@ -163,7 +140,7 @@ def delimited(text):
         is_python = quoted['prefix'] and quoted['prefix'].lower() != 'u8'
         if is_python and _HALF_ESCAPE.search(quoted['text']):
             continue    # Python writes two digits behind each \x
-        literal = from_literal(quoted['text']) if quoted['prefix'] or '\\' in quoted['text'] else None
+        literal = literals.octets_of(quoted['text']) if quoted['prefix'] or '\\' in quoted['text'] else None
         if literal:
             yield quoted.start(), literal
     for buffer in _BUFFER.finditer(text):

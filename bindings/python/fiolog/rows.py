@@ -10,10 +10,6 @@ from .grammar import Reading, in_pieces
 from .notations import delimited, readings
 
 DELIMITERS = '\t;,|'
-# How much longer than the shortest step between two octets a pause is that ends a frame.
-PAUSE = 2.5
-# How much longer a step is in which a row may be missing.
-LONG = 1.5
 
 
 def time_of(value):
@@ -159,26 +155,3 @@ def objects_in(text):
     except (ValueError, RecursionError):
         return []
     return [one for one in value if isinstance(one, dict)] if isinstance(value, list) else []
-
-
-class Pauses:
-    """Says where a pause ends a frame whose octets come one a row."""
-
-    def __init__(self):
-        self.last = self.shortest = None
-        self.is_long = False    # whether the last step was long, and no pause
-
-    def is_one(self, time):
-        """Whether there was a pause before this octet."""
-        self.is_long = False
-        if time is None or self.last is None:
-            self.last = time
-            return False
-        step, self.last = time - self.last, time
-        if step <= 0:
-            return False
-        is_pause = self.shortest is not None and step > PAUSE * self.shortest
-        self.is_long = self.shortest is not None and not is_pause and step > LONG * self.shortest
-        if not is_pause:
-            self.shortest = step if self.shortest is None else min(self.shortest, step)
-        return is_pause
