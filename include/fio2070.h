@@ -426,13 +426,13 @@ enum {
 
 /** A checker of what the CPU's end sends and hears. Its fields are the library's own. */
 struct fio2070_checker {
-    /** 1 where a command stands directly above. */
+    /** 1 where a command is directly above. */
     uint8_t has_awaited;
     /** The type of the answer to it. */
     uint8_t awaited;
     /** 1 where it names an input above 63. */
     uint8_t absent_named;
-    /** 1 where a poll stands above. */
+    /** 1 where a poll is above. */
     uint8_t has_polled;
     /** The number of the latest poll. */
     uint8_t polled;
@@ -440,7 +440,7 @@ struct fio2070_checker {
     uint8_t answered;
     /** 1 where the latest poll has another number than the poll before it. */
     uint8_t advanced;
-    /** 0 where no block answer stands above, 1 where the latest has no C, 2 where it has. */
+    /** 0 where no block answer is above, 1 where the latest has no C, 2 where it has. */
     uint8_t more;
     /** 1 below a breach, until the next poll. */
     uint8_t skips;

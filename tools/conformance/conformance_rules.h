@@ -57,7 +57,7 @@ enum field {
     RULE(AT_MODULE, FRAME_TOO_LONG, "frame-too-long", OWN, 0, "Refusals", "there are more than 773 octets") \
     RULE(AT_MODULE, UNKNOWN_TYPE, "unknown-type", OWN, 0, "Refusals", "the first octet is no type of that direction") \
     RULE(AT_MODULE, WRONG_LENGTH, "wrong-length", OWN, 0, "Refusals", \
-         "the octets are not as many as the type and the count need") \
+         "the number of octets is not what type and count need") \
     RULE(AT_MODULE, COUNTER_AT_START, "counter-at-start", OWN, 0, "Counter", "It is 0 at the start.") \
     RULE(AT_MODULE, COUNTER_BITS, "counter-bits", TEES, 0, "Counter", \
          "The module has a counter of 32 bits, in milliseconds.") \
