@@ -1,0 +1,119 @@
+"""Copies of the crates, in which `rt` proves crates as they are and with wrong bodies."""
+
+import os
+import shutil
+import subprocess
+
+from support.copies import link_or_copy
+from support.functions import TOP
+
+# Where `rt` keeps what it has proved of a crate, and the library that it has built.
+KEPT, BUILT = (os.path.join('out', name) for name in ('incremental', 'rlib'))
+
+
+class Done:
+    """What `rt` says in a folder, its status, and how many seconds of processor time it took."""
+
+    def __init__(self, folder, words):
+        with subprocess.Popen(['rt', *words], cwd=folder, stdin=subprocess.DEVNULL, stdout=subprocess.PIPE,
+                              stderr=subprocess.STDOUT, errors='replace') as process:
+            self.stdout = process.stdout.read()
+            _, status, used = os.wait4(process.pid, 0)
+            self.returncode = process.returncode = os.waitstatus_to_exitcode(status)
+        self.seconds = used.ru_utime + used.ru_stime
+
+
+def is_used(name):
+    """Whether other crates use a crate, by `crates.txt`."""
+    with open(os.path.join(TOP, 'crates.txt'), encoding='utf-8') as file:
+        return any(name in line.partition(':')[2].split() for line in file)
+
+
+def copy(source, target, by):
+    """Copies a folder that is there, unless the copy is there."""
+    if os.path.isdir(source) and not os.path.isdir(target):
+        shutil.copytree(source, target, copy_function=by)
+
+
+def put_back(kept, copied):
+    """Makes a copy of a folder below it like the folder again: takes out what was added, and brings what was changed."""
+    for at, _, files in os.walk(copied):
+        of = os.path.join(kept, os.path.relpath(at, copied))
+        for name in files:
+            path, source = os.path.join(at, name), os.path.join(of, name)
+            if not os.path.exists(source):
+                os.remove(path)
+            elif os.stat(path).st_mtime_ns != os.stat(source).st_mtime_ns:
+                shutil.copy2(source, path)
+
+
+class Lane:
+    """A copy of the crates, in which one crate is proved or one group tried after the other. What was proved of each crate
+    as it is stands in `kept`, for all lanes."""
+
+    def __init__(self, room, kept, said):
+        self.room, self.kept, self.said = room, kept, said
+        os.mkdir(room)
+        for name in ('crates.txt', 'HANDLES'):
+            shutil.copy(os.path.join(TOP, name), room)
+        for crate in os.listdir(os.path.join(TOP, 'crates')):
+            for part in ('src', 'specs', 'proofs'):
+                copy(os.path.join(TOP, 'crates', crate, part), os.path.join(room, 'crates', crate, part), shutil.copy2)
+            # A built library is only read, or made anew.
+            copy(os.path.join(TOP, 'crates', crate, BUILT), os.path.join(room, 'crates', crate, BUILT), link_or_copy)
+
+    def folder(self, crate):
+        return os.path.join(self.room, 'crates', crate.name)
+
+    def is_proved(self, crate):
+        """Proves a crate as it is, which is the control of all. Where its library was built here, nothing is left to prove."""
+        here, kept = os.path.join(TOP, 'crates', crate.name, KEPT), os.path.join(self.kept, crate.name)
+        copy(here, os.path.join(self.folder(crate), KEPT), shutil.copy2)
+        if not is_used(crate.name) or not os.path.isdir(here):
+            done = Done(self.folder(crate), ['check', '--jobs', '1'])
+            crate.proof = done.seconds
+            if done.returncode != 0:
+                crate.tell(done)
+                return False
+        shutil.copytree(os.path.join(self.folder(crate), KEPT), kept)
+        crate.know(kept)
+        return True
+
+    def check(self, group):
+        """What the prover says of a group, and its status, or None where a stanza does not fit."""
+        name, texts = group.crate.name, group.texts()
+        if texts is None:
+            return None
+        folder, kept = self.folder(group.crate), os.path.join(self.kept, name)
+        copy(kept, os.path.join(folder, KEPT), shutil.copy2)
+        for file, text in texts.items():
+            with open(os.path.join(folder, file), 'w', encoding='utf-8') as out:
+                out.write(text)
+        only = [word for name in group.asked() for word in ('--only', name)]
+        added = self.add_answers(group, folder)
+        done = Done(folder, ['check', '--jobs', '1', *only])
+        for file in added:
+            os.remove(file)
+        for file in texts:
+            shutil.copy2(os.path.join(TOP, 'crates', name, file), os.path.join(folder, file))
+        put_back(kept, os.path.join(folder, KEPT))
+        if self.said:
+            first = next(iter(group.bodies)).name.replace('/', ' ')
+            with open(os.path.join(self.said, '%s %s' % (name, first)), 'w', encoding='utf-8') as out:
+                out.write('%s\n%s' % ('\n'.join(one.name for one in group.bodies), done.stdout))
+        return done
+
+    @staticmethod
+    def add_answers(group, folder):
+        """Gives the functions that are asked for and have no answers a file without any: the prover tries the same, but
+        does not run once more for the answers that it would offer. Returns the files."""
+        added = []
+        for short in group.asked():
+            for name in group.crate.known:
+                file = os.path.join(folder, 'proofs', *name.split('::')[1:], 'Answers.antt')
+                if name.endswith('::' + short) and not any(
+                        os.path.exists(os.path.join(os.path.dirname(file), one)) for one in ('Answers.antt', 'Proof.antt')):
+                    os.makedirs(os.path.dirname(file), exist_ok=True)
+                    open(file, 'w', encoding='utf-8').close()
+                    added.append(file)
+        return added
