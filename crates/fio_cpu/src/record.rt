@@ -4,6 +4,7 @@ ghost use Rattle.std.specs.Vec.{vec_capacity};
 
 use crate::block_items::BlockItems;
 use fio_message::{InputNumber, Memory};
+use std::mem;
 
 /// An item of the record.
 #[derive(Clone, Copy, Debug, PartialEq, Eq, Hash)]
@@ -64,17 +65,20 @@ impl Record for Vec<Item> {
     /// no items.
     fn append(&mut self, items: &BlockItems<'_>) -> Result<(), Memory> {
         self.reserve(items.len())?;
-        push_all(self, items);
+        let empty = Vec::new(*self.allocator());
+        *self = extended(mem::replace(self, empty), items);
         Ok(())
     }
 }
 
-/// Appends items, for which there is room.
-fn push_all(kept: &mut Vec<Item>, items: &BlockItems<'_>)
-    requires { vec_len kept.old + length items.now ≤ vec_capacity kept.old }
-    ensures { kept.new.items ≡ kept.old.items ++ items.now }
+/// A list with items appended, for which there is room. It is moved here for the loop: of a list behind
+/// a reference, each push would write the length to memory and read the place of the items again.
+fn extended(mut kept: Vec<Item>, items: &BlockItems<'_>) -> Vec<Item>
+    requires { vec_len kept + length items.now ≤ vec_capacity kept }
+    ensures { result.items ≡ kept.items ++ items.now }
 {
     for item in items.iter() {
-        kept.push(item).unwrap();
+        kept.push_reserved(item);
     }
+    kept
 }

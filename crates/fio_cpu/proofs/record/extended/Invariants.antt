@@ -1,6 +1,6 @@
 use Rattle.std.proofs.Common.{◌≡◌, ◌+◌, ◌≤◌, ◌++◌, length, vec_len}
 use Rattle.std.specs.Vec.{vec_capacity}
-use Rattle.fio_cpu.proofs.record.push_all.Given as goal
+use Rattle.fio_cpu.proofs.record.extended.Given as goal
 
 -- the iterator is the list of the items that are left: there is room for them, and with them the
 -- record is as it will be
