@@ -7,12 +7,19 @@ use Rattle.fio_message.specs.declared.limits.TheConstants.{BLOCK_ENTRIES}
 use Rattle.fio_message.specs.Answers.{answer_code}
 use Rattle.fio_message.specs.Bits.{bit_of}
 use Rattle.fio_message.specs.Blocks.{Block as BlockOf}
+use Rattle.fio_message.specs.declared.entries.EntriesView.{EntriesView}
 use Rattle.fio_message.specs.Status.{says_lost}
+use Rattle.fio_message.specs.Views.{entries_of}
 use Rattle.fio_cpu.specs.declared.poller.Heard.{Heard}
 use Rattle.fio_cpu.specs.declared.poller.Heard.TheVariants.{Unreadable, Other, Stale, Block}
 use Rattle.fio_cpu.specs.Poller.{Polling}
 use Rattle.fio_cpu.specs.declared.record.Item.{Item}
 use Rattle.fio_cpu.specs.Record.{items_of_block}
+
+-- the block that these fields of a view of an answer show
+abbrev pub block_shown : ℕ → EntriesView → ℕ → ℕ → BlockOf
+block_shown number entries status stamp =
+    record { number = number; entries = entries_of entries; status = status; stamp = stamp }
 
 -- a block answer is taken if it has the CPU's number, and is stale otherwise; any other answer is
 -- only named

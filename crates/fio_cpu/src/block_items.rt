@@ -1,7 +1,8 @@
 //! What a block adds to the record: a view of these items, and an iterator over them.
-ghost use Rattle.std.specs.Prelude.{◌≡◌, ◌≤◌, ◌==◌, ℕ, length};
+ghost use Rattle.std.specs.Prelude.{◌≡◌, ◌≤◌, ◌==◌, ◌++◌, length, map};
+ghost use Rattle.fio_message.specs.Status.{says_lost};
 ghost use Rattle.fio_message.specs.Views.{entries_of};
-ghost use Rattle.fio_cpu.specs.Record.{item_of, items_of_block};
+ghost use Rattle.fio_cpu.specs.Record.{gap_if, item_of};
 
 use crate::record::Item;
 use fio_input::widen;
@@ -31,12 +32,8 @@ impl<'a> Model for BlockItems<'a> {
 impl<'a> BlockItems<'a> {
     /// What a block with these entries, this status and this stamp adds.
     pub(crate) fn new(entries: EntriesView<'a>, status: u8, stamp: u32) -> BlockItems<'a>
-        ensures { (number : ℕ) → result ≡ items_of_block (record {
-          number = number;
-          entries = entries_of entries.entry;
-          status = status;
-          stamp = stamp;
-        }) }
+        ensures { result
+            ≡ gap_if (says_lost status) ++ map (item_of stamp) (entries_of entries.entry) }
     {
         BlockItems {
             lost: BlockStatus::from_octet(status).lost(),

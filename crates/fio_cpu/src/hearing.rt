@@ -1,12 +1,17 @@
 //! Hearing: what a CPU makes of octets, wherever its record is kept.
-ghost use Rattle.std.specs.Prelude.{◌≡◌, [], OnOk, OnErr, IfOk, IfErr};
+ghost use Rattle.std.specs.Prelude.{◌≡◌, ◌+◌, ◌%◌, [], length, Some, OnOk, OnErr, IfOk, IfErr};
+ghost use Rattle.fio_message.specs.Blocks.{block_answer};
 ghost use Rattle.fio_message.specs.Decoding.{decoded_answer, block_in};
-ghost use Rattle.fio_cpu.specs.Hearing.{new_items, heard_as, next_number, HasFewEntries};
+ghost use Rattle.fio_message.specs.Views.{entries_of};
+ghost use Rattle.fio_cpu.specs.declared.poller.Heard.TheVariants as heards;
+ghost use Rattle.fio_cpu.specs.Record.{items_of_block};
+ghost use Rattle.fio_cpu.specs.Hearing.{block_shown, new_items, heard_answer, heard_as, next_number};
+ghost use Rattle.fio_cpu.specs.Hearing.{HasFewEntries};
 
 use crate::block_items::BlockItems;
 use crate::poller::Heard;
 use crate::record::Record;
-use fio_message::{AnswerView, read_answer};
+use fio_message::{AnswerView, EntriesView, read_answer};
 
 /// Hears the octets of a frame, where the next poll carries `number` and the record is `items`. A block
 /// answer (TEES 2009, answer 182) with this number is taken whole: what it adds is appended, and the
@@ -40,18 +45,65 @@ pub fn hear_frame<R: Record>(
                 status,
                 stamp,
             },
-        ) => {
-            if block != *number {
-                return Ok(Heard::Stale { block });
-            }
-            items.append(&BlockItems::new(entries, status, stamp))?;
-            *number = block.wrapping_add(1);
-            Ok(Heard::Block {
-                entries: entries.len(),
-                status,
-            })
-        }
+        ) => hear_block(number, items, block, entries, status, stamp),
         Ok(other) => Ok(Heard::Other { code: other.code() }),
         Err(fault) => Ok(Heard::Unreadable(fault)),
     }
+}
+
+/// Hears a block answer: takes it where it has the CPU's number, and else reports it as stale.
+#[inline]
+fn hear_block<R: Record>(
+    number: &mut u8,
+    items: &mut R,
+    block: u8,
+    entries: EntriesView<'_>,
+    status: u8,
+    stamp: u32,
+) -> Result<Heard, R::NoRoom>
+    ensures heard { IfOk result (λ heard. heard ≡ heard_answer number.old
+        (block_answer (block_shown block entries.entry status stamp))) }
+    ensures few { IfOk result HasFewEntries }
+    ensures next { OnOk result (number.new ≡ next_number number.old
+        (Some (block_shown block entries.entry status stamp))) }
+    ensures gained { OnOk result (R.Gains items.old
+        (new_items number.old (Some (block_shown block entries.entry status stamp))) items.new) }
+    ensures kept { OnErr result (number.new ≡ number.old) }
+    ensures unchanged { OnErr result (R.Gains items.old [] items.new) }
+    ensures room { IfErr result (λ reason. R.LacksRoom items.old
+        (new_items number.old (Some (block_shown block entries.entry status stamp))) reason) }
+{
+    if block != *number {
+        return Ok(Heard::Stale { block });
+    }
+    take_block(number, items, entries, status, stamp)
+}
+
+/// Takes a block that has the CPU's number: appends what it adds, and raises the number by one modulo
+/// 256.
+#[inline]
+fn take_block<R: Record>(
+    number: &mut u8,
+    items: &mut R,
+    entries: EntriesView<'_>,
+    status: u8,
+    stamp: u32,
+) -> Result<Heard, R::NoRoom>
+    ensures heard { IfOk result (λ heard.
+        heard ≡ heards.Block (length (entries_of entries.entry)) status) }
+    ensures few { IfOk result HasFewEntries }
+    ensures next { OnOk result (number.new ≡ (number.old + 1) % 256) }
+    ensures gained { OnOk result (R.Gains items.old
+        (items_of_block (block_shown number.old entries.entry status stamp)) items.new) }
+    ensures kept { OnErr result (number.new ≡ number.old) }
+    ensures unchanged { OnErr result (R.Gains items.old [] items.new) }
+    ensures room { IfErr result (λ reason. R.LacksRoom items.old
+        (items_of_block (block_shown number.old entries.entry status stamp)) reason) }
+{
+    items.append(&BlockItems::new(entries, status, stamp))?;
+    *number = number.wrapping_add(1);
+    Ok(Heard::Block {
+        entries: entries.len(),
+        status,
+    })
 }
