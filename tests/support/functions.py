@@ -44,12 +44,17 @@ def end_of_braces(text, start):
     return len(text)
 
 
+def type_name(header):
+    """The type of an `impl`, as the prover names it: for that of a trait, with the types that it is of."""
+    return header[2] + ''.join(re.findall(r'\b[A-Z]\w*', header[3] or '') if header[1] else '')
+
+
 def functions_of(path, text):
     """The functions of a file. The last brace pair of an item, behind its clauses, is the body."""
     text = without_words(text)
-    owners = [(found.start(), end_of_braces(text, found.end() - 1), found[2], found[1] or '')
-              for found in re.finditer(r'^impl(?:<[^{]*?>)?\s+(?:(?:\w+::)*(\w+)(?:<[^{]*?>)?\s+for\s+)?(\w+)[^{]*\{',
-                                       text, re.M)]
+    header = re.compile(r'^impl(?:<[^{]*?>)?\s+(?:(?:\w+::)*(\w+)(?:<[^{]*?>)?\s+for\s+)?(\w+)(<[^{>]*>)?[^{]*\{', re.M)
+    owners = [(found.start(), end_of_braces(text, found.end() - 1), type_name(found), found[1] or '')
+              for found in header.finditer(text)]
     for found in re.finditer(r'^( *)(pub(?:\(crate\)|\(super\))? )?(?:const |extern +)?fn (\w+)', text, re.M):
         closing = re.compile(r'^%s\}$' % found[1], re.M).search(text, found.end())
         if closing is None:
