@@ -23,10 +23,29 @@ class Done:
         self.seconds = used.ru_utime + used.ru_stime
 
 
-def is_used(name):
-    """Whether other crates use a crate, by `crates.txt`."""
+def crates_listed():
+    """Each crate of `crates.txt`, with its kind, if that is told, and what it uses."""
     with open(os.path.join(TOP, 'crates.txt'), encoding='utf-8') as file:
-        return any(name in line.partition(':')[2].split() for line in file)
+        for line in file:
+            words, _, used = line.partition(':')
+            if words.strip() and not words.startswith('#'):
+                name, *kind = words.split()
+                yield name, kind, used.split()
+
+
+USED = {name: used for name, _, used in crates_listed()}
+STATIC = {name for name, kind, _ in crates_listed() if 'staticlib' in kind}
+
+
+def is_used(name):
+    """Whether other crates use a crate."""
+    return any(name in used for used in USED.values())
+
+
+def crates_below(name):
+    """The crates that a crate uses, directly or not."""
+    own = {one for one in USED[name] if one in USED}
+    return own.union(*map(crates_below, own))
 
 
 def copy(source, target, by):
@@ -59,14 +78,18 @@ class Lane:
         for crate in os.listdir(os.path.join(TOP, 'crates')):
             for part in ('src', 'specs', 'proofs'):
                 copy(os.path.join(TOP, 'crates', crate, part), os.path.join(room, 'crates', crate, part), shutil.copy2)
-            # A built library is only read, or made anew.
-            copy(os.path.join(TOP, 'crates', crate, BUILT), os.path.join(room, 'crates', crate, BUILT), link_or_copy)
+
+    def bring_libraries(self, crate):
+        """Brings the libraries that a crate uses: they are only read, or made anew."""
+        for name in crates_below(crate.name):
+            copy(os.path.join(TOP, 'crates', name, BUILT), os.path.join(self.room, 'crates', name, BUILT), link_or_copy)
 
     def folder(self, crate):
         return os.path.join(self.room, 'crates', crate.name)
 
     def is_proved(self, crate):
         """Proves a crate as it is, which is the control of all. Where its library was built here, nothing is left to prove."""
+        self.bring_libraries(crate)
         here, kept = os.path.join(TOP, 'crates', crate.name, KEPT), os.path.join(self.kept, crate.name)
         copy(here, os.path.join(self.folder(crate), KEPT), shutil.copy2)
         if not is_used(crate.name) or not os.path.isdir(here):
@@ -84,6 +107,7 @@ class Lane:
         name, texts = group.crate.name, group.texts()
         if texts is None:
             return None
+        self.bring_libraries(group.crate)
         folder, kept = self.folder(group.crate), os.path.join(self.kept, name)
         copy(kept, os.path.join(folder, KEPT), shutil.copy2)
         for file, text in texts.items():

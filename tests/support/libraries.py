@@ -1,9 +1,10 @@
 #!/usr/bin/env python3
-"""Gives a copy of the sources the libraries that `rt ci` builds here: `libraries.py COPY --until FILE`.
+"""Gives a copy of the sources the libraries below a crate, as `rt ci` builds them here: `libraries.py CRATE COPY --until FILE`.
 
-Nothing has to prove them once more then; what they hold of proofs is their statements. It waits until all are there, or until
-FILE says that `rt ci` has ended. `rt ci` leaves them without the stamp by which `rt` knows a library that is up to date, since
-they fit one another alone. So all are taken, or none: where others are here, the copy proves its own."""
+Nothing has to prove them once more then; what they hold of proofs is their statements. Each is taken as soon as it is there,
+the lowest first, until all are, or FILE says that `rt ci` has ended; what lacks then, the copy proves for itself. `rt ci` leaves
+them without the stamp by which `rt` knows a library that is up to date, since others do not fit those above. In the copy there
+are no others, so it is written, last of all."""
 
 import argparse
 import os
@@ -19,49 +20,55 @@ sys.path.insert(0, os.path.join(TOP, 'tests'))
 from support.copies import link_or_copy
 
 
-def libraries_of(folder):
-    """The library crates of a repository that others use, as `rt` knows them, lowest first."""
+def libraries_below(name, folder):
+    """The libraries that a crate of a repository uses, as `rt` knows them, lowest first."""
     start = subprocess.run(['rt', 'doc'], stdout=subprocess.PIPE, check=True).stdout.decode().strip()
     sys.path.insert(0, os.path.join(os.path.dirname(start), 'bin'))
     import rtlib
-    crates = rtlib.crates_below(folder)
-    return [one for one in crates if any(one in other.below() for other in crates)]
+    return next(one for one in rtlib.crates_below(folder) if one.name == name).below()
 
 
-def built(crate):
-    """Where `rt ci` builds a library."""
-    return os.path.join(TOP, 'crates', crate.name, 'out', 'rlib')
+def files_of(crate):
+    """The files of a library that `rt ci` has built here, or takes from an earlier run just now, with their sizes: none
+    where it is another's."""
+    folder = os.path.join(TOP, 'crates', crate.name, 'out', 'rlib')
+    try:
+        found = {path: os.path.getsize(path) for at, _, names in os.walk(folder)
+                 for path in (os.path.join(at, name) for name in names)}
+    except FileNotFoundError:
+        return {}
+    is_whole = os.path.join(folder, crate.name + '.rlib', 'format') in found
+    return found if is_whole and os.path.join(folder, 'stamp') not in found else {}
 
 
-def is_there(crate):
-    return os.path.exists(os.path.join(built(crate), crate.name + '.rlib', 'format'))
-
-
-def take(crates):
-    """Takes the libraries. They are others where a stamp is among them, or where they go meanwhile."""
-    for crate in crates:
-        shutil.copytree(built(crate), os.path.join(crate.folder, 'out', 'rlib'), copy_function=link_or_copy)
-    if any(os.path.exists(os.path.join(built(crate), 'stamp')) for crate in crates):
-        raise OSError('there are libraries here that `rt ci` did not build')
-    for crate in crates:
-        with open(os.path.join(crate.folder, 'out', 'rlib', 'stamp'), 'w', encoding='utf-8') as stamp:
-            stamp.write(crate.stamp())
+def take(crate):
+    """Takes a library, and stamps it."""
+    target = os.path.join(crate.folder, 'out', 'rlib')
+    shutil.copytree(os.path.join(TOP, 'crates', crate.name, 'out', 'rlib'), target, copy_function=link_or_copy)
+    with open(target + '.stamp', 'w', encoding='utf-8') as stamp:
+        stamp.write(crate.stamp())
+    os.rename(target + '.stamp', os.path.join(target, 'stamp'))
 
 
 def main():
     parser = argparse.ArgumentParser(description=__doc__.split('\n', maxsplit=1)[0])
+    parser.add_argument('crate')
     parser.add_argument('copy', type=os.path.realpath)
     parser.add_argument('--until', metavar='FILE', required=True)
     given = parser.parse_args()
-    crates = libraries_of(given.copy)
-    while not all(map(is_there, crates)) and not os.path.exists(given.until):
-        time.sleep(1)
-    try:
-        take(crates)
-    except (OSError, shutil.Error) as why:
-        print('libraries.py: the copy proves its own libraries: %s' % why)
-        for crate in crates:
-            shutil.rmtree(os.path.join(crate.folder, 'out', 'rlib'), ignore_errors=True)
+    left, seen = libraries_below(given.crate, given.copy), {}
+    while left:
+        is_last = os.path.exists(given.until)
+        files = files_of(left[0])
+        # A library that is still being written changes.
+        if files and files == seen:
+            take(left.pop(0))
+        elif is_last and not files:
+            print('libraries.py: the copy proves %s itself' % ', '.join(one.name for one in left))
+            return
+        else:
+            seen = files
+            time.sleep(1)
 
 
 if __name__ == '__main__':
