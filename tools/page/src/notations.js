@@ -1,22 +1,20 @@
 // Octets as logs write them: digits with all kinds of signs between, numbers, and string literals.
 
 import { fromHex } from './hex.js';
+import { fromLiteral, isUneven, QUOTED } from './literals.js';
 import { matchAt } from './patterns.js';
 
 const MARK = /0x|[^0-9a-f]+/i;
 const PAIRS = { '[': ']', '{': '}', '(': ')', '<': '>', '"': '"', "'": "'" };
 const SPLIT = /[ \t]{2,}|\t|[ \t]*\||[ \t]+(?=["'<[(:])/g;
-const QUOTED = /(\b(?:b|rb|br|u8))?(["'])((?:[^"'\\]|\\.|(?!\2)["'])*)\2/g;
 const LISTED = /\{([^{}]*)\}|\[([^[\]]*)\]|\(([^()]*)\)|<<([^<>]*)>>/g;
 // An octet in brackets of its own.
 const SINGLE = /[[{(<](?:0x)?[0-9a-f?]{1,2}[\]})>]/gi;
 // Octets of a list, each in quotes.
 const WORDS = /(["'])(?:0x)?[0-9a-f]{1,2}\1(?:[ \t]*,[ \t]*\1(?:0x)?[0-9a-f]{1,2}\1)+/gi;
 const COMMENT = /\/\*.*?\*\/|\/\/.*$/g;
-const ESCAPE = /\\(?:x([0-9a-fA-F]{1,2})|([0-7]{1,3})|([^]))/g;
 // Python writes two digits behind each \x.
 const HALF_ESCAPE = /(?:^|[^\\])(?:\\\\)*\\x(?![0-9a-fA-F]{2})/;
-const ESCAPED = { n: '\n', r: '\r', t: '\t', a: '\x07', b: '\b', f: '\f', v: '\v', e: '\x1b' };
 const NUMBERS = /^(?:\(\w+\)\s*)?(?:0x[0-9a-f]{1,2}u?|-?\d{1,3})(?:[\s,;]+(?:\(\w+\)\s*)?(?:0x[0-9a-f]{1,2}u?|-?\d{1,3}))*$/i;
 
 // How many places of a line are tried, at most, for a column of characters and for quotes and brackets.
@@ -30,9 +28,6 @@ function firstMatches(text, pattern) {
   }
   return found;
 }
-
-// Whether one word of digits has a single one, and another a zero before its digit: then a digit is lost.
-const isUneven = (words) => words.some((word) => word.length === 1) && words.some((word) => word.length > 1 && word[0] === '0');
 
 // The octets of a list of hexadecimal words; none where one has lost a digit.
 export function fromDigits(text) {
@@ -121,16 +116,6 @@ export function readings(patterns, text) {
   return found;
 }
 
-// The octets of a string literal of C, Python or a shell; null where a character is above 255 or lost a digit.
-function fromLiteral(text) {
-  if (isUneven(Array.from(text.matchAll(ESCAPE), (escape) => escape[1] || ''))) return null;
-  const plain = text.replace(ESCAPE, (_, hex, octal, letter) => {
-    if (hex) return String.fromCharCode(parseInt(hex, 16));
-    return octal ? String.fromCharCode(parseInt(octal, 8) & 255) : ESCAPED[letter] ?? letter;
-  });
-  return fromNumbers(Array.from(plain, (letter) => letter.codePointAt(0)));
-}
-
 // Whether an octet in quotes is one of a list in brackets.
 function isOfList(text, start, end) {
   const before = text.slice(0, start).trimEnd(), after = text.slice(end).trimStart();
@@ -147,7 +132,8 @@ export function delimited(patterns, line) {
       if (octets.length === 1 && isOfList(text, index, index + whole.length)) continue;
       add(index, octets);
     }
-    if (!prefix || !HALF_ESCAPE.test(quoted)) add(index, fromLiteral(quoted));
+    const isPython = prefix && prefix.toLowerCase() !== 'u8';
+    if ((prefix || quoted.includes('\\')) && !(isPython && HALF_ESCAPE.test(quoted))) add(index, fromLiteral(quoted));
   }
   const singles = (text.match(SINGLE) || []).length;
   for (const { index, 0: whole, 1: braces, 2: brackets, 3: rounds, 4: angles } of firstMatches(text, LISTED)) {
