@@ -217,6 +217,15 @@ fn receive_each(module: &mut Module, frames: &Both<Frame>, count: u32, place: us
 }
 
 #[inline(never)]
+fn receive_into_each(module: &mut Module, frames: &Both<Frame>, answer: &mut Frame, count: u32, place: usize) -> u32 {
+    let mut sum = 0u32;
+    for turn in 0..count {
+        sum = sum.wrapping_add(weight_of_received(module, &frames[(turn % 2) as usize], answer, place));
+    }
+    sum
+}
+
+#[inline(never)]
 fn poll_each(modules: &mut [Module], number: u8, place: usize) -> u32 {
     let mut sum = 0u32;
     for module in modules.iter_mut() {

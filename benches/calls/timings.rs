@@ -138,11 +138,17 @@ fn time_scans(rt: &HostRuntime, module: &mut Module) -> io::Result<()> {
 }
 
 #[inline(never)]
-fn time_receive(rt: &HostRuntime, module: &mut Module, name: &str, octets: &[u8], place: usize) -> io::Result<()> {
-    let frames = [frame_of(octets), frame_of(octets)];
-    let _ = receive_each(module, &frames, MANY, place);
-    timed!(rt, "Module::receive", name, MANY, receive_each(module, &frames, MANY, place));
+fn time_both(rt: &HostRuntime, module: &mut Module, name: &str, frames: &Both<Frame>, place: usize) -> io::Result<()> {
+    let _ = receive_each(module, frames, MANY, place);
+    timed!(rt, "Module::receive", name, MANY, receive_each(module, frames, MANY, place));
+    let mut answer = Frame::new();
+    let _ = receive_into_each(module, frames, &mut answer, MANY, place);
+    timed!(rt, "Module::receive_into", name, MANY, receive_into_each(module, frames, &mut answer, MANY, place));
     Ok(())
+}
+
+fn time_receive(rt: &HostRuntime, module: &mut Module, name: &str, octets: &[u8], place: usize) -> io::Result<()> {
+    time_both(rt, module, name, &[frame_of(octets), frame_of(octets)], place)
 }
 
 fn time_receives(rt: &HostRuntime, module: &mut Module, place: usize) -> io::Result<()> {
@@ -160,9 +166,7 @@ fn time_receives(rt: &HostRuntime, module: &mut Module, place: usize) -> io::Res
 }
 
 fn time_polls(rt: &HostRuntime, module: &mut Module, place: usize) -> io::Result<()> {
-    let frames = [frame_of(&[54, 1]), frame_of(&[54, 2])];
-    let _ = receive_each(module, &frames, MANY, place);
-    timed!(rt, "Module::receive", "new poll, no entry waits", MANY, receive_each(module, &frames, MANY, place));
+    time_both(rt, module, "new poll, no entry waits", &[frame_of(&[54, 1]), frame_of(&[54, 2])], place)?;
     time_receive(rt, module, "poll again, block of no entry", &[54, 2], place)?;
     fill(module);
     time_receive(rt, module, "poll again, block of 255 entries", &[54, 3], place)

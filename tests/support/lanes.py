@@ -7,6 +7,8 @@ import subprocess
 from support.copies import link_or_copy
 from support.functions import TOP
 
+# A definition that is never admitted.
+HOLE = '\nhole : Type 0\nhole = ?\n'
 # Where `rt` keeps what it has proved of a crate, and the library that it has built.
 KEPT, BUILT = (os.path.join('out', name) for name in ('incremental', 'rlib'))
 
@@ -46,6 +48,19 @@ def crates_below(name):
     """The crates that a crate uses, directly or not."""
     own = {one for one in USED[name] if one in USED}
     return own.union(*map(crates_below, own))
+
+
+def read(path):
+    with open(path, encoding='utf-8') as file:
+        return file.read()
+
+
+def write(path, text):
+    """Writes a file, or removes it where there is no text."""
+    if text is None:
+        return os.remove(path)
+    with open(path, 'w', encoding='utf-8') as file:
+        file.write(text)
 
 
 def copy(source, target, by):
@@ -111,33 +126,31 @@ class Lane:
         folder, kept = self.folder(group.crate), os.path.join(self.kept, name)
         copy(kept, os.path.join(folder, KEPT), shutil.copy2)
         for file, text in texts.items():
-            with open(os.path.join(folder, file), 'w', encoding='utf-8') as out:
-                out.write(text)
+            write(os.path.join(folder, file), text)
         only = [word for name in group.asked() for word in ('--only', name)]
-        added = self.add_answers(group, folder)
+        holes = {} if group.is_control else self.leave_hole(group, folder)
         done = Done(folder, ['check', '--jobs', '1', *only])
-        for file in added:
-            os.remove(file)
+        for file, text in holes.items():
+            write(file, text)
         for file in texts:
             shutil.copy2(os.path.join(TOP, 'crates', name, file), os.path.join(folder, file))
         put_back(kept, os.path.join(folder, KEPT))
         if self.said:
             first = next(iter(group.bodies)).name.replace('/', ' ')
-            with open(os.path.join(self.said, '%s %s' % (name, first)), 'w', encoding='utf-8') as out:
-                out.write('%s\n%s' % ('\n'.join(one.name for one in group.bodies), done.stdout))
+            write(os.path.join(self.said, '%s %s' % (name, first)), '%s\n%s' % ('\n'.join(one.name for one in group.bodies), done.stdout))
         return done
 
     @staticmethod
-    def add_answers(group, folder):
-        """Gives the functions that are asked for and have no answers a file without any: the prover tries the same, but
-        does not run once more for the answers that it would offer. Returns the files."""
-        added = []
+    def leave_hole(group, folder):
+        """Leaves a hole in the answers of each function that is asked for: the prover tries the same of it, but does not run
+        once more for the answers that it would offer. Returns what undoes it: the files, and their texts, if any."""
+        before = {}
         for short in group.asked():
             for name in group.crate.known:
-                file = os.path.join(folder, 'proofs', *name.split('::')[1:], 'Answers.antt')
-                if name.endswith('::' + short) and not any(
-                        os.path.exists(os.path.join(os.path.dirname(file), one)) for one in ('Answers.antt', 'Proof.antt')):
-                    os.makedirs(os.path.dirname(file), exist_ok=True)
-                    open(file, 'w', encoding='utf-8').close()
-                    added.append(file)
-        return added
+                place = os.path.join(folder, 'proofs', *name.split('::')[1:])
+                if name.endswith('::' + short) and not os.path.exists(os.path.join(place, 'Proof.antt')):
+                    os.makedirs(place, exist_ok=True)
+                    file = os.path.join(place, 'Answers.antt')
+                    before[file] = read(file) if os.path.exists(file) else None
+                    write(file, (before[file] or '') + HOLE)
+        return before

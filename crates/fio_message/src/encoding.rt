@@ -115,9 +115,9 @@ pub fn write_command(command: &Command, frame: &mut Frame)
     append_command_fields(frame, command);
 }
 
-/// `write_command` into a new frame, which is filled with 784 octets and returned by value: several times
-/// the cost of a short message. The octets that a command spells: its type, then its fields in the order of TEES 2009, with the
-/// lengths of this project's own profile. It always succeeds, with 1 to 773 octets.
+/// Returns the octets that a command spells, 1 to 773: its type, then its fields in the order of TEES 2009,
+/// with the lengths of this project's own profile. The new frame of 784 octets is cleared and returned by
+/// value, which costs several times what `write_command` does for a short message.
 #[inline(always)]
 pub fn encode_command(command: &Command) -> Frame
     ensures { SpellsCommand command.now result.items }
@@ -178,9 +178,9 @@ pub fn write_answer(answer: &Answer, frame: &mut Frame)
     append_answer_fields(frame, answer);
 }
 
-/// `write_answer` into a new frame, which is filled with 784 octets and returned by value: several times
-/// the cost of a short message. The octets that an answer spells: its type, then its fields in the order of TEES 2009, with the
-/// lengths of this project's own profile. It always succeeds, with 1 to 773 octets.
+/// Returns the octets that an answer spells, 1 to 773: its type, then its fields in the order of TEES 2009,
+/// with the lengths of this project's own profile. The new frame of 784 octets is cleared and returned by
+/// value, which costs several times what `write_answer` does for a short message.
 #[inline(always)]
 pub fn encode_answer(answer: &Answer) -> Frame
     ensures { SpellsAnswer answer.now result.items }

@@ -117,6 +117,7 @@ impl KeptBlock {
         ensures { frame.new.items ≡ kept_octets self.now }
     {
         frame.clear();
+        // There is room, so this never fails.
         let _ = frame.try_extend_from_slice(self.as_slice());
     }
 }

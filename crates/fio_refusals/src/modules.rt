@@ -1,6 +1,6 @@
 //! Modules that are made.
 use crate::answers::Answer;
-use fio_message::Memory;
+use fio_message::{Frame, Memory};
 use fio_module::{Limits, Module};
 use std::alloc::Global;
 
@@ -62,7 +62,11 @@ fn is_open(module: &mut Module) -> bool {
 
 /// The calls below it are answered as they should be.
 fn is_used(module: &mut Module) -> bool {
-    answers_all(module) && overflows(module) && sends_a_block(module) && restarts(module)
+    answers_all(module)
+        && overflows(module)
+        && sends_a_block(module)
+        && writes_a_block(module)
+        && restarts(module)
 }
 
 /// Each of the octets above is answered as it should be.
@@ -92,6 +96,13 @@ fn sends_a_block(module: &mut Module) -> bool {
         .receive(&[0x36, 1])
         .is_some_and(|frame| frame.len() == 773);
     is_sent && module.waiting() == 769
+}
+
+/// The next block, which is written into a frame, takes 255 more.
+fn writes_a_block(module: &mut Module) -> bool {
+    let mut answer = Frame::new();
+    let is_written = module.receive_into(&[0x36, 2], &mut answer);
+    is_written && answer.len() == 773 && module.waiting() == 514
 }
 
 /// A restart leaves no entry, and the counter at 0.

@@ -1,5 +1,5 @@
 //! The commands that a module carries out, and its answers.
-ghost use Rattle.std.specs.Prelude.{◌≡◌, ◌<◌, ℕ, List, ◌∷◌, length, Some, None, MatchOption};
+ghost use Rattle.std.specs.Prelude.{◌≡◌, ◌<◌, ℕ, false, List, ◌∷◌, length, Some, None, MatchOption};
 ghost use Rattle.circular_buffer.specs.Buffer.{Buffer};
 ghost use Rattle.fio_message.specs.Octets.{IsOctets};
 ghost use Rattle.fio_message.specs.Views.{command_of, items_of};
@@ -50,6 +50,7 @@ fn short_answer(code: u8, fields: &[u8]) -> ShortAnswer
 {
     let mut answer = ShortAnswer::new();
     answer.push(code);
+    // There is room, so this never fails.
     let _ = answer.try_extend_from_slice(fields);
     answer
 }
@@ -59,12 +60,14 @@ fn write_short(answer: &ShortAnswer, frame: &mut Frame)
     ensures { frame.new.items ≡ answer.now.items }
 {
     frame.clear();
+    // There is room, so this never fails.
     let _ = frame.try_extend_from_slice(answer.as_slice());
 }
 
 impl ModuleState {
-    /// Carries out a command that is read in place, and writes the answer into `frame`. Commands 56,
-    /// 57 and 59 get none and change nothing (own profile): the result is then `false`.
+    /// Carries out a command that is read in place, and writes the answer into `frame`, instead of what
+    /// it holds. Commands 56, 57 and 59 get none and change nothing (own profile): the result is then
+    /// `false`, and the frame is unchanged.
     pub fn obey<R: EntryRing>(
         &mut self,
         ring: &mut R,
@@ -74,6 +77,7 @@ impl ModuleState {
         ensures obeyed { Obeys self.old (R.held ring.old) self.new (R.held ring.new)
             (command_of command.entry) (frame_if result frame.new) }
         ensures same_memory { R.memory ring.new ≡ R.memory ring.old }
+        ensures unchanged { result ≡ false → frame.new ≡ frame.old }
     {
         let reply = self.carry_out(ring, command);
         self.write_reply(&reply, frame)
@@ -117,9 +121,11 @@ impl ModuleState {
         }
     }
 
-    /// Writes a reply that `carry_out` gave last into `frame`. Where there is no answer the result is `false`.
+    /// Writes a reply that `carry_out` gave last into `frame`. Where there is no answer the result is
+    /// `false`, and the frame is unchanged.
     pub(crate) fn write_reply(&self, reply: &Reply, frame: &mut Frame) -> bool
-        ensures { frame_if result frame.new ≡ reply_frame self.now reply.now }
+        ensures written { frame_if result frame.new ≡ reply_frame self.now reply.now }
+        ensures unchanged { result ≡ false → frame.new ≡ frame.old }
     {
         match reply {
             Reply::Nothing => return false,

@@ -1,27 +1,24 @@
 use Rattle.std.proofs.Common.{Option, ℕ, sym, subst}
 use Rattle.arrayvec.specs.ArrayVec.{ArrayVec}
-use Rattle.fio_message.specs.Commands.{command_length}
-use Rattle.fio_message.specs.Decoding.{command_in, fault_in}
 use Rattle.fio_message.specs.Views.{command_of}
-use Rattle.fio_message.proofs.Decoded.{message_read}
 use Rattle.fio_module.specs.Replies.{Encodes, reply_to}
 use Rattle.fio_module.proofs.PollAnswers.{received-obeyed}
 use Rattle.fio_module.proofs.module.Module.receive.Goals as goal
 
 pub returns-in-Nothing-clause-stands : goal.returns-in-Nothing-clause-stands
 returns-in-Nothing-clause-stands c settings history after =
-    let octets = c.args.octets.now in
-    let read = message_read (command_in octets) (fault_in (command_length octets) octets) (command_of c.in-Ok.command) c.in-Ok.ensures.exact in
-    (received-obeyed _ _ _ _ octets (command_of c.in-Ok.command) _ read c.carry_out-reply.ensures.obeyed settings history after).0
+    let received = received-obeyed _ _ _ _ c.args.octets.now (command_of c.in-Ok.command) _ c.in-Ok.ensures.exact
+        c.carry_out-reply.ensures.obeyed in
+    (received settings history after).0
 
 pub returns : goal.returns
 returns c =
     let octets = c.args.octets.now in
-    let read = message_read (command_in octets) (fault_in (command_length octets) octets) (command_of c.in-Ok.command) c.in-Ok.ensures.exact in
-    let received = received-obeyed _ _ _ _ octets (command_of c.in-Ok.command) _ read c.carry_out-reply.ensures.obeyed in
+    let received = received-obeyed _ _ _ _ octets (command_of c.in-Ok.command) _ c.in-Ok.ensures.exact
+        c.carry_out-reply.ensures.obeyed in
     record {
       stands = λ settings history after. (received settings history after).0;
       reply = λ settings history after.
           subst (λ (frame : Option (ArrayVec ℕ)). Encodes (reply_to settings history octets) frame)
-          (sym c.if-not-write_reply.ensures) (received settings history after).1;
+          (sym c.if-not-write_reply.ensures.written) (received settings history after).1;
     }
