@@ -4,16 +4,25 @@ import { delimited, readings } from './notations.js';
 import { matchAt } from './patterns.js';
 import { secondsOf, timeIn } from './times.js';
 
-// A line has few pieces, and 773 octets with signs between; what goes on for longer is no log's.
-const MOST_PIECES = 12, MOST_WORDS = 5, LONGEST_LINE = 8192, MOST_STATES = 400;
+// The longest way: a header of syslog has six pieces. No line of a log takes so many steps.
+const MOST_PIECES = 12, MOST_WORDS = 5, MOST_STATES = 400;
+// A frame of 773 octets, as digits with much around each, and its column; longer lines are no log's.
+const LONGEST_LINE = 16384;
 const COUNTS = ['count in brackets', 'count by name', 'count with unit', 'bare count'];
 const ANYWHERE = ['label', 'logger', 'level', 'port', 'CAN', 'prompt', 'bracketed', 'priority', 'process', 'pair', 'sign', 'address', 'source', 'samples',
   'record number'];
-const START = { prefix: [], time: null, clock: '', direction: '', said: '', count: null, offset: null, head: null };
+// As `36 05 -> B3 00`: the arrow is no direction.
+const TWO_FRAMES = /^(?:[0-9A-F]{2}[ ]){2,}(?:[-=]+>|\u2192|<[-=]+|\/(?!\/))/i;
+// Behind the octets of a call, as strace writes it, is how many they were.
+const RETURNED = /"(?:[^"\\]|\\.)*"(?:\.{3})?, .*\)[ \t]+=[ \t]*(?<count>\d{1,5})(?!\S)/y;
+
+// One way to read a line. `prefix` names the pieces before the octets, `said` has the words of the direction, `start` is where
+// the octets begin, `countAt` where the count is, `timeAt` where the time is and of which form.
+export const READING = { prefix: [], notation: '', shape: '', octets: null, time: null, clock: '', direction: '', count: null, offset: null,
+  said: '', start: 0, countAt: null, timeAt: null, isVague: false };
 
 // The pieces that may come next.
-function piecesAfter(reading, words, patterns) {
-  const { prefix, direction, count, time } = reading;
+function piecesAfter({ prefix, direction, count, time }, words, patterns) {
   return [
     ...time === null ? Object.keys(patterns.times) : [],
     ...direction && prefix[prefix.length - 1] !== 'direction' ? [] : ['direction'],
@@ -21,35 +30,49 @@ function piecesAfter(reading, words, patterns) {
     'offset',
     ...count !== null ? [] : direction ? COUNTS : COUNTS.slice(0, 3),
     ...ANYWHERE,
+    ...direction && !prefix.includes('title') ? ['other end', 'title'] : [],
     ...time !== null && !direction ? ['host'] : [],
     ...!direction && words < MOST_WORDS ? ['name', 'word'] : [],
   ];
 }
 
-// What is known behind a piece.
+function afterTime(next, name, found) {
+  const time = secondsOf(found.groups);
+  return time === null ? null : { ...next, time, clock: found[0].trim(), timeAt: { name, start: found.index } };
+}
+
+function afterDirection(next, found, patterns) {
+  const direction = patterns.directionOf(found.groups.direction), said = found.groups.direction.toLowerCase();
+  // `sent TX` is one direction, `TX TX` and `TX RX` are none.
+  const isNone = next.direction && (next.direction !== direction || next.said === said);
+  return isNone ? null : { ...next, direction, said };
+}
+
+// What is known behind a piece; null where it can't be there.
 function after(reading, name, found, patterns) {
   const next = { ...reading, prefix: [...reading.prefix, name] };
-  if (name in patterns.times) {
-    const time = secondsOf(found.groups);
-    return Number.isNaN(time) ? null : { ...next, time, clock: found[0].trim(), head: { name, start: found.index } };
+  if (name in patterns.times) return afterTime(next, name, found);
+  if (name === 'direction') return afterDirection(next, found, patterns);
+  if (name === 'word' || name === 'name') {
+    const word = found[0].replace(/^[.:,;| \t]+|[.:,;| \t]+$/g, '');
+    return patterns.directionOf(word) !== '' && !patterns.ends.test(word) ? null : next;
   }
-  if (name === 'direction') {
-    const direction = patterns.directionOf(found.groups.direction), said = found.groups.direction.toLowerCase();
-    // `sent TX` is one direction, `TX TX` and `TX RX` are none.
-    if (reading.direction && (reading.direction !== direction || reading.said === said)) return null;
-    return { ...next, direction, said };
-  }
+  if (name === 'title') return patterns.directionIn(found[0]) !== '' ? null : next;
   if (name === 'offset') return { ...next, offset: found.groups.offset };
-  return COUNTS.includes(name) ? { ...next, count: Number(found.groups.count) } : next;
+  return COUNTS.includes(name) ? { ...next, count: Number(found.groups.count), countAt: found.indices.groups.count } : next;
 }
+
+// Whether a direction may be a name that is on all lines, as `fio: `, or the `->` of Arduino's monitor.
+const isVague = ({ said, prefix }, patterns) => said !== '' && (patterns.ends.test(said) || said === '->' && prefix.length === 2);
 
 // Walks through the pieces of a line; each state is visited once.
 class Walk {
   constructor(patterns, text) {
     Object.assign(this, { patterns, text, found: [], seen: new Set() });
-    this.walk(0, START, 0);
+    this.walk(0, READING, 0);
   }
 
+  // Notes the readings from this place on, and goes on behind each piece that is there.
   walk(from, reading, words) {
     const { text, patterns } = this;
     let place = from;
@@ -71,31 +94,44 @@ class Walk {
     if (reading.offset !== null && prefix[prefix.length - 1] !== 'offset') return;
     for (const [notation, octets] of readings(this.patterns, this.text.slice(start))) {
       if (octets.length === 0 || prefix.includes('bare count') && reading.count !== octets.length) continue;
-      this.found.push({ ...reading, notation, octets, start, shape: [...prefix, notation].join(', ') });
+      this.found.push({ ...reading, notation, octets, start, shape: [...prefix, notation].join(', '), isVague: isVague(reading, this.patterns) });
     }
   }
 }
 
 // The readings of a line by the pieces of the table.
 export function inPieces(patterns, text) {
-  return text.length <= LONGEST_LINE ? new Walk(patterns, text).found : [];
+  return text.length <= LONGEST_LINE && !TWO_FRAMES.test(text) ? new Walk(patterns, text).found : [];
+}
+
+// The readings with a time, where one has it: in the others the time may be a count, as in `(300)`.
+export function timed(found) {
+  const those = found.filter((reading) => reading.time !== null);
+  return those.length > 0 ? those : found;
+}
+
+// The time and the direction in what is before octets in quotes or brackets.
+function headBefore(patterns, text) {
+  return { time: timeIn(patterns, text.replace(/^[[({ \t]+/, '')), direction: patterns.directionIn(text) };
 }
 
 // The readings of octets in quotes, braces or brackets.
 export function inMarks(patterns, text) {
-  if (text.length > LONGEST_LINE) return [];
-  return delimited(patterns, text).map(({ start, octets }) => ({ ...START, ...headOf(patterns, text.slice(0, start)),
-    notation: 'marks', octets, start, shape: 'text, marks' }));
-}
-
-function headOf(patterns, text) {
-  const start = text.replace(/^[[({ \t]+/, '');
-  return { time: timeIn(patterns, start, false), clock: '', direction: patterns.directionIn(text) };
+  return delimited(patterns, text).map(({ start, octets }) => {
+    const returned = matchAt(RETURNED, text, start);
+    return { ...READING, ...headBefore(patterns, text.slice(0, start)), prefix: ['text'], notation: 'marks', shape: 'text, marks', octets, start,
+      count: returned ? Number(returned.groups.count) : null };
+  });
 }
 
 // The time and the direction of a line without octets, as `Written data (COM3)`; null where it names none.
 export function headingOf(patterns, text) {
-  if (text.length > LONGEST_LINE) return null;
-  const head = headOf(patterns, text.replace(/^[#;/ ]+/, ''));
+  const head = headBefore(patterns, text);
   return head.direction || head.time !== null && text.length > 8 ? head : null;
+}
+
+// What the quick way keeps of a reading; null where its octets are no plain digits to the end of the line.
+export function headOf({ notation, offset, prefix, direction, isVague: isUnclear, timeAt, countAt, shape }) {
+  if (notation !== 'hex' || offset !== null || prefix.includes('bare count')) return null;
+  return { direction, isVague: isUnclear, timeAt, countAt, shape };
 }

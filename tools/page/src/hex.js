@@ -1,6 +1,7 @@
 // Octets as hexadecimal digits, two each, and back.
 
-const VALUES = new Uint8Array(128);
+const NO_DIGIT = 16;
+const VALUES = new Uint8Array(128).fill(NO_DIGIT);
 '0123456789abcdef'.split('').forEach((digit, value) => {
   VALUES[digit.charCodeAt(0)] = VALUES[digit.toUpperCase().charCodeAt(0)] = value;
 });
@@ -15,6 +16,24 @@ export function putHex(octets, place, digits) {
     octets[end++] = VALUES[digits.charCodeAt(at)] << 4 | VALUES[digits.charCodeAt(at + 1)];
   }
   return end;
+}
+
+const BLANK = 32, TAB = 9;
+const digitOf = (code) => code < VALUES.length ? VALUES[code] : NO_DIGIT;
+
+// The octets of the digits from a place on, with blanks between octets alone; null where there is something else.
+export function fromPlain(text, from) {
+  const octets = new Uint8Array(text.length - from >> 1);
+  let end = 0;
+  for (let place = from; place < text.length; place += 1) {
+    const code = text.charCodeAt(place);
+    if (code === BLANK || code === TAB) continue;
+    place += 1;
+    const high = digitOf(code), low = digitOf(place < text.length ? text.charCodeAt(place) : BLANK);
+    if (high === NO_DIGIT || low === NO_DIGIT) return null;
+    octets[end++] = high << 4 | low;
+  }
+  return octets.subarray(0, end);
 }
 
 export function fromHex(digits) {

@@ -6,34 +6,49 @@ export const DIRECTION = { none: 0, sent: 1, heard: 2 };
 
 const SIDES = { '>': DIRECTION.sent, '<': DIRECTION.heard };
 
+// Twice as much room.
+function widened(column) {
+  const wide = new column.constructor(column.length * 2);
+  wide.set(column);
+  return wide;
+}
+
 export class MessageList {
-  // Room for the messages of so many lines with so many characters.
+  // The messages of so many lines with so many characters. A line may have several.
   constructor(lines, characters) {
+    const room = lines + 1;
     this.octets = new Uint8Array(characters + 1);
     this.end = 0;
     this.count = 0;
-    this.starts = new Uint32Array(lines);
-    this.lengths = new Uint32Array(lines);
-    this.lines = new Uint32Array(lines);
-    this.directions = new Uint8Array(lines);
-    this.times = new Float64Array(lines).fill(NaN);
+    this.starts = new Uint32Array(room);
+    this.lengths = new Uint32Array(room);
+    this.lines = new Uint32Array(room);
+    this.directions = new Uint8Array(room);
+    this.times = new Float64Array(room);
     this.clocks = [];
+  }
+
+  widen() {
+    for (const name of ['starts', 'lengths', 'lines', 'directions', 'times']) this[name] = widened(this[name]);
   }
 
   // Adds the message of a line, which is put behind those above by one of the two calls below.
   begin(line, direction, time, clock) {
     const place = this.count++;
+    if (place === this.starts.length) this.widen();
     this.starts[place] = this.end;
     this.lines[place] = line;
     this.directions[place] = SIDES[direction] || DIRECTION.none;
-    if (time !== null) this.times[place] = time;
+    this.times[place] = time ?? NaN;
     this.clocks.push(clock);
   }
 
+  // Puts the octets of digits, and returns them.
   digits(text) {
-    const end = putHex(this.octets, this.end, text);
-    this.lengths[this.count - 1] = end - this.end;
-    this.end = end;
+    const start = this.end;
+    this.end = putHex(this.octets, start, text);
+    this.lengths[this.count - 1] = this.end - start;
+    return this.octets.subarray(start, this.end);
   }
 
   put(octets) {

@@ -6,8 +6,12 @@ import { matchAt } from './patterns.js';
 
 const MARK = /0x|[^0-9a-f]+/i;
 const PAIRS = { '[': ']', '{': '}', '(': ')', '<': '>', '"': '"', "'": "'" };
+// Where dumps of 16 octets a row have a gap.
+const HALF = 8;
 const SPLIT = /[ \t]{2,}|\t|[ \t]*\||[ \t]+(?=["'<[(:])/g;
-const LISTED = /\{([^{}]*)\}|\[([^[\]]*)\]|\(([^()]*)\)|<<([^<>]*)>>/g;
+const LISTED = /\{(?<braces>[^{}]*)\}|\[(?<brackets>[^[\]]*)\]|\((?<rounds>[^()]*)\)|<<(?<angles>[^<>]*)>>/g;
+// As Node.js writes a buffer.
+const BUFFER = /<Buffer ([0-9a-f ]+)>/g;
 // An octet in brackets of its own.
 const SINGLE = /[[{(<](?:0x)?[0-9a-f?]{1,2}[\]})>]/gi;
 // Octets of a list, each in quotes.
@@ -17,8 +21,9 @@ const COMMENT = /\/\*.*?\*\/|\/\/.*$/g;
 const HALF_ESCAPE = /(?:^|[^\\])(?:\\\\)*\\x(?![0-9a-fA-F]{2})/;
 const NUMBERS = /^(?:\(\w+\)\s*)?(?:0x[0-9a-f]{1,2}u?|-?\d{1,3})(?:[\s,;]+(?:\(\w+\)\s*)?(?:0x[0-9a-f]{1,2}u?|-?\d{1,3}))*$/i;
 
-// How many places of a line are tried, at most, for a column of characters and for quotes and brackets.
-const MOST_TRIED = 40;
+// How many quotes and brackets of a line are tried, at most: more than a frame with each octet in brackets has; and how many
+// places where a column of characters may begin.
+const MOST_TRIED = 1024, MOST_SPLITS = 200;
 
 // The first matches of a pattern.
 function firstMatches(text, pattern) {
@@ -32,7 +37,7 @@ function firstMatches(text, pattern) {
 // The octets of a list of hexadecimal words; none where one has lost a digit.
 export function fromDigits(text) {
   const words = text.split(MARK);
-  if (isUneven(words)) return new Uint8Array(0);
+  if (isUneven(words) || words.some((word) => word.length > 1 && word.length % 2 === 1)) return new Uint8Array(0);
   return fromHex(words.map((digits) => digits.length === 1 ? '0' + digits : digits).join(''));
 }
 
@@ -48,30 +53,41 @@ function fromWords(text) {
   return fromNumbers(least < 0 ? numbers.map((it) => it & 255) : numbers);
 }
 
-// Whether nothing but a remark, a count or an ending is left behind a place.
-function isTail(patterns, text, place) {
+// Whether nothing but a remark, an ending or the count of the octets is left.
+function isTail(patterns, text, count) {
+  let place = 0;
   while (text.slice(place).trim() !== '') {
     const found = patterns.tails.map((tail) => matchAt(tail, text, place)).find((tail) => tail && tail[0] !== '');
-    if (!found) return false;
+    if (!found || Number(found.groups?.count ?? count) !== count) return false;
     place += found[0].length;
   }
   return true;
 }
 
+// A column of characters without the gap between the halves of a row.
+const withoutGap = (column, octets) => octets.length > HALF && column[HALF] === ' ' && column.length > octets.length
+  ? column.slice(0, HALF) + column.slice(HALF + 1) : column;
+
 // Whether a column of characters is that of the octets.
-function shows(column, octets) {
+function shows(written, octets) {
+  const column = withoutGap(written, octets);
   if (column === '' || column.length > octets.length) return false;
   return octets.every((octet, place) => {
     const shown = column[place] ?? ' ';
     if (octet >= 0x21 && octet <= 0x7e) return shown === String.fromCharCode(octet);
-    return octet > 0x20 || !/[0-9a-z]/i.test(shown);
+    return octet > 0x20 || !/[\p{L}\p{N}]/u.test(shown);
   });
 }
 
 // The octets before a column of their characters; null where there is no such column.
 export function withColumn(patterns, text) {
-  for (const split of [...text.matchAll(SPLIT)].slice(-MOST_TRIED)) {
-    const left = text.slice(0, split.index), right = text.slice(split.index + split[0].length);
+  let tried = 0;
+  for (const { index, 0: split } of text.matchAll(SPLIT)) {
+    const left = text.slice(0, index), right = text.slice(index + split.length);
+    // A column has a character for an octet, which takes two digits or more.
+    if (right.length > (left.length >> 1) + 4) continue;
+    tried += 1;
+    if (tried > MOST_SPLITS) return null;
     if (!patterns.wholeList.test(left.trim())) continue;
     const octets = fromDigits(left);
     if ([right, right.slice(0, -1), right.slice(1, -1), right.slice(1)].some((column) => shows(column, octets))) return octets;
@@ -80,9 +96,9 @@ export function withColumn(patterns, text) {
 }
 
 // The list of octets that a text is but for its tail; null where it is none.
-function listIn(patterns, text) {
-  const list = matchAt(patterns.list, text, 0);
-  return list && isTail(patterns, text, list[0].length) ? list[0] : null;
+function listIn(patterns, written) {
+  const text = written.replace(patterns.checkTail, ''), list = matchAt(patterns.list, text, 0);
+  return list && isTail(patterns, text.slice(list[0].length), fromDigits(list[0]).length) ? list[0] : null;
 }
 
 // The text between brackets or quotes around all of it.
@@ -97,17 +113,12 @@ const unquoted = (text) => text.replace(WORDS, (words) => words.replace(/["']/g,
 
 // How a text may be octets and nothing more but a tail: the notation and the octets.
 export function readings(patterns, text) {
-  const found = [];
-  const column = /[ \t|]/.test(text) ? withColumn(patterns, text) : null;
-  if (patterns.plain.test(text)) {
-    found.push(['hex', fromHex(text.replace(/ /g, ''))]);
-    if (column) found.push(['column', column]);
-    return found;
-  }
-  const inner = inside(unquoted(text));
+  if (patterns.plain.test(text)) return [['hex', fromHex(text.replace(/ /g, ''))]];
+  const found = [], inner = inside(unquoted(text));
   const digits = listIn(patterns, text) || listIn(patterns, inner);
   const octets = digits || patterns.single.test(inner) ? fromDigits(digits || inner) : [];
   if (octets.length > 0) found.push([digits ? 'hex' : 'digits', octets]);
+  const column = withColumn(patterns, text);
   if (column) found.push(['column', column]);
   if (patterns.decimal.test(text) || patterns.decimal.test(inner)) {
     const numbers = fromWords(inner);
@@ -122,31 +133,50 @@ function isOfList(text, start, end) {
   return (before.endsWith(',') || after.startsWith(',')) && (/[[({]/.test(before) || /[\])}]/.test(after));
 }
 
-// Octets in quotes, braces or brackets anywhere in a line: where they begin, and each way to read them.
-export function delimited(patterns, line) {
-  const text = unquoted(line), found = [];
-  const add = (start, octets) => octets && octets.length > 0 && found.push({ start, octets });
-  for (const { index, 0: whole, 1: prefix, 3: quoted } of firstMatches(text, QUOTED)) {
+// The ways to read what is in quotes, anywhere in a line.
+function quotedIn(patterns, text) {
+  const found = [];
+  for (const { index, 0: whole, groups: { prefix, text: quoted } } of firstMatches(text, QUOTED)) {
     if (!prefix && patterns.wholeList.test(quoted.trim()) && !quoted.includes('\\')) {
       const octets = fromDigits(quoted);
-      if (octets.length === 1 && isOfList(text, index, index + whole.length)) continue;
-      add(index, octets);
+      if (octets.length !== 1 || !isOfList(text, index, index + whole.length)) found.push({ start: index, octets });
     }
     const isPython = prefix && prefix.toLowerCase() !== 'u8';
-    if ((prefix || quoted.includes('\\')) && !(isPython && HALF_ESCAPE.test(quoted))) add(index, fromLiteral(quoted));
-  }
-  const singles = (text.match(SINGLE) || []).length;
-  for (const { index, 0: whole, 1: braces, 2: brackets, 3: rounds, 4: angles } of firstMatches(text, LISTED)) {
-    // Brackets behind a name have the length of an array.
-    if (brackets !== undefined && /\w[ \t]*$/.test(text.slice(0, index))) continue;
-    // Each octet is in brackets.
-    if (singles > 1 && whole.length === (whole.match(SINGLE) || [''])[0].length) continue;
-    const inner = (braces ?? brackets ?? rounds ?? angles).replace(COMMENT, ' ').replace(/^[\s,;]+|[\s,;]+$/g, '');
-    // A number as `(3605)`: milliseconds, a process.
-    const isWord = /^\d+$/.test(inner);
-    if (isWord && (rounds !== undefined || /[^\s\])};,]/.test(text.slice(index + whole.length)))) continue;
-    if (NUMBERS.test(inner)) add(index, fromWords(inner.replace(/\(\w+\)/g, '')));
-    if (!isWord && patterns.wholeList.test(inner) && !hasLostMark(inner.split(/[ \t,;]+/))) add(index, fromDigits(inner));
+    const isLiteral = (prefix || quoted.includes('\\')) && !(isPython && HALF_ESCAPE.test(quoted));
+    const literal = isLiteral ? fromLiteral(quoted) : null;
+    if (literal) found.push({ start: index, octets: literal });
   }
   return found;
+}
+
+// Whether brackets are around the length of an array, or around each octet.
+function isNoList(text, { index, 0: whole, groups: { brackets } }, singles) {
+  return brackets !== undefined && /\w[ \t]*$/.test(text.slice(0, index))
+    || singles > 1 && whole.length === (whole.match(SINGLE) || [''])[0].length;
+}
+
+// The ways to read what is in braces or brackets, anywhere in a line.
+function listedIn(patterns, text) {
+  const found = [], singles = (text.match(SINGLE) || []).length;
+  for (const listed of firstMatches(text, LISTED)) {
+    if (isNoList(text, listed, singles)) continue;
+    const { index: start, 0: whole, groups: { braces, brackets, rounds, angles } } = listed;
+    const inner = (braces ?? brackets ?? rounds ?? angles).replace(COMMENT, ' ').replace(/^[ \t,;]+|[ \t,;]+$/g, '');
+    // A number as `(3605)`: milliseconds, a process.
+    const isWord = /^\d+$/.test(inner);
+    if (isWord && (rounds !== undefined || /[^ \t\r\])};,]/.test(text.slice(start + whole.length)))) continue;
+    const numbers = NUMBERS.test(inner) ? fromWords(inner.replace(/\(\w+\)/g, '')) : null;
+    if (numbers) found.push({ start, octets: numbers });
+    if (!isWord && patterns.wholeList.test(inner) && !hasLostMark(inner.split(/[ \t,;]+/))) found.push({ start, octets: fromDigits(inner) });
+  }
+  return found;
+}
+
+const hasSome = ({ octets }) => octets.length > 0;
+
+// Octets in quotes, braces or brackets anywhere in a line: where they begin, and each way to read them.
+export function delimited(patterns, line) {
+  const text = unquoted(line);
+  const buffers = firstMatches(text, BUFFER).map(({ index, 1: digits }) => ({ start: index, octets: fromDigits(digits.trim()) }));
+  return [...quotedIn(patterns, text).filter(hasSome), ...buffers, ...listedIn(patterns, text).filter(hasSome)];
 }

@@ -1,74 +1,72 @@
 // Rows of tables with a header, and lines of JSON.
 
+import { inPieces, READING } from './grammar.js';
 import { delimited, readings } from './notations.js';
-import { timeIn } from './times.js';
+import { matchAt } from './patterns.js';
+import { wholeTimeOf } from './times.js';
 
 const DELIMITERS = ['\t', ';', ',', '|'];
-// How much longer than the shortest step between two octets a pause is that ends a frame.
-const PAUSE = 2.5;
-// How much longer a step is in which a row may be missing.
-const LONG = 1.5;
 
-const reading = (shape, octets, time, direction) => ({ prefix: [], notation: 'cell', shape, octets, time, clock: '', direction, offset: null,
-  count: null, head: null });
+const cellReading = (shape, octets, time, direction) => ({ ...READING, prefix: [shape], notation: 'cell', shape: shape + ', cell', octets, time, direction });
 
-function timeOf(patterns, value) {
-  return timeIn(patterns, String(value).trim().replace(/^"|"$/g, ''), true);
-}
+// The seconds of a cell: a number, or a time of the table.
+const timeOfCell = (patterns, value) => wholeTimeOf(patterns, String(value).trim().replace(/^"+|"+$/g, ''));
 
 // The ways to read a cell as octets.
 function cellOctets(patterns, value) {
   if (Array.isArray(value)) {
-    const isOctets = value.length > 0 && value.every((it) => Number.isInteger(it) && it >= 0 && it < 256);
-    return isOctets ? [Uint8Array.from(value)] : cellOctets(patterns, value.join(' '));
+    if (value.length > 0 && value.every((it) => Number.isInteger(it) && it >= 0 && it < 256)) return [Uint8Array.from(value)];
+    return value.length > 0 && value.every((it) => typeof it === 'string') ? cellOctets(patterns, value.join(' ')) : [];
   }
   const text = String(value).trim();
-  return [...readings(patterns, text).map(([, octets]) => octets), ...delimited(patterns, text).map((it) => it.octets)];
+  return [...readings(patterns, text).map(([, octets]) => octets), ...delimited(patterns, text).map(({ octets }) => octets)];
 }
 
+// The direction that a cell names.
 const directionOfCell = (patterns, value) => patterns.directionOf(String(value).replace(/^[\s"[\]():]+|[\s"[\]():]+$/g, ''));
 
-// The cells of a row; one in quotes may have the delimiter, and quotes twice.
+// A cell by each delimiter: what is in quotes, perhaps cut, what is behind them, and the delimiter.
+const CELLS = new Map(DELIMITERS.map((delimiter) =>
+  [delimiter, new RegExp(`[ ]*(?:"((?:[^"]|"")*)(?:"|$))?([^${delimiter}]*)([${delimiter}]|$)`, 'y')]));
+
+// The cells of a row; one in quotes may have the delimiter, and quotes twice. None where it is no row.
 function cellsOf(text, delimiter) {
-  const cells = [];
-  let place = 0;
-  while (place <= text.length) {
-    const quoted = /^\s*"((?:[^"]|"")*)"\s*/.exec(text.slice(place));
-    const isQuoted = quoted && (place + quoted[0].length === text.length || text[place + quoted[0].length] === delimiter);
-    const end = isQuoted ? place + quoted[0].length : text.indexOf(delimiter, place);
-    const stop = end < 0 ? text.length : end;
-    cells.push(isQuoted ? quoted[1].replace(/""/g, '"') : text.slice(place, stop).trim());
-    place = stop + 1;
+  if (text.includes('\r')) return [];
+  const cells = [], pattern = CELLS.get(delimiter);
+  for (let place = 0, end = delimiter; end !== '';) {
+    const [cell, quoted, rest, behind] = matchAt(pattern, text, place);
+    cells.push((quoted || '').replace(/""/g, '"') + rest);
+    place += cell.length;
+    end = behind;
   }
   return cells;
 }
 
 // A table with a header: which columns have the time, the direction and the octets.
-export class Table {
+class Table {
   constructor(patterns, delimiter, names) {
     Object.assign(this, { patterns, delimiter, names: names.map((name) => name.replace(/^["\s]+|["\s]+$/g, '')) });
     const all = (kind) => this.names.map((name, place) => [name, place]).filter(([name]) => patterns.columns[kind].test(name)).map(([, place]) => place);
     this.time = all('time')[0];
     this.directions = all('direction');
     this.octets = all('octets');
-    const sides = [...all('sent').map((place) => [place, '>']), ...all('heard').map((place) => [place, '<'])]
-      .filter(([place]) => this.octets.includes(place));
-    this.sides = new Set(sides.map(([, side]) => side)).size === 2 ? sides : [];
+    const sent = all('sent'), heard = all('heard');
+    const sides = this.octets.filter((place) => sent.includes(place) || heard.includes(place)).map((place) => [place, sent.includes(place) ? '>' : '<']);
+    this.sides = new Map(new Set(sides.map(([, side]) => side)).size === 2 ? sides : []);
   }
 
   get isTable() {
-    return this.octets.length > 0 && (this.time !== undefined || this.directions.length > 0 || this.sides.length > 0);
+    return this.octets.length > 0 && (this.time !== undefined || this.directions.length > 0 || this.sides.size > 0);
   }
 
   // The ways to read a row.
   readings(text) {
-    const cells = cellsOf(text, this.delimiter), { patterns } = this;
-    const time = this.time === undefined ? null : timeOf(patterns, cells[this.time] || '');
+    const cells = cellsOf(text, this.delimiter), { patterns, sides } = this;
+    const time = this.time === undefined ? null : timeOfCell(patterns, cells[this.time] || '');
     const direction = this.directions.map((place) => directionOfCell(patterns, cells[place] || '')).find((it) => it !== '') || '';
-    const sides = new Map(this.sides);
     const places = sides.size > 0 ? [...sides.keys()] : this.octets;
-    return places.flatMap((place) => cellOctets(patterns, cells[place] || '').map((octets) =>
-      ({ ...reading('column ' + this.names[place], octets, time, sides.get(place) || direction), channel: this.channel(cells) })));
+    return places.flatMap((place) => cellOctets(patterns, cells[place] || '')
+      .map((octets) => cellReading('column ' + this.names[place], octets, time, sides.get(place) ?? direction)));
   }
 
   // Whether a row has a flag, a header or a check of SDLC, and no octet of a message.
@@ -78,7 +76,8 @@ export class Table {
   }
 
   // What tells the octets of one line of a bus from those of another, where a row has one octet.
-  channel(cells) {
+  channel(text) {
+    const cells = cellsOf(text, this.delimiter);
     return this.directions.map((place) => cells[place] || '').join();
   }
 }
@@ -94,47 +93,53 @@ export function tableOf(patterns, text) {
   return null;
 }
 
+const isObject = (value) => value !== null && typeof value === 'object' && !Array.isArray(value);
+
 // The names and values of an object, those of objects in it too.
 function flat(value) {
-  return Object.entries(value).flatMap(([key, it]) => it !== null && typeof it === 'object' && !Array.isArray(it) ? flat(it) : [[key, it]]);
+  return Object.entries(value).flatMap(([key, it]) => isObject(it) ? flat(it) : [[key, it]]);
 }
 
-// The ways to read a line that is an object of JSON; null where it is none.
-export function inObject(patterns, text) {
-  let value;
+// The value that a text of JSON has; undefined where it is none.
+function valueOf(text) {
   try {
-    value = JSON.parse(text.replace(/,$/, '').replace(/^\[/, ''));
+    return JSON.parse(text);
   } catch (reason) {
-    return null;
+    return undefined;
   }
-  if (value === null || typeof value !== 'object') return null;
-  const pairs = flat(value);
-  const named = (kind, key) => patterns.columns[kind].test(key.replace(/([a-z])([A-Z])/g, '$1_$2').replace(/^[@_]+/, ''));
-  const timed = pairs.find(([key, it]) => named('time', key) && timeOf(patterns, it) !== null);
-  const directed = pairs.filter(([key]) => named('direction', key)).map(([, it]) => directionOfCell(patterns, it)).find((it) => it !== '')
-    || pairs.filter(([, it]) => it === true).map(([key]) => patterns.directionOf(key)).find((it) => it !== '') || '';
-  return pairs.filter(([key]) => patterns.columns.octets.test(key) || patterns.directionOf(key) !== '')
-    .flatMap(([key, it]) => cellOctets(patterns, it).map((octets) =>
-      reading('key ' + key, octets, timed ? timeOf(patterns, timed[1]) : null, directed || patterns.directionOf(key))));
 }
 
-// Says where a pause ends a frame whose octets come one a row.
-export class Pauses {
-  constructor() {
-    this.last = this.shortest = null;
-    // Whether the last step was long, and no pause.
-    this.isLong = false;
-  }
+// The ways to read a text that is an object of JSON; null where it is none.
+export function inText(patterns, text) {
+  const value = valueOf(text.replace(/,+$/, '').replace(/^[[, ]+/, ''));
+  return value !== undefined && isObject(value) ? inObject(patterns, value) : null;
+}
 
-  // Whether there was a pause before this octet.
-  isOne(time) {
-    const step = time === null || this.last === null ? 0 : time - this.last;
-    this.last = time;
-    this.isLong = false;
-    if (step <= 0) return false;
-    const isPause = this.shortest !== null && step > PAUSE * this.shortest;
-    this.isLong = this.shortest !== null && !isPause && step > LONG * this.shortest;
-    if (!isPause) this.shortest = this.shortest === null ? step : Math.min(this.shortest, step);
-    return isPause;
+// The time and the direction that an object names.
+function headIn(patterns, pairs) {
+  let time = null, direction = '';
+  for (const [key, value] of pairs) {
+    const name = key.replace(/([a-z])([A-Z])/g, '$1_$2').replace(/^[@_]+/, '');
+    if (patterns.columns.time.test(name)) time = time ?? timeOfCell(patterns, value);
+    if (patterns.columns.direction.test(name)) direction = direction || directionOfCell(patterns, value);
+    if (value === true) direction = direction || patterns.directionOf(name);
   }
+  return { time, direction };
+}
+
+// The ways to read an object of JSON: what it has as octets, or as a line of a log.
+export function inObject(patterns, value) {
+  const pairs = flat(value), { time, direction } = headIn(patterns, pairs);
+  return pairs.filter(([key]) => patterns.columns.octets.test(key) || patterns.directionOf(key) !== '').flatMap(([key, it]) => {
+    const lines = typeof it === 'string' ? inPieces(patterns, it.trim()).filter((reading) => reading.direction !== '') : [];
+    return [...cellOctets(patterns, it).map((octets) => cellReading('key ' + key, octets, time, direction || patterns.directionOf(key))),
+      ...lines.map((reading) => ({ ...reading, prefix: ['key ' + key, ...reading.prefix], shape: `key ${key}, ${reading.shape}`,
+        time: time || reading.time, clock: '' }))];
+  });
+}
+
+// The objects of a list of JSON on one line; none where it is no such list.
+export function objectsIn(text) {
+  const value = text.startsWith('[') ? valueOf(text) : [];
+  return Array.isArray(value) ? value.filter(isObject) : [];
 }

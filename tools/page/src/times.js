@@ -15,11 +15,13 @@ function zoneOf(zone) {
   return (Number(digits.slice(0, 2)) * 60 + Number(digits.slice(2))) * (zone[0] === '+' ? -60 : 60);
 }
 
+// The seconds up to a day; NaN where there is no such month.
 function dayOf(parts) {
   if (!parts.day) return 0;
   const named = MONTHS.indexOf((parts.name || '').slice(0, 3).toLowerCase()) + 1;
   let month = named || Number(parts.month), day = Number(parts.day);
   if (month > 12) [month, day] = [day, month];
+  if (!(month >= 1 && month <= 12)) return NaN;
   const year = parts.year ? Number(parts.year) : 1970;
   return Date.UTC(year < 100 ? year + 2000 : year, month - 1, day) / 1000 + zoneOf(parts.zone);
 }
@@ -29,8 +31,7 @@ function hoursOf({ hour, half }) {
   return half ? hours % 12 + (/p/i.test(half) ? 12 : 0) : hours;
 }
 
-// The seconds of a time, from the parts that its pattern names.
-export function secondsOf(parts) {
+function anySecondsOf(parts) {
   if (parts.epoch) {
     const text = parts.epoch.replace(',', '.');
     return Number(text) / 10 ** (text.split('.')[0].length - EPOCH_DIGITS);
@@ -40,11 +41,26 @@ export function secondsOf(parts) {
   return dayOf(parts) + hoursOf(parts) * 3600 + Number(parts.minute || 0) * 60 + numberOf(parts.second);
 }
 
-// The time that a text begins with, or is; null where it has none.
-export function timeIn(patterns, text, isWhole) {
+// The seconds of a time, from the parts that its pattern names; null where there is no such time.
+export function secondsOf(parts) {
+  const seconds = anySecondsOf(parts);
+  return Number.isNaN(seconds) ? null : seconds;
+}
+
+// The time that a text begins with; null where it has none.
+export function timeIn(patterns, text) {
   for (const pattern of Object.values(patterns.times)) {
     const found = matchAt(pattern, text, 0);
-    if (found && (!isWhole || found[0].length === text.length)) return secondsOf(found.groups);
+    if (found) return secondsOf(found.groups);
   }
-  return isWhole && /^[+-]?\d{1,12}(?:\.\d*)?(?:e[+-]?\d{1,2})?$/i.test(text) ? Number(text) : null;
+  return null;
+}
+
+// The time that a text is, or a number; null where it is none.
+export function wholeTimeOf(patterns, text) {
+  for (const pattern of patterns.wholeTimes) {
+    const found = pattern.exec(text);
+    if (found) return secondsOf(found.groups);
+  }
+  return /^[+-]?\d{1,12}(?:\.\d*)?(?:e[+-]?\d{1,2})?$/i.test(text) ? Number(text) : null;
 }
