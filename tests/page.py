@@ -21,6 +21,7 @@ from support.check import Check
 from support.damage import DAMAGED
 from support.loggers import LOGGERS
 from support.sessions import SESSION, timed
+from support.strangers import PASSED, READ
 from support.tables import TOP, output_of
 
 PAGE = os.path.join(TOP, 'fio2070.html')
@@ -45,6 +46,13 @@ HTMLAnchorElement.prototype.click = () => {};
 document.getElementById(arguments[0]).click(); URL.createObjectURL = made;'''
 CELLS = '''return [...document.querySelectorAll(".line:not([hidden])")].sort((a, b) => a.ariaRowIndex - b.ariaRowIndex)
 .map((row) => [...row.children].map((cell) => cell.textContent))'''
+# Opens texts one after the other, as files that were chosen: `window.tables` has the cells of each.
+OPEN_ALL = '''window.tables = null; const [texts] = arguments, input = document.getElementById("file"), root = document.documentElement;
+const opened = async (text) => { delete root.dataset.opened; const chosen = new DataTransfer(); chosen.items.add(new File([text], "log.txt"));
+    input.files = chosen.files; input.dispatchEvent(new Event("change"));
+    while (!root.dataset.opened) await new Promise((done) => setTimeout(done)); return cells(); };
+const cells = () => { %s; };
+(async () => { const tables = []; for (const text of texts) tables.push(await opened(text)); window.tables = tables; })();''' % CELLS
 NAMES = '''return [...document.querySelectorAll("button, input, select, textarea, [role], [tabindex='0']")].filter((it) =>
 !(it.getAttribute("aria-label") || it.getAttribute("aria-labelledby") || it.textContent.trim()
 || ["presentation", "status", "alert"].includes(it.getAttribute("role")))).map((it) => it.outerHTML)'''
@@ -183,6 +191,28 @@ def check_loggers(check, browser, name, folder):
         check.equal('the log %s in %s' % (logger, name), expected, [[row[2], row[5]] for row in browser.run(CELLS)])
 
 
+def seen(way, digits):
+    """The direction and the octets of a frame as a row shows them. Where the log says no direction, that of the type."""
+    octets = bytes.fromhex(digits)
+    own = '<' if octets[0] >= 128 else '>'
+    return [ARROWS[own if way == '-' else way], octets[:SHOWN_OCTETS].hex() + '…' * (len(octets) > SHOWN_OCTETS)]
+
+
+def is_message(row):
+    """Whether a row has a message, and no line or octets that are none."""
+    return row[3] != 'bad line' and not re.match('wrong length|unknown|empty', row[3])
+
+
+def check_strangers(check, browser, name):
+    """Each log of tests/support/strangers.py: the page has the frames that fiolog has, and their directions."""
+    logs = [log for log in READ + PASSED if check.wants('the log %s in %s' % (log[0], name))]
+    browser.run(OPEN_ALL, [text for _, text, _ in logs])
+    browser.wait('return window.tables !== null')
+    for (title, _, frames), rows in zip(logs, browser.run('return window.tables')):
+        check.equal('the log %s in %s' % (title, name), [seen(frame[0], frame[1:]) for frame in frames],
+                    [[row[2], row[5]] for row in rows if is_message(row)])
+
+
 def check_fields(check, browser, name):
     """What the pointer and the keys mark."""
     example(browser, 'lost-answer.transcript')
@@ -305,7 +335,7 @@ def check_damaged(check, browser, name, folder):
         with open(path, 'w', encoding='utf-8') as file:
             file.write(text)
         opened(browser, path)
-        read = [row for row in browser.run(CELLS) if row[3] != 'bad line' and not re.match('wrong length|unknown', row[3])]
+        read = list(filter(is_message, browser.run(CELLS)))
         note = browser.run('return document.getElementById("note").textContent')
         check.equal('%s in %s' % (title, name), (count, True), (len(read), ' may be damaged: ' in note or ' is refused: ' in note
                                                                 or 'any length' in note or 'in each row' in note or 'a digit that is lost' in note or len(browser.run(CELLS)) > count or not words))
@@ -445,6 +475,7 @@ def check_browser(check, kind, folder):
             check_captures(check, browser, '%s with %d bits' % (kind.name, bits))
         check_examples(check, browser, kind.name)
         check_loggers(check, browser, kind.name, folder)
+        check_strangers(check, browser, kind.name)
         check_fields(check, browser, kind.name)
         check_many(check, browser, kind.name, folder)
         check_touch(check, browser, kind.name, folder)
