@@ -3,9 +3,12 @@
 const UNSEEN = /\x1b\[[0-?]*[ -/]*[@-~]|\x1b[()][0-9A-Za-z]|[\0\u200b-\u200f\u2060\ufeff]/g;
 const OTHER_BLANKS = /[\u00a0\u2000-\u200a\u202f\u205f\u3000]/g;
 
-// The lines of a text without colours and marks, and with plain blanks. A text without line feeds has carriage returns.
+// What ends the lines of a text: line feeds or, where there are none, carriage returns.
+const endOf = (text) => !text.includes('\n') && text.indexOf('\r') !== text.lastIndexOf('\r') ? '\r' : '\n';
+
+// The lines of a text without colours and marks, and with plain blanks.
 export function linesOf(text) {
-  const lines = text.replace(UNSEEN, '').replace(OTHER_BLANKS, ' ').split(text.includes('\n') ? '\n' : '\r');
-  if (lines[lines.length - 1] === '') lines.pop();
+  const end = endOf(text), lines = text.replace(UNSEEN, '').replace(OTHER_BLANKS, ' ').split(end);
+  if (text === '' || text.endsWith(end)) lines.pop();
   return lines;
 }

@@ -10,3 +10,6 @@ const NO_OCTETS = new Uint8Array(0);
 export function lineEvent(number, kind, text, more) {
   return { number, kind, text, octets: NO_OCTETS, time: null, clock: '', direction: '', note: '', isRefused: false, ...more };
 }
+
+// Whether a line is empty or marked as a remark.
+export const isRemark = (line) => line === '' || /^(?:#|;|\/\/)/.test(line);

@@ -1,7 +1,6 @@
 // The quick way: lines that begin as one that was read before, but for their digits.
 
 import { fromPlain } from './hex.js';
-import { matchAt } from './patterns.js';
 import { secondsOf } from './times.js';
 
 const MOST_HEADS = 64;
@@ -12,8 +11,8 @@ const maskOf = (text) => text.replace(/[1-9]/g, '0');
 
 // The heads of a log, by their lengths.
 export class Quick {
-  constructor(patterns, judge) {
-    Object.assign(this, { patterns, judge, heads: new Map(), count: 0 });
+  constructor(judge) {
+    Object.assign(this, { judge, heads: new Map(), count: 0 });
     // Frames with a zero before a digit.
     this.padded = 0;
   }
@@ -42,8 +41,9 @@ export class Quick {
   }
 
   // The seconds of the time in a head, and how it is written.
-  timeOf(text, { timeAt }) {
-    const found = timeAt ? matchAt(this.patterns.times[timeAt.name], text, timeAt.start) : null;
-    return found ? { time: secondsOf(found.groups), clock: found[0].trim() } : { time: null, clock: '' };
+  timeOf(text, { time }) {
+    if (time === null) return { time: null, clock: '' };
+    const parts = Object.fromEntries(time.parts.map(([name, span]) => [name, text.slice(...span)]));
+    return { time: secondsOf(parts), clock: text.slice(time.start, time.end).trim() };
   }
 }

@@ -17,9 +17,9 @@ const TWO_FRAMES = /^(?:[0-9A-F]{2}[ ]){2,}(?:[-=]+>|\u2192|<[-=]+|\/(?!\/))/i;
 const RETURNED = /"(?:[^"\\]|\\.)*"(?:\.{3})?, .*\)[ \t]+=[ \t]*(?<count>\d{1,5})(?!\S)/y;
 
 // One way to read a line. `prefix` names the pieces before the octets, `said` has the words of the direction, `start` is where
-// the octets begin, `countAt` where the count is, `timeAt` where the time is and of which form.
+// the octets begin, `countAt` where the count is, `timeFound` the match of the time.
 export const READING = { prefix: [], notation: '', shape: '', octets: null, time: null, clock: '', direction: '', count: null, offset: null,
-  said: '', start: 0, countAt: null, timeAt: null, isVague: false };
+  said: '', start: 0, countAt: null, timeFound: null, isVague: false };
 
 // The pieces that may come next.
 function piecesAfter({ prefix, direction, count, time }, words, patterns) {
@@ -36,9 +36,9 @@ function piecesAfter({ prefix, direction, count, time }, words, patterns) {
   ];
 }
 
-function afterTime(next, name, found) {
+function afterTime(next, found) {
   const time = secondsOf(found.groups);
-  return time === null ? null : { ...next, time, clock: found[0].trim(), timeAt: { name, start: found.index } };
+  return time === null ? null : { ...next, time, clock: found[0].trim(), timeFound: found };
 }
 
 function afterDirection(next, found, patterns) {
@@ -51,7 +51,7 @@ function afterDirection(next, found, patterns) {
 // What is known behind a piece; null where it can't be there.
 function after(reading, name, found, patterns) {
   const next = { ...reading, prefix: [...reading.prefix, name] };
-  if (name in patterns.times) return afterTime(next, name, found);
+  if (name in patterns.times) return afterTime(next, found);
   if (name === 'direction') return afterDirection(next, found, patterns);
   if (name === 'word' || name === 'name') {
     const word = found[0].replace(/^[.:,;| \t]+|[.:,;| \t]+$/g, '');
@@ -130,8 +130,13 @@ export function headingOf(patterns, text) {
   return head.direction || head.time !== null && text.length > 8 ? head : null;
 }
 
+// Where the time is, and where its parts are.
+function spansOf({ index, 0: text, indices: { groups } }) {
+  return { start: index, end: index + text.length, parts: Object.entries(groups).filter(([, span]) => span !== undefined) };
+}
+
 // What the quick way keeps of a reading; null where its octets are no plain digits to the end of the line.
-export function headOf({ notation, offset, prefix, direction, isVague: isUnclear, timeAt, countAt, shape }) {
+export function headOf({ notation, offset, prefix, direction, isVague: isUnclear, timeFound, countAt }) {
   if (notation !== 'hex' || offset !== null || prefix.includes('bare count')) return null;
-  return { direction, isVague: isUnclear, timeAt, countAt, shape };
+  return { direction, isVague: isUnclear, time: timeFound && spansOf(timeFound), countAt };
 }

@@ -11,7 +11,7 @@ export const OWN_SHAPES = new Set(['hex', 'direction, hex']);
 
 export class Known {
   constructor(patterns, judge) {
-    Object.assign(this, { patterns, judge, shapes: new Map(), quick: new Quick(patterns, judge), doubts: new Doubts(judge), above: null });
+    Object.assign(this, { patterns, judge, shapes: new Map(), quick: new Quick(judge), doubts: new Doubts(judge), above: null });
     // Whether lines have offsets; whether one has more than one octet.
     this.hasDumps = this.hasWhole = false;
     this.agreeing = this.reversed = 0;

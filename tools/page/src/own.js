@@ -1,8 +1,8 @@
 // The project's own texts: a frame a line, perhaps behind `> ` or `< `. Each other line of them is a bad one.
 
+import { isRemark } from './events.js';
 import { fromPlain } from './hex.js';
 import { isWrapped, Wrap } from './joins.js';
-import { isRemark } from './remarks.js';
 
 const OWN_FORMS = [['transcript', /^([<>]) ((?:[0-9a-f]{2})+)$/i], ['frames', /^()((?:[0-9a-f]{2})+)$/i]];
 // A line that is wrapped has so many characters, with blanks.
@@ -13,7 +13,7 @@ const SAMPLE = 300;
 // The name and the pattern of the own form that a text has; null where it has none. Other tools write such lines too: an octet
 // in each, or a frame on several.
 export function ownFormOf(lines, judge) {
-  const sample = lines.slice(0, SAMPLE).map((line) => line.trim()).filter((line) => !isRemark(line));
+  const sample = lines.map((line) => line.trim()).filter((line) => !isRemark(line)).slice(0, SAMPLE);
   const form = OWN_FORMS.find(([, pattern]) => sample.length > 0 && sample.filter((line) => pattern.test(line)).length * 2 >= sample.length);
   if (!form) return null;
   const hasWhole = lines.some((line) => form[1].exec(line.trim())?.[2].length > 2);

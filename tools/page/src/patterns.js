@@ -9,7 +9,7 @@ export class Patterns {
     this.parts = table.parts;
     const { before, after } = table.time;
     const timed = (text) => `${before}(?:${text})${after}`;
-    this.times = this.all(table.times, timed);
+    this.times = this.all(table.times, timed, 'd');
     this.wholeTimes = Object.values(table.times).map((text) => this.whole(timed(text)));
     this.pieces = { direction: this.sticky(this.directionText(table)), ...this.all(table.pieces, (text) => text, 'd') };
     const sides = ['sent', 'heard'].map((side) => table.directions[side]);

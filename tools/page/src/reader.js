@@ -7,7 +7,7 @@
 import { Choice } from './choice.js';
 import { linesOf } from './clean.js';
 import { Doubts } from './doubts.js';
-import { DAMAGED, FRAME, lineEvent, PASSED, REMARK } from './events.js';
+import { DAMAGED, FRAME, isRemark, lineEvent, PASSED, REMARK } from './events.js';
 import { Framing } from './fitting.js';
 import { headingOf, inPieces } from './grammar.js';
 import { Joined } from './joined.js';
@@ -17,7 +17,6 @@ import { MessageList } from './messagelist.js';
 import { hasLostOctets } from './noise.js';
 import { OctetRows } from './octet_rows.js';
 import { ownFormOf, readOwn } from './own.js';
-import { isRemark } from './remarks.js';
 import { Several } from './several.js';
 import { Tables } from './tables.js';
 import { Queue, Waiting } from './waiting.js';
@@ -122,7 +121,7 @@ export class Reader {
     if (!found) return null;
     const { head, octets, time, clock } = found;
     this.doubts.loose += this.judge.isLoose(octets) ? 1 : 0;
-    this.doubts.heads += head.direction !== '' || head.timeAt ? 1 : 0;
+    this.doubts.heads += head.direction !== '' || head.time ? 1 : 0;
     return lineEvent(number, FRAME, text, { octets, time, clock, direction: this.known.direction(head, octets) });
   }
 
