@@ -111,6 +111,7 @@ PASSED = [
     ('a number without its 0x', 'tx []byte{0x36, 05}\n', []),
     ('a list that is cut', 'rx <<182,47,2,54,196\n', []),
     ('a buffer that is cut', 'rx <Buffer b6 05 00 ... 40 more bytes>\nrx <Buffer 54 05>\n', []),
+    ('a buffer with a digit too many', 'tx <Buffer 36 055>\n', []),
     ('an object that is cut', '{\n  "dir": "tx",\n  "data": "3605"\n{\n  "dir": "rx",\n  "data": "b300"\n}\n', ['<b300']),
     ('an octet a line below whole frames', 'TX 36 05\nTX 36\nTX 34\n', ['>3605', '>34']),
     ('a type of any length, an octet a line', '> 36\n> 05\n< bc\n< 02\n', ['>3605']),

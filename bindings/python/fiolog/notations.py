@@ -24,10 +24,11 @@ _HALF_ESCAPE = re.compile(r'(?<!\\)(?:\\\\)*\\x(?![0-9a-fA-F]{2})')
 
 
 def from_digits(text):
-    """The octets of a list of hexadecimal words; none where one has lost a digit."""
-    if literals.is_uneven(_MARK.split(text)):
+    """The octets of a list of hexadecimal words; none where one has lost a digit, or gained one."""
+    words = _MARK.split(text)
+    if literals.is_uneven(words) or any(len(word) > 1 and len(word) % 2 for word in words):
         return b''
-    return bytes.fromhex(''.join('0' + one if len(one) == 1 else one for one in _MARK.split(text)))
+    return bytes.fromhex(''.join('0' + word if len(word) == 1 else word for word in words))
 
 
 def _from_numbers(text):
