@@ -145,7 +145,9 @@ def delimited(text):
         if literal:
             yield quoted.start(), literal
     for buffer in _BUFFER.finditer(text):
-        yield buffer.start(), from_digits(buffer[1].strip())
+        octets = from_digits(buffer[1].strip())
+        if octets:
+            yield buffer.start(), octets
     singles = len(_SINGLE.findall(text))
     for listed in _LISTED.finditer(text):
         if listed['brackets'] is not None and re.search(r'\w[ \t]*$', text[:listed.start()]):
