@@ -8,7 +8,7 @@ import shutil
 import statistics
 from pathlib import Path
 
-from programs import TOP, succeed
+from programs import TOP, counts, succeed
 
 TEXTS = Path(__file__).resolve().parent / 'calls'
 CRATES = ['fio_message', 'fio_input', 'fio_module', 'fio_cpu', 'fio_show', 'fio_world']
@@ -28,6 +28,19 @@ panic = "abort"
 
 [workspace]
 '''
+
+
+# The function of calls/operations.rs that makes a call, or some cases of it. Those that make `World::step` call one another
+# and are not counted.
+MAKERS = {'decode_command': 'decode_commands', 'read_command': 'read_commands', 'encode_command': 'encode_commands',
+          'write_command': 'write_commands', 'decode_answer': 'decode_answers', 'read_answer': 'read_answers',
+          'encode_answer': 'encode_answers', 'write_answer': 'write_answers', 'read_block': 'read_blocks',
+          'Filters::scan': 'scan_filters', 'Module::scan': 'scan_module', 'Module::receive': 'receive_each',
+          'Module::receive_into': 'receive_into_each', 'Poller::poll': 'write_polls', 'Poller::hear': 'hear_each'}
+MAKERS_OF_CASES = {('read_block', 'by a call, no entry read'): 'read_headers',
+                   ('Module::receive', 'new poll, 255 entries wait'): 'poll_each',
+                   ('Poller::hear', 'block of no entry'): 'hear_blocks',
+                   ('Poller::hear', 'block of 255 entries, the record grows'): 'hear_blocks'}
 
 
 def text(head):
@@ -71,3 +84,27 @@ def times(programs, rounds):
                 call, case, nanoseconds, count, _ = line.split('\t')
                 found[place].setdefault((call, case), []).append(int(nanoseconds) / int(count))
     return [{name: statistics.median(some) for name, some in one.items()} for one in found]
+
+
+def cases_by_maker(program):
+    """The calls that each function makes, with their cases and how often, in the order in which they are timed."""
+    found = {}
+    for line in succeed([program]).splitlines():
+        call, case, _, count, _ = line.split('\t')
+        maker = MAKERS_OF_CASES.get((call, case), MAKERS.get(call))
+        if maker:
+            found.setdefault(maker, []).append(((call, case), int(count)))
+    return found
+
+
+def instructions(programs, folder):
+    """Instructions of each call, by its name, for each of the programs."""
+    found = [{} for _ in programs]
+    for maker, cases in cases_by_maker(programs[0]).items():
+        for place, program in enumerate(programs):
+            counted = counts(program, maker, folder)
+            # Most are run once before they are timed.
+            runs = len(counted) // len(cases)
+            for (name, count), number in zip(cases, counted[runs - 1::runs]):
+                found[place][name] = number / count
+    return found

@@ -6,12 +6,10 @@ programs, and the counts are paired in their order. Before each function the pro
 function that is in C alone is counted beside the one below that does the same on the same inputs."""
 
 import os
-import re
 import shlex
-import shutil
 
 import calls
-from programs import TOP, Failed, succeed
+from programs import TOP, Failed, counts, succeed
 
 FUNCTIONS = ['decode_commands', 'copy_items', 'write_commands', 'decode_answers', 'write_answers', 'read_blocks',
              'read_headers', 'copy_entries', 'scan_filters', 'scan_module', 'receive_each', 'poll_each',
@@ -30,21 +28,6 @@ def build(folder):
     succeed([*compiler, '-O2', '-I', TOP / 'include', calls.TEXTS / 'library.c', folder / 'libfio2070.a',
              '-o', program])
     return program
-
-
-def counts(program, function, folder):
-    """The instructions of each call of the function, with all that it calls, in the order of the calls."""
-    parts = folder / 'parts'
-    shutil.rmtree(parts, ignore_errors=True)
-    parts.mkdir()
-    succeed(['valgrind', '--tool=callgrind', f'--toggle-collect=*{function}', f'--dump-after=*{function}',
-             f'--callgrind-out-file={parts}/part', program])
-    found = {}
-    for path in parts.iterdir():
-        text = path.read_text()
-        if 'desc: Trigger: --dump-after' in text:
-            found[int(path.suffix[1:])] = int(re.search(r'^summary: (\d+)', text, re.M).group(1))
-    return [found[part] for part in sorted(found)]
 
 
 def counts_by_case(said, program, function, folder):

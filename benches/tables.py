@@ -110,10 +110,11 @@ def of_profile(bench, program):
     return table(['Input', 'functions'], rows).replace('---:', '---')
 
 
-def of_calls(found):
-    """Nanoseconds of each call."""
-    rows = [[f'`{call}`', case, *compared([one.get((call, case)) for one in found], 1)] for call, case in found[0]]
-    heads = ['Call', 'case', *heads_of('ns', found)]
+def of_calls(counted, timed):
+    """Instructions and nanoseconds of each call."""
+    rows = [[f'`{call}`', case, *compared([one.get((call, case)) for one in counted], 0),
+             *compared([one.get((call, case)) for one in timed], 1)] for call, case in timed[0]]
+    heads = ['Call', 'case', *heads_of('instructions', counted), *heads_of('ns', timed)]
     return table(heads, rows).replace('| --- | ---: |', '| --- | --- |', 1)
 
 
