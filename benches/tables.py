@@ -110,12 +110,20 @@ def of_profile(bench, program):
     return table(['Input', 'functions'], rows).replace('---:', '---')
 
 
-def of_calls(counted, timed):
-    """Instructions and nanoseconds of each call."""
-    rows = [[f'`{call}`', case, *compared([one.get((call, case)) for one in counted], 0),
-             *compared([one.get((call, case)) for one in timed], 1)] for call, case in timed[0]]
-    heads = ['Call', 'case', *heads_of('instructions', counted), *heads_of('ns', timed)]
-    return table(heads, rows).replace('| --- | ---: |', '| --- | --- |', 1)
+def of_cases(name, found, digits, calls):
+    """One quantity of each case of these calls."""
+    rows = [[f'`{call}`', case, *compared([one.get((call, case)) for one in found], digits)] for call, case in calls]
+    return table(['Call', 'case', *heads_of(name, found)], rows).replace('| --- | ---: |', '| --- | --- |', 1)
+
+
+def of_calls(counted):
+    """Instructions of each call."""
+    return of_cases('instructions', counted, 0, counted[0])
+
+
+def of_times(timed):
+    """Nanoseconds of the calls that take memory, or are not counted."""
+    return of_cases('ns', timed, 1, [name for name in timed[0] if name[0] in ('Poller::hear', 'World::step')])
 
 
 def of_library(found):

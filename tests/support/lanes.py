@@ -137,13 +137,15 @@ class Lane:
         put_back(kept, os.path.join(folder, KEPT))
         if self.said:
             first = next(iter(group.bodies)).name.replace('/', ' ')
-            write(os.path.join(self.said, '%s %s' % (name, first)), '%s\n%s' % ('\n'.join(one.name for one in group.bodies), done.stdout))
+            names = [one.name for one in group.bodies]
+            write(os.path.join(self.said, '%s %s' % (name, first)), '\n'.join([*names, done.stdout]))
         return done
 
     @staticmethod
     def leave_hole(group, folder):
         """Leaves a hole in the answers of each function that is asked for: the prover tries the same of it, but does not run
-        once more for the answers that it would offer. Returns what undoes it: the files, and their texts, if any."""
+        once more for the answers that it would offer. No such function is proved, and a right one is refused by no clause.
+        Returns what undoes it: the files, and their texts, if any."""
         before = {}
         for short in group.asked():
             for name in group.crate.known:
