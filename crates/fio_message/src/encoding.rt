@@ -49,7 +49,20 @@ fn append_items(frame: &mut Frame, items: &[InputItem])
     let mut octets = [0; FRAME_OCTETS];
     let mut count = 0;
     for item in items {
-        let part = item.octets();
+        // Taken apart where it stands: of a copy, each octet would be shifted out.
+        let InputItem {
+            input,
+            ignore,
+            leading,
+            trailing,
+        } = *item;
+        let part = InputItem {
+            input,
+            ignore,
+            leading,
+            trailing,
+        }
+        .octets();
         octets[count] = part[0];
         octets[count + 1] = part[1];
         octets[count + 2] = part[2];
@@ -59,7 +72,7 @@ fn append_items(frame: &mut Frame, items: &[InputItem])
 }
 
 /// Appends all entries, three octets each.
-// As `append_items` does.
+// Put together as in `append_items`, each taken apart where it stands.
 #[inline(never)]
 fn append_entries(frame: &mut Frame, entries: &[Entry])
     requires { length frame.old.items + 3 * length entries.now ≤ FRAME_OCTETS }
@@ -70,7 +83,17 @@ fn append_entries(frame: &mut Frame, entries: &[Entry])
     let mut octets = [0; FRAME_OCTETS];
     let mut count = 0;
     for entry in entries {
-        let part = entry.octets();
+        let Entry {
+            input,
+            level,
+            stamp,
+        } = *entry;
+        let part = Entry {
+            input,
+            level,
+            stamp,
+        }
+        .octets();
         octets[count] = part[0];
         octets[count + 1] = part[1];
         octets[count + 2] = part[2];

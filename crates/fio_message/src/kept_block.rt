@@ -116,9 +116,13 @@ impl KeptBlock {
     pub fn copy_to(&self, frame: &mut Frame)
         ensures { frame.new.items ≡ kept_octets self.now }
     {
-        frame.clear();
+        let octets = self.as_slice();
+        frame.truncate(octets.len());
+        // What is left is written over, since `clear` would write zeros first.
+        let (over, after) = octets.split_at(frame.len());
+        frame.as_mut_slice().copy_from_slice(over);
         // There is room, so this never fails.
-        let _ = frame.try_extend_from_slice(self.as_slice());
+        let _ = frame.try_extend_from_slice(after);
     }
 }
 
