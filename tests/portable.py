@@ -4,6 +4,7 @@ the library for x86-64 answers: here by each compiler, on other processors under
 on a Cortex-M4 under qemu-system-arm. Two of those under qemu-user are asked for by default, with `--every` all. Last line:
 `N passed, M failed`."""
 
+import functools
 import os
 import re
 import shutil
@@ -151,10 +152,20 @@ def archive_for_aarch64():
         os.path.join(TOP, 'aarch64/libfio2070.a'), '-o', path('archive')) or differs(['qemu-aarch64', path('archive')])
 
 
+@functools.cache
+def object_fault():
+    """Makes the object that the examples and the tester are linked with. Returns what failed."""
+    return fault_of('gcc', '-O1', '-I', PORTABLE, '-c', os.path.join(PORTABLE, 'fio2070.c'), '-o', path('fio2070.o'))
+
+
+def link(name, *sources):
+    """Builds a program over the object. Returns what failed."""
+    return object_fault() or fault_of('gcc', '-O1', '-I', PORTABLE, *sources, path('fio2070.o'), '-o', path(name))
+
+
 def shows():
     """examples/c/decode.c over the portable library writes what stands beside the examples."""
-    fault = fault_of('gcc', '-O1', '-I', PORTABLE, os.path.join(TOP, 'examples/c/decode.c'),
-                     os.path.join(PORTABLE, 'fio2070.c'), '-o', path('decode'))
+    fault = link('decode', os.path.join(TOP, 'examples/c/decode.c'))
     for name in sorted(os.listdir(os.path.join(TOP, 'examples'))):
         if not fault and name.endswith('.frames'):
             with open(os.path.join(TOP, 'examples', name), 'rb') as file:
@@ -166,21 +177,25 @@ def shows():
 
 def polls():
     """The CPU's loop of examples/c/poller.c writes over the portable library what it writes over that for x86-64."""
-    for include, library, name in ((PORTABLE, os.path.join(PORTABLE, 'fio2070.c'), 'poller'),
-                                   (os.path.join(TOP, 'include'), os.path.join(TOP, 'libfio2070.a'), 'native-poller')):
-        fault = fault_of('gcc', '-O1', '-I', include, os.path.join(TOP, 'examples/c/poller.c'), library, '-o', path(name))
-        if fault:
-            return fault
+    source = os.path.join(TOP, 'examples/c/poller.c')
+    fault = link('poller', source) or fault_of('gcc', '-O1', '-I', os.path.join(TOP, 'include'), source,
+                                               os.path.join(TOP, 'libfio2070.a'), '-o', path('native-poller'))
+    if fault:
+        return fault
     ours, due = run(path('poller')), run(path('native-poller'))
     return None if ours.returncode == 0 and ours.stdout == due.stdout != '' else ours.stdout + ours.stderr
 
 
+@functools.cache
+def tester_fault():
+    """Builds the tester over the object. Returns what failed."""
+    folder = os.path.join(TOP, 'tools/conformance')
+    return link('tester', *(os.path.join(folder, name) for name in sorted(os.listdir(folder)) if name.endswith('.c')))
+
+
 def is_tested(end):
     """The tester over the portable library finds nothing at an end of it."""
-    folder = os.path.join(TOP, 'tools/conformance')
-    sources = [os.path.join(folder, name) for name in sorted(os.listdir(folder)) if name.endswith('.c')]
-    return fault_of('gcc', '-O1', '-I', PORTABLE, *sources, os.path.join(PORTABLE, 'fio2070.c'), '-o', path('tester')) or fault_of(
-        path('tester'), '--self', end, '20000')
+    return tester_fault() or fault_of(path('tester'), '--self', end, '20000')
 
 
 def is_found(wrong):

@@ -79,23 +79,14 @@ impl ModuleState {
         ensures same_memory { R.memory ring.new ≡ R.memory ring.old }
         ensures unchanged { result ≡ false → frame.new ≡ frame.old }
     {
-        let reply = self.reply(ring, command);
+        let reply = self.carry_out(ring, command);
         self.write_reply(&reply, frame)
     }
 
     /// Carries out a command as `obey` does, and says what the answer is. It needs no frame.
-    pub fn carry_out<R: EntryRing>(&mut self, ring: &mut R, command: CommandView<'_>) -> Reply
-        ensures obeyed { Obeys self.old (R.held ring.old) self.new (R.held ring.new)
-            (command_of command.entry) (reply_frame self.new result) }
-        ensures same_memory { R.memory ring.new ≡ R.memory ring.old }
-    {
-        self.reply(ring, command)
-    }
-
-    /// As `carry_out`.
-    // Inlined into `obey`, which it makes a third shorter to run; not into `Module::receive`, which would move a frame more.
+    // Inlined into `obey`, which it makes a third shorter to run.
     #[inline(always)]
-    fn reply<R: EntryRing>(&mut self, ring: &mut R, command: CommandView<'_>) -> Reply
+    pub fn carry_out<R: EntryRing>(&mut self, ring: &mut R, command: CommandView<'_>) -> Reply
         ensures obeyed { Obeys self.old (R.held ring.old) self.new (R.held ring.new)
             (command_of command.entry) (reply_frame self.new result) }
         ensures same_memory { R.memory ring.new ≡ R.memory ring.old }
