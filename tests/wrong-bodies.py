@@ -20,7 +20,8 @@ def fault_of(stanza, names):
         return 'what it changes does not stand once in its file'
     if names.count(stanza.name) > 1:
         return 'its name stands twice'
-    return None if stanza.refused_by else 'it has no line `refused-by:`'
+    count = sum(line.startswith('refused-by:') for line in stanza.lines)
+    return None if count == 1 else 'it has %d lines `refused-by:`' % count
 
 
 def rows_shown():
