@@ -49,7 +49,7 @@ fn append_items(frame: &mut Frame, items: &[InputItem])
     let mut octets = [0; FRAME_OCTETS];
     let mut count = 0;
     for item in items {
-        // Taken apart where it stands: of a copy, each octet would be shifted out.
+        // Field by field: of a copy of it, each octet would be shifted out.
         let InputItem {
             input,
             ignore,
@@ -72,7 +72,7 @@ fn append_items(frame: &mut Frame, items: &[InputItem])
 }
 
 /// Appends all entries, three octets each.
-// Put together as in `append_items`, each taken apart where it stands.
+// As `append_items` does.
 #[inline(never)]
 fn append_entries(frame: &mut Frame, entries: &[Entry])
     requires { length frame.old.items + 3 * length entries.now ≤ FRAME_OCTETS }
