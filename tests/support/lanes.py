@@ -16,7 +16,8 @@ KEPT, BUILT = (os.path.join('out', name) for name in ('incremental', 'rlib'))
 class Done:
     """What `rt` says in a folder, its status, and how many seconds of processor time it took."""
 
-    def __init__(self, folder, words):
+    def __init__(self, folder, words, only=()):
+        words = [*words, *(word for name in only for word in ('--only', name))]
         with subprocess.Popen(['rt', *words], cwd=folder, stdin=subprocess.DEVNULL, stdout=subprocess.PIPE,
                               stderr=subprocess.STDOUT, errors='replace') as process:
             self.stdout = process.stdout.read()
@@ -103,12 +104,13 @@ class Lane:
         return os.path.join(self.room, 'crates', crate.name)
 
     def is_proved(self, crate):
-        """Proves a crate as it is, which is the control of all. Where its library was built here, nothing is left to prove."""
+        """Proves of a crate as it is what the stanzas name, which is the control of all, and what that calls. Where its library
+        was built here, nothing is left to prove."""
         self.bring_libraries(crate)
         here, kept = os.path.join(TOP, 'crates', crate.name, KEPT), os.path.join(self.kept, crate.name)
         copy(here, os.path.join(self.folder(crate), KEPT), shutil.copy2)
         if not is_used(crate.name) or not os.path.isdir(here):
-            done = Done(self.folder(crate), ['check', '--jobs', '1'])
+            done = Done(self.folder(crate), ['check', '--jobs', '1'], crate.asked())
             crate.proof = done.seconds
             if done.returncode != 0:
                 crate.tell(done)
@@ -127,9 +129,8 @@ class Lane:
         copy(kept, os.path.join(folder, KEPT), shutil.copy2)
         for file, text in texts.items():
             write(os.path.join(folder, file), text)
-        only = [word for name in group.asked() for word in ('--only', name)]
-        holes = {} if group.is_control else self.leave_hole(group, folder)
-        done = Done(folder, ['check', '--jobs', '1', *only])
+        holes = self.leave_hole(group, folder)
+        done = Done(folder, ['check', '--jobs', '1'], group.asked())
         for file, text in holes.items():
             write(file, text)
         for file in texts:
@@ -143,11 +144,11 @@ class Lane:
 
     @staticmethod
     def leave_hole(group, folder):
-        """Leaves a hole in the answers of each function that is asked for: the prover tries the same of it, but does not run
-        once more for the answers that it would offer. No such function is proved, and a right one is refused by no clause.
-        Returns what undoes it: the files, and their texts, if any."""
+        """Leaves a hole in the answers of each function that is asked for, but not in those of controls: the prover tries the
+        same of it, but does not run once more for the answers that it would offer. No such function is proved, and a right one
+        is refused by no clause. Returns what undoes it: the files, and their texts, if any."""
         before = {}
-        for short in group.asked():
+        for short in group.asked([False]):
             for name in group.crate.known:
                 place = os.path.join(folder, 'proofs', *name.split('::')[1:])
                 if name.endswith('::' + short) and not os.path.exists(os.path.join(place, 'Proof.antt')):

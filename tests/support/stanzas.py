@@ -19,8 +19,8 @@ from support.functions import TOP
 class Stanza:
     """A wrong body or a wrong statement: its crate, its name, what it changes, and what refuses it."""
 
-    def __init__(self, crate, path, name, lines):
-        self.crate, self.path, self.name, self.lines = crate, path, name, lines
+    def __init__(self, crate, path, name, lines, is_control=False):
+        self.crate, self.path, self.name, self.lines, self.is_control = crate, path, name, lines, is_control
         self.changes, self.refused_by = [], None
         file, word = None, None
         for line in lines:
@@ -41,16 +41,22 @@ class Stanza:
         """The files that it changes, below its crate."""
         return sorted({file for file, _, _, _ in self.changes})
 
-    def has_control(self):
-        return any(control is not None for _, _, _, control in self.changes)
+    def named(self):
+        """The functions and laws that its line `refused-by:` names: those that its control proves."""
+        return {part.split(', ')[0] for part in (self.refused_by or '').split('; ')} - {''}
 
-    def apply(self, texts, is_control=False):
+    def control(self):
+        """The right statement beside a wrong one, as a stanza of its own, or None where there is none."""
+        has_one = any(control is not None for _, _, _, control in self.changes)
+        return Stanza(self.crate, self.path, self.name, self.lines, True) if has_one else None
+
+    def apply(self, texts):
         """The texts of files with each change made, by their paths below the crate, or None where one does not fit."""
         texts = dict(texts)
         for file, old, new, control in self.changes:
             if new is None or file not in texts or texts[file].count(old) != 1:
                 return None
-            texts[file] = texts[file].replace(old, control if is_control and control is not None else new)
+            texts[file] = texts[file].replace(old, control if self.is_control and control is not None else new)
         return texts if self.changes else None
 
 

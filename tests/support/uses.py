@@ -1,11 +1,12 @@
-"""What the laws of a crate rest on: the definitions and lemmas that their statements and proofs name, and those that these
-name."""
+"""What the laws of a crate rest on, and what its functions do: the definitions and lemmas that their statements and proofs
+name, and those that these name."""
 
+import functools
 import glob
 import os
 import re
 
-from support.functions import TOP
+from support.functions import TOP, sources_of
 
 WORDS = re.compile(r'[^\s()\[\]{},;.]+')
 KINDS = {'abbrev', 'unfoldable', 'pub', 'record', 'data', 'eta'}
@@ -51,10 +52,12 @@ class Uses:
     def scope(self, text):
         """The items that a file imports, by their names."""
         found = {}
-        for module, names in re.findall(r'^(?:ghost )?use Rattle\.%s\.([\w.]+?)(?:\.\{([^}]*)\}|;|$)' % self.crate, text,
-                                        re.M):
-            wanted = [name.strip() for name in names.split(',')] if names else self.names.get(module, ())
-            found.update((name, (module, name)) for name in wanted if name in self.names.get(module, ()))
+        for module, names in re.findall(r'^ *(?:pub )?(?:ghost )?use Rattle\.%s\.([\w.]+?)(?:\.\{([^}]*)\}|;|$)'
+                                        % self.crate, text, re.M):
+            wanted = names.split(',') if names else self.names.get(module, ())
+            for name, _, other in (one.strip().partition(' as ') for one in wanted):
+                if name in self.names.get(module, ()):
+                    found[other or name] = module, name
         return found
 
     @staticmethod
@@ -73,14 +76,33 @@ class Uses:
                 if module.startswith('proofs.laws.%s.' % name):
                     left += self.named(self.texts[module], self.scope(self.texts[module]))
                     left += [(module, one) for one in self.names[module]]
-            found = set()
-            while left:
-                item = left.pop()
-                if item not in found:
-                    found.add(item)
-                    left += self.used.get(item, ())
-            self.reached[law] = found
+            self.reached[law] = self.reached_from(left)
         return self.reached[law]
+
+    @functools.cached_property
+    def of_functions(self):
+        """The items that functions which are no laws rest on."""
+        left = []
+        for path, text in sources_of(self.crate).items():
+            if os.path.basename(path) != 'laws.rt':
+                left += self.named(text, self.scope(text))
+                left += [(module.replace('::', '.'), name)
+                         for module, name in re.findall(r'\bcrate::(proofs(?:::\w+)*)::(\w+)', text)]
+        for module, text in self.texts.items():
+            if re.fullmatch(r'proofs\.(?!laws\.).*\.(Answers|Invariants|Proof)', module):
+                left += self.named(text, self.scope(text))
+                left += [(module, one) for one in self.names[module]]
+        return self.reached_from(left)
+
+    def reached_from(self, left):
+        """These items, and those that they name, directly or not."""
+        found, left = set(), list(left)
+        while left:
+            item = left.pop()
+            if item not in found:
+                found.add(item)
+                left += self.used.get(item, ())
+        return found
 
     def changed(self, stanza):
         """The definitions that a stanza changes: none where it changes functions too."""

@@ -66,6 +66,11 @@ def refusals(said):
     return refused
 
 
+def proved(said):
+    """The functions that are proved, by their whole names."""
+    return [verdict[1] for verdict in map(VERDICT.match, said.splitlines()) if verdict and verdict[2] == 'proved']
+
+
 def unread(said):
     """Why a check tried no contract: the line by which the prover does not read what was changed, or None."""
     for line in said.splitlines():
