@@ -166,7 +166,8 @@ def check_terminal(check, folder):
     check.holds('the colour of a breach', 'line 2: \x1b[31;1madvance\x1b[0m: block 255 was due' in text, text)
     path, kept = os.path.join(folder, 'long.log'), os.path.join(folder, 'kept')
     with open(path, 'w', encoding='ascii') as file:
-        file.write(LOG * (5 * 2 ** 20 // len(LOG)))
+        # Long by its octets, not by its messages.
+        file.write((LOG * 5 + 'link down, %s\n' % ('-' * 2 ** 15)) * 125)
     text = on_terminal(sys.executable, ['stats', path], **without(folder, 'rich'))
     check.holds('without rich a word and a plain table', 'rich is not installed: no progress bar' in text
                 and 'rich is not installed: plain tables' in text and re.search(r'\n  polls +\d+', text), text)

@@ -90,10 +90,16 @@ def refuses(change, words):
     return None if done.returncode and words in done.stderr else 'status %d: %s' % (done.returncode, done.stderr)
 
 
+@functools.cache
+def warnings(compiler):
+    """Compiles the library alone. Returns what a compiler warns of."""
+    return fault_of(compiler, '-std=c99', '-Os', *STRICT, '-c', os.path.join(PORTABLE, 'fio2070.c'), '-o', path(compiler + '.o'))
+
+
 def is_alone(compiler):
     """The object needs three functions, and has no data that is written."""
-    fault = fault_of(compiler, '-std=c99', '-Os', '-c', os.path.join(PORTABLE, 'fio2070.c'), '-o', path('alone.o'))
-    names = run('nm', path('alone.o')).stdout
+    fault = warnings(compiler)
+    names = run('nm', path(compiler + '.o')).stdout
     others = [line for line in names.splitlines()
               if re.search(r' [dDbBC] ', line) or re.search(r' U (?!mem(cpy|move|set)$)', line)]
     return fault or others or None
@@ -233,8 +239,7 @@ for compiler in ('gcc', 'clang'):
     if not shutil.which(compiler):
         check.skip('by ' + compiler, 'no %s here' % compiler)
         continue
-    check.fault('no warning by ' + compiler, fault_of, compiler, '-std=c99', '-Os', *STRICT, '-c',
-                os.path.join(PORTABLE, 'fio2070.c'), '-o', path('strict.o'))
+    check.fault('no warning by ' + compiler, warnings, compiler)
     check.fault('alone by ' + compiler, is_alone, compiler)
     check.fault('frames and links by ' + compiler, lambda by: build(by, ['-O1', *FAULTS.get(by, [])], by) or differs([path(by)]), compiler)
 check.fault('the decoder of the examples', shows)

@@ -50,9 +50,9 @@ class Uses:
                 self.used.setdefault((module, name), set()).update(self.named(text[start:end], scope))
 
     def scope(self, text):
-        """The items that a file imports, by their names."""
+        """The items that a file imports, by their names: all of a module where it imports that, by another name too."""
         found = {}
-        for module, names in re.findall(r'^ *(?:pub )?(?:ghost )?use Rattle\.%s\.([\w.]+?)(?:\.\{([^}]*)\}|;|$)'
+        for module, names in re.findall(r'^ *(?:pub )?(?:ghost )?use Rattle\.%s\.([\w.]+?)(?:\.\{([^}]*)\}| as \w+)?(?:;|$)'
                                         % self.crate, text, re.M):
             wanted = names.split(',') if names else self.names.get(module, ())
             for name, _, other in (one.strip().partition(' as ') for one in wanted):
@@ -62,7 +62,10 @@ class Uses:
 
     @staticmethod
     def named(text, scope):
-        return {scope[word] for word in WORDS.findall(text) if word in scope}
+        """The items that a text names, and the lemmas that its attributes do."""
+        lemmas = re.findall(r'\bcrate::(proofs(?:::\w+)*)::(\w+)', text)
+        return ({scope[word] for word in WORDS.findall(text) if word in scope}
+                | {(module.replace('::', '.'), name) for module, name in lemmas})
 
     def rests_on(self, law):
         """The items that a law, `law NAME`, rests on."""
@@ -70,7 +73,7 @@ class Uses:
             name = law.removeprefix('law ')
             path = os.path.join(self.folder, 'src', 'laws.rt')
             text = read(path) if os.path.exists(path) else ''
-            stated = re.search(r'^pub fn %s\b[^\n]*\n(?:    [^\n]*\n)*' % re.escape(name), text, re.M)
+            stated = re.search(r'^(?:#\[[^\n]*\n)*pub fn %s\b[^\n]*\n(?:    [^\n]*\n)*' % re.escape(name), text, re.M)
             left = list(self.named(stated[0] if stated else '', self.scope(text)))
             for module in self.texts:
                 if module.startswith('proofs.laws.%s.' % name):
@@ -86,8 +89,6 @@ class Uses:
         for path, text in sources_of(self.crate).items():
             if os.path.basename(path) != 'laws.rt':
                 left += self.named(text, self.scope(text))
-                left += [(module.replace('::', '.'), name)
-                         for module, name in re.findall(r'\bcrate::(proofs(?:::\w+)*)::(\w+)', text)]
         for module, text in self.texts.items():
             if re.fullmatch(r'proofs\.(?!laws\.).*\.(Answers|Invariants|Proof)', module):
                 left += self.named(text, self.scope(text))
