@@ -93,7 +93,8 @@ def refuses(change, words):
 @functools.cache
 def warnings(compiler):
     """Compiles the library alone. Returns what a compiler warns of."""
-    return fault_of(compiler, '-std=c99', '-Os', *STRICT, '-c', os.path.join(PORTABLE, 'fio2070.c'), '-o', path(compiler + '.o'))
+    return fault_of(compiler, '-std=c99', '-Os', *STRICT, '-c', os.path.join(PORTABLE, 'fio2070.c'),
+                    '-o', path(compiler + '.o'))
 
 
 def is_alone(compiler):
