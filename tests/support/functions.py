@@ -10,22 +10,29 @@ TOP = os.path.dirname(os.path.dirname(os.path.dirname(os.path.realpath(__file__)
 
 
 class Function:
-    """A function of a crate: its file, the type whose method it is, the trait if any, its name, and where it stands."""
+    """A function of a crate: its file, the type whose method it is, the trait if any, its name, and where it stands. Its home
+    is the file whose modules its whole name has: that of the type, for a method of no trait."""
 
-    def __init__(self, path, owner, trait, name, is_public, start, body, end):
-        self.path, self.owner, self.trait, self.name, self.is_public = path, owner, trait, name, is_public
+    def __init__(self, path, owner, trait, name, words, start, body, end):
+        self.path, self.owner, self.trait, self.name = path, owner, trait, name
+        self.is_public, self.is_const = words.startswith('pub '), 'const ' in words
         self.start, self.body, self.end = start, body, end
-        self.short = ''
+        self.home, self.short = path, ''
 
     def label(self):
         """Its name as the prover writes it, without the modules."""
         return '::'.join(part for part in (self.owner + self.trait, self.name) if part)
 
     def place(self):
-        """Its name with the modules of its file before it."""
-        crate, _, inner = os.path.relpath(self.path, os.path.join(TOP, 'crates')).partition(os.sep + 'src' + os.sep)
-        modules = [] if inner == 'lib.rt' else inner[:-len('.rt')].split(os.sep)
-        return '::'.join([crate, *modules, self.label()])
+        """Its whole name, as the prover writes it."""
+        return place_of(self.home, self.label())
+
+
+def place_of(path, name):
+    """The whole name, as the prover writes it, of what a file of a crate has."""
+    crate, _, inner = os.path.relpath(path, os.path.join(TOP, 'crates')).partition(os.sep + 'src' + os.sep)
+    modules = [] if inner == 'lib.rt' else inner[:-len('.rt')].split(os.sep)
+    return '::'.join([crate, *modules, name])
 
 
 def without_words(text):
@@ -44,26 +51,47 @@ def end_of_braces(text, start):
     return len(text)
 
 
-def type_name(header):
-    """The type of an `impl`, as the prover names it: for that of a trait, with the types that it is of."""
-    return header[2] + ''.join(re.findall(r'\b[A-Z]\w*', header[3] or '') if header[1] else '')
+HEADER = re.compile(r'^impl(?:<[^{]*?>)?\s+(?:(?:\w+::)*(\w+)(<[^{]*?>)?\s+for\s+)?(&?\[?)(\w+)\]?(<[^{>]*>)?[^{]*\{', re.M)
+
+
+def owner_of(header):
+    """The type and the trait, if any, of an `impl`, as the prover names them: with the types that a trait, or the type
+    that has it, is of."""
+    trait, of_trait, mark, name, of_type = header.groups(default='')
+    words = [''.join(re.findall(r'\b[A-Z]\w+', one)) for one in (of_trait, of_type)]
+    marks = 'Ref' * mark.count('&') + 'Slice' * mark.count('[')
+    return marks + name + words[1] * bool(trait), trait + words[0]
 
 
 def functions_of(path, text):
-    """The functions of a file. The last brace pair of an item, behind its clauses, is the body."""
+    """The functions of a file, less those that a trait wants. The last brace pair of an item, behind its clauses, is the
+    body."""
     text = without_words(text)
-    header = re.compile(r'^impl(?:<[^{]*?>)?\s+(?:(?:\w+::)*(\w+)(?:<[^{]*?>)?\s+for\s+)?(\w+)(<[^{>]*>)?[^{]*\{', re.M)
-    owners = [(found.start(), end_of_braces(text, found.end() - 1), type_name(found), found[1] or '')
-              for found in header.finditer(text)]
-    for found in re.finditer(r'^( *)(pub(?:\(crate\)|\(super\))? )?(?:const |extern +)?fn (\w+)', text, re.M):
+    owners = [(found.start(), end_of_braces(text, found.end() - 1), *owner_of(found)) for found in HEADER.finditer(text)]
+    traits = [(found.start(), end_of_braces(text, found.end() - 1))
+              for found in re.finditer(r'^(?:pub(?:\(crate\))? )?trait [^{]*\{', text, re.M)]
+    for found in re.finditer(r'^( *)((?:pub(?:\(crate\)|\(super\))? )?(?:const |extern +)?)fn (\w+)', text, re.M):
         closing = re.compile(r'^%s\}$' % found[1], re.M).search(text, found.end())
-        if closing is None:
+        if closing is None or any(start < found.start() < end for start, end in traits):
             continue
         bodies = [place for place in range(found.end(), closing.end())
                   if text[place:place + 2] == '{\n' and end_of_braces(text, place) == closing.end()]
         if bodies:
             owner = next(((name, trait) for start, end, name, trait in owners if start < found.start() < end), ('', ''))
-            yield Function(path, *owner, found[3], found[2] == 'pub ', found.start(), bodies[-1], closing.end())
+            yield Function(path, *owner, found[3], found[2], found.start(), bodies[-1], closing.end())
+
+
+def homes_of(sources):
+    """The file of each type of a crate."""
+    return {found[1]: path for path, text in sources.items()
+            for found in re.finditer(r'^ *(?:pub(?:\(crate\)|\(super\))? )?(?:struct|enum) (\w+)', text, re.M)}
+
+
+def settle(functions, homes):
+    """Gives functions their homes, by those of the types of the crate."""
+    for one in functions:
+        one.home = one.path if one.trait else homes.get(one.owner, one.path)
+    return functions
 
 
 def name_functions(functions):
@@ -93,6 +121,15 @@ def changed_places(sources, stanza):
         for tag, first, last, _, _ in matched.get_opcodes():
             if tag != 'equal':
                 yield os.path.join(folder, file), starts[first], max(starts[first] + 1, starts[last])
+
+
+def without_bodies(text, functions):
+    """The text of a file with nothing in the bodies of these functions of it, which nobody may call then. Bodies that are
+    computed while the code is read stay."""
+    for one in sorted(functions, key=lambda one: -one.body):
+        if not one.is_const:
+            text = text[:one.body] + '{ unreachable!() }' + text[one.end:]
+    return text
 
 
 def changed_functions(functions, sources, stanza):

@@ -1,24 +1,40 @@
-"""Copies of the crates, in which `rt` proves crates as they are and with wrong bodies."""
+"""Copies of the crates, in which the prover tries wrong bodies over what it has read of each crate.
+
+Only the functions that are asked for have their bodies and their proofs there, so that no time goes into the others: a
+function is proved by the contracts of those that it calls, whatever their bodies are."""
 
 import os
+import re
 import shutil
 import subprocess
 
 from support.copies import link_or_copy
 from support.functions import TOP
+from support.kit import crates_of, rtlib
+from support.stanzas import texts_of
 
 # A definition that is never admitted.
 HOLE = '\nhole : Type 0\nhole = ?\n'
-# Where `rt` keeps what it has proved of a crate, and the library that it has built.
+# The proof of a function that is not asked for.
+LEFT_OUT = '''use Rattle.{place}.Statement.{{statement}}
+{lemmas}
+left_out : (A : Type 2) → A
+left_out = ?
+
+pub {name}_spec : {{M : Type 1}} → statement M
+{name}_spec {{M}} = left_out (statement M)
+'''
+# The files of a function's proof.
+ANSWERS, INVARIANTS, PROOF = PROOF_FILES = 'Answers.antt', 'Invariants.antt', 'Proof.antt'
+# Where `rt` keeps what it has read and proved of a crate, and the library that it has built.
 KEPT, BUILT = (os.path.join('out', name) for name in ('incremental', 'rlib'))
 
 
 class Done:
-    """What `rt` says in a folder, its status, and how many seconds of processor time it took."""
+    """What a command says in a folder, its status, and how many seconds of processor time it took."""
 
-    def __init__(self, folder, words, only=()):
-        words = [*words, *(word for name in only for word in ('--only', name))]
-        with subprocess.Popen(['rt', *words], cwd=folder, stdin=subprocess.DEVNULL, stdout=subprocess.PIPE,
+    def __init__(self, folder, words):
+        with subprocess.Popen(words, cwd=folder, stdin=subprocess.DEVNULL, stdout=subprocess.PIPE,
                               stderr=subprocess.STDOUT, errors='replace') as process:
             self.stdout = process.stdout.read()
             _, status, used = os.wait4(process.pid, 0)
@@ -26,42 +42,24 @@ class Done:
         self.seconds = used.ru_utime + used.ru_stime
 
 
-def crates_listed():
-    """Each crate of `crates.txt`, with its kind, if that is told, and what it uses."""
-    with open(os.path.join(TOP, 'crates.txt'), encoding='utf-8') as file:
-        for line in file:
-            words, _, used = line.partition(':')
-            if words.strip() and not words.startswith('#'):
-                name, *kind = words.split()
-                yield name, kind, used.split()
-
-
-USED = {name: used for name, _, used in crates_listed()}
-STATIC = {name for name, kind, _ in crates_listed() if 'staticlib' in kind}
-
-
-def is_used(name):
-    """Whether other crates use a crate."""
-    return any(name in used for used in USED.values())
+CRATES = crates_of(TOP)
 
 
 def crates_below(name):
-    """The crates that a crate uses, directly or not."""
-    own = {one for one in USED[name] if one in USED}
-    return own.union(*map(crates_below, own))
+    """The crates that a crate uses, directly or not, lowest first."""
+    return [one.name for one in CRATES[name].below()]
 
 
-def read(path):
-    with open(path, encoding='utf-8') as file:
-        return file.read()
-
-
-def write(path, text):
-    """Writes a file, or removes it where there is no text."""
-    if text is None:
-        return os.remove(path)
-    with open(path, 'w', encoding='utf-8') as file:
-        file.write(text)
+def lay(folder, texts):
+    """Makes the files of a function's proof in a folder what these texts are, and takes the others away."""
+    os.makedirs(folder, exist_ok=True)
+    for name in PROOF_FILES:
+        path = os.path.join(folder, name)
+        if name in texts:
+            with open(path, 'w', encoding='utf-8') as file:
+                file.write(texts[name])
+        elif os.path.exists(path):
+            os.remove(path)
 
 
 def copy(source, target, by):
@@ -83,77 +81,97 @@ def put_back(kept, copied):
 
 
 class Lane:
-    """A copy of the crates, in which one crate is proved or one group tried after the other. What was proved of each crate
-    as it is stands in `kept`, for all lanes."""
+    """A copy of the crates, in which one group is tried after the other. What the prover read of each crate as it is stands
+    in `kept`, for all lanes."""
 
-    def __init__(self, room, kept, said):
-        self.room, self.kept, self.said = room, kept, said
+    def __init__(self, room, kept, guard, said):
+        self.room, self.kept, self.guard, self.said = room, kept, guard, said
         os.mkdir(room)
         for name in ('crates.txt', 'HANDLES'):
             shutil.copy(os.path.join(TOP, name), room)
         for crate in os.listdir(os.path.join(TOP, 'crates')):
             for part in ('src', 'specs', 'proofs'):
                 copy(os.path.join(TOP, 'crates', crate, part), os.path.join(room, 'crates', crate, part), shutil.copy2)
-
-    def bring_libraries(self, crate):
-        """Brings the libraries that a crate uses: they are only read, or made anew."""
-        for name in crates_below(crate.name):
-            copy(os.path.join(TOP, 'crates', name, BUILT), os.path.join(self.room, 'crates', name, BUILT), link_or_copy)
+        self.crates, self.begun = crates_of(room), set()
 
     def folder(self, crate):
         return os.path.join(self.room, 'crates', crate.name)
 
-    def is_proved(self, crate):
-        """Proves of a crate as it is what the stanzas name, which is the control of all, and what that calls. Where its library
-        was built here, nothing is left to prove."""
-        self.bring_libraries(crate)
-        here, kept = os.path.join(TOP, 'crates', crate.name, KEPT), os.path.join(self.kept, crate.name)
-        copy(here, os.path.join(self.folder(crate), KEPT), shutil.copy2)
-        if not is_used(crate.name) or not os.path.isdir(here):
-            done = Done(self.folder(crate), ['check', '--jobs', '1'], crate.asked())
-            crate.proof = done.seconds
-            if done.returncode != 0:
-                crate.tell(done)
-                return False
-        shutil.copytree(os.path.join(self.folder(crate), KEPT), kept)
-        crate.know(kept)
+    def proof_folder(self, crate, place):
+        return os.path.join(self.folder(crate), 'proofs', *place.split('::')[1:])
+
+    def bring(self, crate):
+        """Brings the libraries that a crate uses, which are only read, and leaves bodies and proofs out."""
+        for name in crates_below(crate.name):
+            copy(os.path.join(TOP, 'crates', name, BUILT), os.path.join(self.room, 'crates', name, BUILT), link_or_copy)
+        if crate.name not in self.begun:
+            self.begun.add(crate.name)
+            for short in crate.places:
+                self.leave_out(crate, short)
+            self.write(crate, {}, set())
+
+    def write(self, crate, texts, named):
+        """Writes the files of code, and the texts given, with the bodies of these functions alone."""
+        for file, text in {**crate.files, **texts}.items():
+            if file in crate.files:
+                text = crate.with_bodies(file, text, named)
+            with open(os.path.join(self.folder(crate), file), 'w', encoding='utf-8') as out:
+                out.write(text)
+
+    def leave_out(self, crate, short):
+        """Leaves a hole instead of the proof of a function. It names the lemmas of that, so that they are read."""
+        place = crate.places[short]
+        lemmas = ''.join('use Rattle.%s.proofs.%s\n' % (crate.name, name) for name in sorted(crate.lemmas_of(short)))
+        name = '%s.proofs.%s' % (crate.name, '.'.join(place.split('::')[1:]))
+        text = LEFT_OUT.format(place=name, lemmas=lemmas, name=place.split('::')[-1])
+        lay(self.proof_folder(crate, place), {PROOF: text})
+
+    def bring_back(self, crate, short, is_tried):
+        """Brings back the proof of a function. A wrong body is tried with a hole in its answers: the prover tries the same
+        of it, but does not run once more for the answers that it would offer. So none is proved, and a right one is refused
+        by no clause."""
+        texts = dict(crate.proofs_of(short))
+        if is_tried and PROOF not in texts:
+            texts[ANSWERS] = texts.get(ANSWERS, '') + HOLE
+        lay(self.proof_folder(crate, crate.places[short]), texts)
+
+    def run(self, crate, named):
+        words = [word for name in sorted(named) for word in ('--only', crate.places.get(name, name))]
+        words = self.crates[crate.name].words(['--jobs', '1', *words])
+        return Done(self.folder(crate), [*self.guard, rtlib().RATTLE, 'check', *words, *rtlib().KEPT])
+
+    def read(self, crate):
+        """Has the prover read a crate without bodies and proofs. It must find no other fault."""
+        self.bring(crate)
+        done = self.run(crate, crate.named())
+        crate.reading = done.seconds
+        faults = re.findall(r'^(?:.*: )?error[:[](?! 1 declaration that depends on `left_out`).*', done.stdout, re.M)
+        if faults or not re.search('^only=', done.stdout, re.M):
+            crate.tell(done)
+            return False
+        shutil.copytree(os.path.join(self.folder(crate), KEPT), os.path.join(self.kept, crate.name))
         return True
 
     def check(self, group):
         """What the prover says of a group, and its status, or None where a stanza does not fit."""
-        name, texts = group.crate.name, group.texts()
+        crate, texts = group.crate, group.texts()
         if texts is None:
             return None
-        self.bring_libraries(group.crate)
-        folder, kept = self.folder(group.crate), os.path.join(self.kept, name)
+        self.bring(crate)
+        folder, kept = self.folder(crate), os.path.join(self.kept, crate.name)
         copy(kept, os.path.join(folder, KEPT), shutil.copy2)
-        for file, text in texts.items():
-            write(os.path.join(folder, file), text)
-        holes = self.leave_hole(group, folder)
-        done = Done(folder, ['check', '--jobs', '1'], group.asked())
-        for file, text in holes.items():
-            write(file, text)
-        for file in texts:
-            shutil.copy2(os.path.join(TOP, 'crates', name, file), os.path.join(folder, file))
+        named, tried = group.named(), group.named([False])
+        self.write(crate, texts, named)
+        for short in named & crate.places.keys():
+            self.bring_back(crate, short, short in tried)
+        done = self.run(crate, named)
+        for short in named & crate.places.keys():
+            self.leave_out(crate, short)
+        self.write(crate, texts_of(crate.name, texts), set())
         put_back(kept, os.path.join(folder, KEPT))
         if self.said:
             first = next(iter(group.bodies)).name.replace('/', ' ')
             names = [one.name for one in group.bodies]
-            write(os.path.join(self.said, '%s %s' % (name, first)), '\n'.join([*names, done.stdout]))
+            with open(os.path.join(self.said, '%s %s' % (crate.name, first)), 'w', encoding='utf-8') as out:
+                out.write('\n'.join([*names, done.stdout]))
         return done
-
-    @staticmethod
-    def leave_hole(group, folder):
-        """Leaves a hole in the answers of each function that is asked for, but not in those of controls: the prover tries the
-        same of it, but does not run once more for the answers that it would offer. No such function is proved, and a right one
-        is refused by no clause. Returns what undoes it: the files, and their texts, if any."""
-        before = {}
-        for short in group.asked([False]):
-            for name in group.crate.known:
-                place = os.path.join(folder, 'proofs', *name.split('::')[1:])
-                if name.endswith('::' + short) and not os.path.exists(os.path.join(place, 'Proof.antt')):
-                    os.makedirs(place, exist_ok=True)
-                    file = os.path.join(place, 'Answers.antt')
-                    before[file] = read(file) if os.path.exists(file) else None
-                    write(file, (before[file] or '') + HOLE)
-        return before

@@ -9,7 +9,6 @@ are no others, so it is written, last of all."""
 import argparse
 import os
 import shutil
-import subprocess
 import sys
 import time
 
@@ -18,14 +17,7 @@ TOP = os.path.dirname(os.path.dirname(os.path.dirname(os.path.realpath(__file__)
 sys.path.insert(0, os.path.join(TOP, 'tests'))
 
 from support.copies import link_or_copy
-
-
-def libraries_below(name, folder):
-    """The libraries that a crate of a repository uses, as `rt` knows them, lowest first."""
-    start = subprocess.run(['rt', 'doc'], stdout=subprocess.PIPE, check=True).stdout.decode().strip()
-    sys.path.insert(0, os.path.join(os.path.dirname(start), 'bin'))
-    import rtlib
-    return next(one for one in rtlib.crates_below(folder) if one.name == name).below()
+from support.kit import crates_of
 
 
 def files_of(crate):
@@ -56,7 +48,7 @@ def main():
     parser.add_argument('copy', type=os.path.realpath)
     parser.add_argument('--until', metavar='FILE', required=True)
     given = parser.parse_args()
-    left, seen = libraries_below(given.crate, given.copy), {}
+    left, seen = crates_of(given.copy)[given.crate].below(), {}
     while left:
         is_last = os.path.exists(given.until)
         files = files_of(left[0])

@@ -39,8 +39,8 @@ def short_name(name):
 
 def goals_in(said):
     """The goals that an error in a proof names: the one that it is of, and those that depend on what it refuses. Where a
-    proof only names what a change took away, no goal was tried."""
-    if LOST_NAME.search(said):
+    proof only names what a change took away, or is left out, no goal was tried."""
+    if LOST_NAME.search(said) or 'depends on `left_out`' in said:
         return []
     left = re.search(r'(?:was|were) not checked: (.*)', said)
     if left:
