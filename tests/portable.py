@@ -26,6 +26,7 @@ COMPARE = os.path.join(TOP, 'tests/support/c/compare.c')
 STRICT = ['-Wall', '-Wextra', '-Wpedantic', '-Wconversion', '-Werror']
 # By one compiler: each takes long over a file of this size.
 FAULTS = {'gcc': ['-fsanitize=address,undefined', '-fno-sanitize-recover=all']}
+QUICKEST = 'clang' if shutil.which('clang') else 'gcc'
 # name, prefix of the compiler, its options, command of qemu-user.
 PROCESSORS = [('powerpc', 'powerpc-linux-gnu-', [], 'qemu-ppc'),
               ('armhf', 'arm-linux-gnueabihf-', ['-mthumb'], 'qemu-arm'),
@@ -213,7 +214,7 @@ def is_found(wrong):
     done = run(sys.executable, os.path.join(folder, 'translate'), MODULE, os.path.join(TOP, 'include/fio2070.h'), folder)
     if done.returncode:
         return 'it was not run: ' + done.stderr
-    if build('gcc', ['-O0', '-w'], 'wrong.run', folder):
+    if build(QUICKEST, ['-O0', '-w'], 'wrong.run', folder):
         return 'it does not compile'
     return None if run('timeout', '20', path('wrong.run'), *SHORT).stdout != wanted else 'the comparison is the same'
 
