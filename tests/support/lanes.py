@@ -127,9 +127,9 @@ class Lane:
         lay(self.proof_folder(crate, place), {PROOF: text})
 
     def bring_back(self, crate, short, is_tried):
-        """Brings back the proof of a function. A wrong body is tried with a hole in its answers: the prover tries the same
-        of it, but does not run once more for the answers that it would offer. So none is proved, and a right one is refused
-        by no clause."""
+        """Brings back the proof of a function. What is tried has a hole in its answers: the prover tries the same of it, but
+        does not run once more for the answers that it would offer. So no function is proved, and a right one is refused by
+        no clause. The law of a control has none."""
         texts = dict(crate.proofs_of(short))
         if is_tried and PROOF not in texts:
             texts[ANSWERS] = texts.get(ANSWERS, '') + HOLE
@@ -163,7 +163,7 @@ class Lane:
         named, tried = group.named(), group.named([False])
         self.write(crate, texts, named)
         for short in named & crate.places.keys():
-            self.bring_back(crate, short, short in tried)
+            self.bring_back(crate, short, short in tried or not short.startswith('law '))
         done = self.run(crate, named)
         for short in named & crate.places.keys():
             self.leave_out(crate, short)
