@@ -15,9 +15,8 @@ sys.dont_write_bytecode = True
 
 from support.check import Check
 from support.messages import LENGTHS
-from support.tables import TOP, output_of
+from support.tables import TOP, program
 
-PROGRAM = os.path.join(TOP, 'crates', 'fio2070', 'out', 'fio2070')
 TOOLS = ('show', 'simulate', 'check', 'record')
 SECONDS = 10
 
@@ -256,7 +255,7 @@ def run(case):
     """How the run of a case ends, and what is wrong with it, or None."""
     _, tool, text = case
     try:
-        done = subprocess.run([PROGRAM, tool], input=text, stdout=subprocess.PIPE, stderr=subprocess.PIPE,
+        done = subprocess.run([program(), tool], input=text, stdout=subprocess.PIPE, stderr=subprocess.PIPE,
                               timeout=SECONDS)
     except subprocess.TimeoutExpired:
         return None, 'no end within %d seconds' % SECONDS
@@ -269,7 +268,7 @@ def main():
     check = Check(seed=2070, count=6000)
     seed, count = check.given.seed, check.given.count
     # Has the program built where it is not.
-    output_of('--version', '')
+    program()
     inputs = Inputs(seed)
     drawn = [(tool, place, inputs.input(tool)) for place in range(count) for tool in TOOLS]
     cases = [('%s input %d' % (tool, place), tool, text) for tool, place, text in drawn]

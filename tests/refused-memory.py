@@ -1,7 +1,7 @@
 #!/usr/bin/env python3
-"""Refuses each growth of memory in turn: to `fio_refusals`, which makes each call that can run out of memory once
-and reports its answer, and to the built program at some inputs. Growth 1 is refused to a first run, growth 2 to a
-second one, until a run meets no refusal. The number of growths of each call and of each input, and how many octets they
+"""Refuses each growth of memory in turn: to `fio_refusals`, which makes calls that can run out of memory once each
+and reports their answers, and to the built program, which makes the others, at some inputs. Growth 1 is refused to a
+first run, growth 2 to a second one, until a run meets no refusal. The number of growths of each call and of each input, and how many octets they
 ask for, are compared with the table `tests/support/growths`, so that room that a call asks for and never uses is found
 too; `tests/refused-memory.py --counts` writes the table anew. A C compiler (`$CC`, else `cc`) makes the library that refuses; `fio_refusals` is
 proved and built first, where it is not yet. Last line: `N passed, M failed`, where each run that met a refusal and
@@ -18,11 +18,10 @@ import tempfile
 sys.dont_write_bytecode = True
 
 from support.check import Check
-from support.tables import TOP, output_of
+from support.tables import TOP, program
 
 LIBRARY = os.path.join(TOP, 'tests', 'support', 'refuse.c')
 REFUSALS = os.path.join(TOP, 'crates', 'fio_refusals')
-PROGRAM = os.path.join(TOP, 'crates', 'fio2070', 'out', 'fio2070')
 TABLE = os.path.join(TOP, 'tests', 'support', 'growths')
 
 # Large texts with a fault at their ends. A line that is of no form once its digits are read, beside one that is of none
@@ -225,11 +224,10 @@ def input_of(given):
 def sweep_program(sweep):
     """Refuses each growth of the built program: it writes that it is out of memory and nothing else, or the text that
     it writes in ample memory. The library's `collect` asks for room ahead, and does without where that is refused."""
-    output_of('--version', '')
     for word, given in COMMANDS:
         name = name_of(word, given)
         text = input_of(given)
-        words = [PROGRAM] + ([word] if word else [])
+        words = [program()] + ([word] if word else [])
         sweep.begin(name)
         ample = sweep.run(words, text, 0)
         for growth, octets, before, after, status in sweep.refused(words, text):

@@ -1,7 +1,8 @@
 #!/usr/bin/env python3
 """Compares the Wireshark dissector, as tshark runs it, with `show`: frames of the protocol's tables and random ones
 in each way in which a capture carries them; the links between commands and answers of transcripts; frames that
-`show` has no line for; and the captures of hex2pcap. Then runs wrong dissectors, of which each has to be caught.
+`show` has no line for; and the captures of hex2pcap. Then runs wrong dissectors, of which each has to be caught by the
+comparison that is named with it.
 `tests/wireshark.py SEED COUNT` takes another seed and another number of random frames.
 Last line: `N passed, M failed`."""
 
@@ -24,6 +25,8 @@ from support.wrong_dissectors import WRONG_DISSECTORS
 
 HEX2PCAP = os.path.join(TOP, 'tools', 'wireshark', 'hex2pcap')
 NOT_WHOLE = 'frame not captured whole'
+# Groups of elements: the name of an element, its fields, and the type of the frames that have them.
+ITEMS, ENTRIES = ('item', ITEM, 51), ('entry', ENTRY, 182)
 AFTER_255 = [bytes.fromhex(text) for text in ('36ff', 'b6ff000000000001', '3600', 'b600000000000002')]
 # Frames, and which of them each filter of the README selects.
 FILTERED = [bytes.fromhex(digits) for digits in '''3605 b605018c03e700000003e8 3606 3606 b6060002000003e9 3608
@@ -62,19 +65,29 @@ def fault_of_way(tshark, way, frames, shows):
     return next(filter(None, (fault_of_frame(*pair, row) for pair, row in zip(pairs, rows))), None)
 
 
-def fault_of_trees(tshark, frames, shows):
-    """The first difference in the labels of the trees, which Wireshark cuts at 240 octets, and in nested elements."""
+def fault_of_labels(tshark, frames, shows):
+    """The first difference in the labels of the trees, which Wireshark cuts at 240 octets."""
     for octets, lines, labels in zip(frames, shows, tshark.trees(BARE, frames), strict=True):
         cut = 200 if len(lines[0]) > 200 else None
         if labels[:1] != [lines[0]] and labels[0][:200] != lines[0][:cut] or labels[1:] != lines[1:]:
             return 'tree of %s: %r' % (octets.hex()[:40], labels[:2])
-    for group, names, kind in (('item', ITEM, 51), ('entry', ENTRY, 182)):
-        of_kind = [(octets, lines[1:]) for octets, lines in zip(frames, shows) if octets[0] == kind]
-        found = tshark.nested(BARE, [octets for octets, _ in of_kind], group, names)
-        for (octets, lines), elements in zip(of_kind, found, strict=True):
-            if [spelled_element(names, element) for element in elements] != lines:
-                return 'nested %ss of %s' % (group, octets.hex()[:40])
     return None
+
+
+def fault_of_nested(tshark, frames, shows, group, names, kind):
+    """The first difference in the elements of a group, as JSON nests them in the frames of its type."""
+    of_kind = [(octets, lines[1:]) for octets, lines in zip(frames, shows) if octets[0] == kind]
+    found = tshark.nested(BARE, [octets for octets, _ in of_kind], group, names)
+    for (octets, lines), elements in zip(of_kind, found, strict=True):
+        if [spelled_element(names, element) for element in elements] != lines:
+            return 'nested %ss of %s' % (group, octets.hex()[:40])
+    return None
+
+
+def fault_of_trees(tshark, frames, shows):
+    """The first difference in the labels of the trees, and in nested elements."""
+    return (fault_of_labels(tshark, frames, shows) or fault_of_nested(tshark, frames, shows, *ITEMS)
+            or fault_of_nested(tshark, frames, shows, *ENTRIES))
 
 
 def fault_of_transcripts(tshark, transcripts):
@@ -93,10 +106,10 @@ def fault_of_edges(tshark, frames):
     def infos(rows):
         return {(row['_ws.col.Info'], row['_ws.expert.message'], row['fio2070.response_to']) for row in rows}
 
-    if infos(tshark.rows(BARE, [b''])) != {('empty', 'empty', '')}:
-        return 'a frame of no octet'
     if infos(tshark.rows(BARE, frames, missing=1)) != {(NOT_WHOLE, NOT_WHOLE, '')}:
         return 'frames that lack an octet'
+    if infos(tshark.rows(BARE, [b''])) != {('empty', 'empty', '')}:
+        return 'a frame of no octet'
     for missing in (1, 2, 3):
         if infos(tshark.rows(SDLC, frames, missing=missing)) != {(NOT_WHOLE, NOT_WHOLE, '')}:
             return 'frames with a header that lack %d octets' % missing
@@ -131,18 +144,6 @@ def fault_of_ends(tshark):
     rows = tshark.rows(BARE, [b'\x36\x05', b'\xb3\x00'])
     found = [(row['_ws.col.Source'], row['_ws.col.Destination']) for row in rows]
     return None if found == [('CPU', 'module'), ('module', 'CPU')] else 'columns: %r' % found
-
-
-def fault_of_any(tshark, cases):
-    """The first difference that a short run of all comparisons finds."""
-    few = slice(0, len(cases.tables) + 300)
-    short = [pair for pair in zip(cases.tables, cases.shows) if len(pair[0]) < 1000]
-    return (fault_of_way(tshark, BARE, cases.frames[few], cases.shows[few])
-            or fault_of_transcripts(tshark, cases.transcripts[:3])
-            or fault_of_trees(tshark, *zip(*short))
-            or fault_of_way(tshark, SDLC, cases.frames[:100], cases.shows[:100])
-            or fault_of_ends(tshark) or fault_of_stations(tshark) or fault_of_checks(tshark)
-            or fault_of_edges(tshark, cases.tables[:9]))
 
 
 def fault_of_hex2pcap(tshark, name):
@@ -222,8 +223,27 @@ def fault_of_filters(tshark):
     return None if len(others) > 10 else 'only %d filters of colours and graphs' % len(others)
 
 
-def fault_of_wrong(folder, cases, name, text, other):
-    """That a wrong dissector is not caught, or None."""
+def short_comparisons(cases):
+    """The comparisons that catch wrong dissectors, by name: functions of tshark, with few frames and transcripts."""
+    few = slice(0, len(cases.tables) + 300)
+    short = list(zip(*(pair for pair in zip(cases.tables, cases.shows) if len(pair[0]) < 1000)))
+    return {
+        'frames': lambda tshark: fault_of_way(tshark, BARE, cases.frames[few], cases.shows[few]),
+        'SDLC': lambda tshark: fault_of_way(tshark, SDLC, cases.frames[:100], cases.shows[:100]),
+        'labels': lambda tshark: fault_of_labels(tshark, *short),
+        'nested items': lambda tshark: fault_of_nested(tshark, *short, *ITEMS),
+        'nested entries': lambda tshark: fault_of_nested(tshark, *short, *ENTRIES),
+        'after block 255': lambda tshark: fault_of_transcripts(tshark, cases.transcripts[:1]),
+        'transcripts': lambda tshark: fault_of_transcripts(tshark, cases.transcripts[1:3]),
+        'edges': lambda tshark: fault_of_edges(tshark, cases.tables[:9]),
+        'stations': fault_of_stations,
+        'frame checks': fault_of_checks,
+        'ends': fault_of_ends,
+    }
+
+
+def fault_of_wrong(folder, by_name, name, text, other, catcher):
+    """That a wrong dissector is not caught by the comparison named with it, or None."""
     with open(DISSECTOR, encoding='utf-8') as file:
         source = file.read()
     if source.count(text) != 1:
@@ -232,7 +252,7 @@ def fault_of_wrong(folder, cases, name, text, other):
     os.makedirs(folder)
     with open(path, 'w', encoding='utf-8') as file:
         file.write(source.replace(text, other))
-    return None if fault_of_any(Tshark(folder, path), cases) else 'not caught: ' + name
+    return None if by_name[catcher](Tshark(folder, path)) else 'not caught by %s: %s' % (catcher, name)
 
 
 def comparisons(cases):
@@ -256,8 +276,9 @@ def comparisons(cases):
     yield 'hex2pcap of other texts', over(fault_of_others)
     yield 'a simulated run', over(fault_of_simulated_run)
     yield 'filters', over(fault_of_filters)
+    by_name = short_comparisons(cases)
     for wrong in WRONG_DISSECTORS:
-        yield 'wrong: ' + wrong[0], lambda folder, wrong=wrong: fault_of_wrong(folder, cases, *wrong)
+        yield 'wrong: ' + wrong[0], lambda folder, wrong=wrong: fault_of_wrong(folder, by_name, *wrong)
 
 
 def outcome(folder, function):

@@ -1,5 +1,6 @@
 """Tables of inputs of the program, and what it is to write for each."""
 
+import functools
 import os
 import subprocess
 
@@ -14,9 +15,16 @@ def lines_that_fit(line, above=''):
     return (MOST_OCTETS - len(above)) // len(line)
 
 
+@functools.cache
+def program():
+    """The path of the program, which the script `fio2070` proves and builds first, where it is not yet."""
+    subprocess.run([os.path.join(TOP, 'fio2070'), '--version'], stdout=subprocess.DEVNULL, check=True)
+    return os.path.join(TOP, 'crates', 'fio2070', 'out', 'fio2070')
+
+
 def output_of(tool, text):
     """What the program writes for an input, and its exit status."""
-    done = subprocess.run([os.path.join(TOP, 'fio2070'), tool], input=text.encode('latin-1'),
+    done = subprocess.run([program(), tool], input=text.encode('latin-1'),
                           stdout=subprocess.PIPE, timeout=900)
     return done.stdout.decode('latin-1'), done.returncode
 

@@ -1,20 +1,18 @@
-//! Makes each call that can allocate once, and reports of each whether its answer was right. Where a growth
-//! of memory is refused to the program, the one call that meets it has to say so and to leave all as it was.
-//! `tests/refused-memory.py` runs it once for each growth, with that one refused.
+//! Makes each call that can allocate once, but for those that the program `fio2070` makes of the tools and of the
+//! command line, and reports of each whether its answer was right. Where a growth of memory is refused to the program,
+//! the one call that meets it has to say so and to leave all as it was. `tests/refused-memory.py` runs it once for
+//! each growth, with that one refused, and the built `fio2070` too.
 #![tactic(auto)]
 
 mod answers;
-mod command_lines;
 mod hearing;
 mod modules;
 mod samples;
 mod texts;
-mod tools;
 mod worlds;
 
 use answers::Answer;
 use fio_message::Memory;
-use fio_tool::Tool;
 use samples::Sample;
 use std::alloc::Global;
 use std::process::ExitCode;
@@ -28,7 +26,6 @@ fn main(rt: HostRuntime) -> ExitCode {
     report_steps(&mut rows, rt.alloc());
     report_runs(&mut rows, rt.alloc());
     report_texts(&mut rows, rt.alloc());
-    report_tools(&mut rows, rt.alloc());
     ExitCode::from(u8::from(!rows.are_right))
 }
 
@@ -77,7 +74,7 @@ impl Rows<'_> {
     }
 }
 
-/// The calls of the module and of the CPU's end, and command lines.
+/// The calls of the module and of the CPU's end.
 fn report_parts(rows: &mut Rows<'_>, alloc: Global) {
     rows.report("Module::new", modules::new(alloc));
     rows.report("Module::with_limits", modules::with_limits(alloc));
@@ -86,8 +83,6 @@ fn report_parts(rows: &mut Rows<'_>, alloc: Global) {
     rows.report("Poller::hear of 255 entries", hearing::most_entries(alloc));
     rows.report("Poller::hear of a gap", hearing::gap(alloc));
     rows.report("Poller::hear that adds nothing", hearing::nothing(alloc));
-    rows.report("choose of a tool", command_lines::tool(alloc));
-    rows.report("choose of another word", command_lines::other(alloc));
 }
 
 /// Both ends that are made, and their events one by one.
@@ -152,23 +147,4 @@ fn report_texts(rows: &mut Rows<'_>, alloc: Global) {
         texts::transcript_with_a_fault(alloc),
     );
     rows.report_begun("check_trace", texts::verdict(alloc));
-}
-
-/// The calls of the tools.
-fn report_tools(rows: &mut Rows<'_>, alloc: Global) {
-    rows.report("show_text", tools::text(alloc, Tool::Show));
-    rows.report("simulate_text", tools::text(alloc, Tool::Simulate));
-    rows.report("check_text", tools::text(alloc, Tool::Check));
-    rows.report("record_text", tools::text(alloc, Tool::Record));
-    rows.report_begun("show", tools::streams(alloc, Tool::Show));
-    rows.report_begun("simulate", tools::streams(alloc, Tool::Simulate));
-    rows.report_begun("check", tools::streams(alloc, Tool::Check));
-    rows.report_begun("record", tools::streams(alloc, Tool::Record));
-    rows.report_begun("run_program show", tools::program(alloc, Tool::Show));
-    rows.report_begun(
-        "run_program simulate",
-        tools::program(alloc, Tool::Simulate),
-    );
-    rows.report_begun("run_program check", tools::program(alloc, Tool::Check));
-    rows.report_begun("run_program record", tools::program(alloc, Tool::Record));
 }

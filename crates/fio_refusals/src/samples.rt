@@ -1,4 +1,4 @@
-//! Scripts with their ends, and the texts of the tools with what they write.
+//! Scripts with their ends and a report, and transcripts.
 use fio_message::DecodeError;
 use fio_world::ScriptError;
 
@@ -94,25 +94,12 @@ pub(crate) const LOST_ANSWER_REPORT: &[u8] = b"1 sent 1 3301000101\n\
     input 0 state 0 stamp 1 wide 1\n\
     input 0 state 1 stamp 2 wide 2\n";
 
-/// Captured frames.
-pub(crate) const FRAMES: &[u8] = b"3605\nb605018c03e700000003e8\n";
-
-/// What `show` writes of them.
-pub(crate) const SHOWN: &[u8] = b"poll block 5\n\
-    block 5 entries 1 status 00 stamp 1000\n  input 12 state 1 stamp 999 wide 999\n";
-
 /// A transcript of five frames that keeps the rules.
 pub(crate) const TRANSCRIPT: &[u8] = b"> 3605\n\
     < b605018c03e700000003e8\n\
     > 3606\n\
     > 3606\n\
     < b6060002000003e9\n";
-
-/// What `check` writes of it.
-pub(crate) const VERDICT: &[u8] = b"good 5 frames\n";
-
-/// What `record` writes of it.
-pub(crate) const RECORD: &[u8] = b"record 1\ninput 12 state 1 stamp 999 wide 999\n";
 
 /// Scripts whose second line is faulty, and its fault.
 pub(crate) const FAULTY_SCRIPTS: [(&[u8], ScriptError); 5] = [
