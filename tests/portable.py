@@ -160,15 +160,9 @@ def archive_for_aarch64():
         os.path.join(TOP, 'aarch64/libfio2070.a'), '-o', path('archive')) or differs(['qemu-aarch64', path('archive')])
 
 
-@functools.cache
-def object_fault():
-    """Makes the object that the examples and the tester are linked with. Returns what failed."""
-    return fault_of('gcc', '-O1', '-I', PORTABLE, '-c', os.path.join(PORTABLE, 'fio2070.c'), '-o', path('fio2070.o'))
-
-
 def link(name, *sources):
-    """Builds a program over the object. Returns what failed."""
-    return object_fault() or fault_of('gcc', '-O1', '-I', PORTABLE, *sources, path('fio2070.o'), '-o', path(name))
+    """Builds a program over the library as gcc compiles it. Returns what failed."""
+    return warnings('gcc') or fault_of('gcc', '-O1', '-I', PORTABLE, *sources, path('gcc.o'), '-o', path(name))
 
 
 def shows():
@@ -196,7 +190,7 @@ def polls():
 
 @functools.cache
 def tester_fault():
-    """Builds the tester over the object. Returns what failed."""
+    """Builds the tester over the library. Returns what failed."""
     folder = os.path.join(TOP, 'tools/conformance')
     return link('tester', *(os.path.join(folder, name) for name in sorted(os.listdir(folder)) if name.endswith('.c')))
 

@@ -1,6 +1,7 @@
 """The portable library on a Cortex-M4 without an operating system: qemu-system-arm's board mps2-an386, of which 256 KB of
 flash and 64 KB of RAM are used."""
 
+import functools
 import os
 import re
 import shutil
@@ -35,9 +36,10 @@ def run(*words):
     return done.stdout
 
 
+@functools.cache
 def compiled(folder, options, library):
-    """The portable library as an object in the folder."""
-    made = os.path.join(folder, 'fio2070.o')
+    """The portable library as an object in the folder, which is compiled once."""
+    made = os.path.join(folder, 'cortex%s.o' % ''.join(options))
     run(COMPILER, *FLAGS, *options, '-Wall', '-Wextra', '-Wpedantic', '-Wconversion', '-Werror', '-I', library, '-c',
         os.path.join(library, 'fio2070.c'), '-o', made)
     return made
@@ -48,7 +50,8 @@ def output_of(folder, options, library, program, words):
     made, start = os.path.join(folder, 'cortex.elf'), os.path.join(SOURCES, 'cortex_m')
     run(COMPILER, *FLAGS, *options, '-I', library, '--specs=rdimon.specs', '-nostartfiles', '-T',
         os.path.join(start, 'link.ld'), '-Wl,--gc-sections', '-DARGUMENTS=' + ','.join('"%s"' % word for word in words),
-        os.path.join(start, 'start.c'), os.path.join(SOURCES, program), compiled(folder, options, library), '-o', made)
+        os.path.join(start, 'start.c'), os.path.join(SOURCES, program), compiled(folder, tuple(options), library), '-o',
+        made)
     return run(QEMU, '-M', 'mps2-an386', '-icount', 'shift=0', '-nographic', '-semihosting-config',
                'enable=on,target=native', '-kernel', made)
 
@@ -60,5 +63,5 @@ def code_of(folder, options, library, part):
     roots = ['-Wl,-u,' + call for call in calls if re.match('fio2070_(%s)' % PARTS[part], call)]
     made = os.path.join(folder, 'part.elf')
     run(COMPILER, *FLAGS, '-nostdlib', '-Wl,--gc-sections,--unresolved-symbols=ignore-all,-e,0', *roots,
-        compiled(folder, options, library), '-o', made)
+        compiled(folder, tuple(options), library), '-o', made)
     return sum(int(number) for number in run('arm-none-eabi-size', made).splitlines()[1].split()[:2])
