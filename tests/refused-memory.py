@@ -118,11 +118,11 @@ def made(words, folder, what):
     return done.stdout.decode('latin-1')
 
 
-def is_stale(program):
+def is_stale(path):
     """Whether a program is not built, or some source is newer."""
-    sources = [path for form in ('src', 'specs', 'proofs')
-               for path in glob.glob(os.path.join(TOP, 'crates', '*', form, '**', '*.*'), recursive=True)]
-    return not os.path.exists(program) or any(os.path.getmtime(path) > os.path.getmtime(program) for path in sources)
+    sources = [source for form in ('src', 'specs', 'proofs')
+               for source in glob.glob(os.path.join(TOP, 'crates', '*', form, '**', '*.*'), recursive=True)]
+    return not os.path.exists(path) or any(os.path.getmtime(source) > os.path.getmtime(path) for source in sources)
 
 
 class Sweep:
@@ -177,8 +177,8 @@ def kind_of(answer):
 
 def sweep_calls(sweep):
     """Refuses each growth of `fio_refusals`. The row that follows the refusal is that of the call which met it."""
-    program = os.path.join(REFUSALS, 'out', 'fio_refusals')
-    if is_stale(program):
+    calls = os.path.join(REFUSALS, 'out', 'fio_refusals')
+    if is_stale(calls):
         made(['rt', 'run'], REFUSALS, 'fio_refusals')
     with open(os.path.join(REFUSALS, 'stdout'), encoding='utf-8') as file:
         ample = file.read().splitlines()
@@ -186,7 +186,7 @@ def sweep_calls(sweep):
     places = {name: [] for name in names}
     for name in names:
         sweep.begin(name)
-    for growth, octets, before, after, status in sweep.refused([program], b''):
+    for growth, octets, before, after, status in sweep.refused([calls], b''):
         above, below = before.splitlines(), after.splitlines()
         name, _, answer = (below or [''])[0].partition(': ')
         kind = kind_of(answer)

@@ -1,7 +1,7 @@
-//! Makes each call that can allocate once, but for those that the program `fio2070` makes of the tools and of the
-//! command line, and reports of each whether its answer was right. Where a growth of memory is refused to the program,
-//! the one call that meets it has to say so and to leave all as it was. `tests/refused-memory.py` runs it once for
-//! each growth, with that one refused, and the built `fio2070` too.
+//! Makes each call that can allocate once, except those of the tools and of the command line, which `fio2070` makes,
+//! and reports of each whether its answer was right. Where a growth of memory is refused to the program, the one
+//! call that meets it has to say so and to leave all as it was. `tests/refused-memory.py` runs both programs once for
+//! each growth, with that one refused.
 #![tactic(auto)]
 
 mod answers;

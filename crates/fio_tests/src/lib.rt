@@ -1,6 +1,6 @@
 //! Tests of the public calls of the libraries, for what no clause says: that octets of the profile are read and written
-//! again, that calls succeed at sizes beyond 65,536, and failing readers and writers. Refused memory is the matter of the
-//! crate `fio_refusals`; worked examples are rows of `tests/`, over the program and the library for C.
+//! again, that calls succeed at sizes beyond 65,536, and failing readers and writers. Refused memory is the matter of
+//! `tests/refused-memory.py`; worked examples are rows of `tests/`, over the program and the library for C.
 //!
 //! They are in a crate of their own, since a crate with tests is proved twice.
 #![tactic(auto)]
