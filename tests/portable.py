@@ -92,15 +92,15 @@ def refuses(change, words):
 
 
 @functools.cache
-def warnings(compiler):
-    """Compiles the library alone. Returns what a compiler warns of."""
+def object_fault(compiler):
+    """Compiles the library alone, to COMPILER.o. Returns what failed, or what the compiler warns of."""
     return fault_of(compiler, '-std=c99', '-Os', *STRICT, '-c', os.path.join(PORTABLE, 'fio2070.c'),
                     '-o', path(compiler + '.o'))
 
 
 def is_alone(compiler):
     """The object needs three functions, and has no data that is written."""
-    fault = warnings(compiler)
+    fault = object_fault(compiler)
     names = run('nm', path(compiler + '.o')).stdout
     others = [line for line in names.splitlines()
               if re.search(r' [dDbBC] ', line) or re.search(r' U (?!mem(cpy|move|set)$)', line)]
@@ -161,8 +161,8 @@ def archive_for_aarch64():
 
 
 def link(name, *sources):
-    """Builds a program over the library as gcc compiles it. Returns what failed."""
-    return warnings('gcc') or fault_of('gcc', '-O1', '-I', PORTABLE, *sources, path('gcc.o'), '-o', path(name))
+    """Builds a program over the object that gcc makes of the library. Returns what failed."""
+    return object_fault('gcc') or fault_of('gcc', '-O1', '-I', PORTABLE, *sources, path('gcc.o'), '-o', path(name))
 
 
 def shows():
@@ -190,7 +190,7 @@ def polls():
 
 @functools.cache
 def tester_fault():
-    """Builds the tester over the library. Returns what failed."""
+    """Builds the tester over that object. Returns what failed."""
     folder = os.path.join(TOP, 'tools/conformance')
     return link('tester', *(os.path.join(folder, name) for name in sorted(os.listdir(folder)) if name.endswith('.c')))
 
@@ -235,7 +235,7 @@ for compiler in ('gcc', 'clang'):
     if not shutil.which(compiler):
         check.skip('by ' + compiler, 'no %s here' % compiler)
         continue
-    check.fault('no warning by ' + compiler, warnings, compiler)
+    check.fault('no warning by ' + compiler, object_fault, compiler)
     check.fault('alone by ' + compiler, is_alone, compiler)
     check.fault('frames and links by ' + compiler, lambda by: build(by, ['-O1', *FAULTS.get(by, [])], by) or differs([path(by)]), compiler)
 check.fault('the decoder of the examples', shows)

@@ -37,7 +37,7 @@ def run(*words):
 
 
 @functools.cache
-def compiled(folder, options, library):
+def compiled(folder, library, *options):
     """The portable library as an object in the folder, which is compiled once."""
     made = os.path.join(folder, 'cortex%s.o' % ''.join(options))
     run(COMPILER, *FLAGS, *options, '-Wall', '-Wextra', '-Wpedantic', '-Wconversion', '-Werror', '-I', library, '-c',
@@ -50,8 +50,7 @@ def output_of(folder, options, library, program, words):
     made, start = os.path.join(folder, 'cortex.elf'), os.path.join(SOURCES, 'cortex_m')
     run(COMPILER, *FLAGS, *options, '-I', library, '--specs=rdimon.specs', '-nostartfiles', '-T',
         os.path.join(start, 'link.ld'), '-Wl,--gc-sections', '-DARGUMENTS=' + ','.join('"%s"' % word for word in words),
-        os.path.join(start, 'start.c'), os.path.join(SOURCES, program), compiled(folder, tuple(options), library), '-o',
-        made)
+        os.path.join(start, 'start.c'), os.path.join(SOURCES, program), compiled(folder, library, *options), '-o', made)
     return run(QEMU, '-M', 'mps2-an386', '-icount', 'shift=0', '-nographic', '-semihosting-config',
                'enable=on,target=native', '-kernel', made)
 
@@ -63,5 +62,5 @@ def code_of(folder, options, library, part):
     roots = ['-Wl,-u,' + call for call in calls if re.match('fio2070_(%s)' % PARTS[part], call)]
     made = os.path.join(folder, 'part.elf')
     run(COMPILER, *FLAGS, '-nostdlib', '-Wl,--gc-sections,--unresolved-symbols=ignore-all,-e,0', *roots,
-        compiled(folder, tuple(options), library), '-o', made)
+        compiled(folder, library, *options), '-o', made)
     return sum(int(number) for number in run('arm-none-eabi-size', made).splitlines()[1].split()[:2])
