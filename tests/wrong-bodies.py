@@ -1,7 +1,8 @@
 #!/usr/bin/env python3
 """Each wrong body still fits the code: the text that it changes stands in its file exactly once; it has a name of its
-own, and says what refuses it, as the tables of docs/PROMISES.md do. That the prover does is tried by
-`wrong-bodies/try`. Last line: `N passed, M failed`."""
+own, and says what refuses it, as the table of docs/PROMISES.md does. Each function of that table has its wrong body in a
+folder `must-fail`, for `rt ci`, and no other has. That the prover refuses them is tried by `wrong-bodies/try`. Last line:
+`N passed, M failed`."""
 
 import os
 import re
@@ -27,21 +28,28 @@ def fault_of(stanza, names):
 def rows_shown():
     """The rows of the page's table of wrong bodies: name, and what refuses it."""
     with open(os.path.join(TOP, 'docs', 'PROMISES.md'), encoding='utf-8') as page:
-        for table in page.read().split('| Promise | Wrong body | Refused by |\n|---|---|---|\n')[1:]:
-            yield from re.findall(r'^\| .* \| (.*) \| `(.*)` \|$', table.split('\n\n')[0], re.M)
+        _, table = page.read().split('| Promise | Wrong body | Refused by |\n|---|---|---|\n')
+    return re.findall(r'^\| .* \| (.*) \| `(.*)` \|$', table.split('\n\n')[0], re.M)
 
 
 def main():
     check = Check()
-    lines = {}
+    lines, of_gate = {}, []
     for crate in crates_with_stanzas():
         stanzas = list(stanzas_of(crate))
         names = [stanza.name for stanza in stanzas]
         for stanza in stanzas:
             check.fault('%s: %s' % (crate, stanza.name), fault_of, stanza, names)
             lines.setdefault(stanza.name, []).append(stanza.refused_by)
-    for name, refused_by in rows_shown():
+        of_gate += [stanza for stanza in stanzas if stanza.path.endswith('.edit')]
+    rows = rows_shown()
+    for name, refused_by in rows:
         check.holds('PROMISES: ' + name, refused_by in lines.get(name, []), 'refused by %s' % lines.get(name))
+    shown = {name for name, refused_by in rows if not refused_by.startswith('law ')}
+    differ = shown ^ {stanza.name for stanza in of_gate}
+    check.holds('must-fail: the bodies that PROMISES shows', not differ, 'not in both: %s' % ', '.join(sorted(differ)))
+    for stanza in of_gate:
+        check.holds('must-fail: %s: one change' % stanza.name, len(stanza.changes) == 1, '%d' % len(stanza.changes))
     check.end()
 
 
