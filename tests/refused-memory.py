@@ -1,11 +1,11 @@
 #!/usr/bin/env python3
 """Refuses each growth of memory in turn: to `fio_refusals`, which makes calls that can run out of memory once each
 and reports their answers, and to the built program, which makes the others, at some inputs. Growth 1 is refused to a
-first run, growth 2 to a second one, until a run meets no refusal. The number of growths of each call and of each input, and how many octets they
-ask for, are compared with the table `tests/support/growths`, so that room that a call asks for and never uses is found
-too; `tests/refused-memory.py --counts` writes the table anew. A C compiler (`$CC`, else `cc`) makes the library that refuses; `fio_refusals` is
-proved and built first, where it is not yet. Last line: `N passed, M failed`, where each run that met a refusal and
-each row of the table counts."""
+first run, growth 2 to a second one, until a run meets no refusal. The number of growths of each call and of each
+input, and how many octets they ask for, are compared with the table `tests/support/growths`, so that room that a call
+asks for and never uses is found too; `tests/refused-memory.py --counts` writes the table anew. A C compiler (`$CC`,
+else `cc`) makes the library that refuses; `fio_refusals` is proved and built first, where it is not yet. Last line:
+`N passed, M failed`, where each run that met a refusal and each row of the table counts."""
 
 import glob
 import os
