@@ -30,7 +30,7 @@ fish = $(root)/share/fish/vendor_completions.d
 all:
 	@./fio2070 --version
 
-# All that a merge waits for.
+# Checks what a change can break here; a merge waits for `./test --all`.
 test:
 	@./test
 
@@ -187,7 +187,8 @@ command = $(wildcard fio2070-test)
 $(OUT)/fio2070-test: $(OUT)/libfio2070.a $(tester) tools/conformance/fio2070_test.c
 	$(CC) -O2 -I include $(tester) tools/conformance/fio2070_test.c $< -o $@
 
-# The page of the C library, made of the header by doxygen: DOC/html/index.html.
+# The glossary of all definitions, DOC/GLOSSARY.md, and the page of the C library, made of the header by doxygen,
+# DOC/html/index.html.
 
 DOC = doc
 
@@ -195,6 +196,7 @@ DOC = doc
 
 doc:
 	mkdir -p '$(DOC)'
+	tools/generate-glossary >'$(DOC)/GLOSSARY.md'
 	(cat packaging/Doxyfile; echo 'OUTPUT_DIRECTORY = "$(DOC)"') | doxygen -
 
 install: install-library

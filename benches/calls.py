@@ -11,7 +11,7 @@ from pathlib import Path
 from programs import TOP, counts, succeed
 
 TEXTS = Path(__file__).resolve().parent / 'calls'
-CRATES = ['fio_message', 'fio_input', 'fio_module', 'fio_cpu', 'fio_show', 'fio_world']
+CRATES = ['fio_message', 'fio_text', 'fio_input', 'fio_module', 'fio_cpu', 'fio_show', 'fio_link', 'fio_world']
 MANIFEST = '''[package]
 name = "fio_timing"
 version = "0.1.0"

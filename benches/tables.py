@@ -1,6 +1,5 @@
 """Tables of what was measured, in Markdown."""
 
-import os
 import re
 import shutil
 import statistics
@@ -132,13 +131,11 @@ def of_library(found):
     return table(['Call', 'case', 'C', 'crate', 'ratio'], rows).replace('| --- | ---: |', '| --- | --- |', 1)
 
 
-def machine(rounds):
-    """The name of this machine's processor, how busy the machine was, and how often each program was timed."""
+def measured():
+    """The commit that was measured, and the name of this machine's processor."""
+    commit = subprocess.run(['git', 'describe', '--always', '--dirty'], cwd=TOP, capture_output=True, text=True, check=True)
     about = subprocess.run(['lscpu'], capture_output=True, text=True, check=True).stdout
-    name = re.search(r'Model name:\s*(.*)', about)
-    with open('/proc/loadavg', encoding='utf-8') as loads:
-        load = loads.read().split()[0]
-    return f'{name.group(1)}, {os.cpu_count()} processors, load {load} at the end; medians of {rounds} runs in turns.\n'
+    return 'Commit %s, on %s.\n' % (commit.stdout.strip(), re.search(r'Model name:\s*(.*)', about).group(1))
 
 
 def of_ratios(lines):
@@ -157,8 +154,9 @@ def put(page, found):
     page.write_text(text)
 
 
-def write(found, rounds):
-    """Writes the tables into their pages."""
-    put(FIGURES, {**found, 'machine': machine(rounds)})
+def write(found):
+    """Writes the table of single calls and the ratios of the program into their pages."""
+    if 'calls' in found:
+        put(FIGURES, {'calls': found['calls'], 'measured': measured()})
     if 'ratio' in found.get('programs', ''):
         put(PAGE, {'ratios': of_ratios(found['programs'])})

@@ -407,14 +407,26 @@ struct fio2070_heard fio2070_poller_hear(struct fio2070_poller *poller, const ui
 
 /** The rules, in the order in which they are tried (own profile; docs/FORMATS.md). */
 enum {
+    /** A line that spells no message of its direction. */
     FIO2070_RULE_READABLE = 1,
+    /** A line that is an answer, but not directly below a command whose type is 128 less. */
     FIO2070_RULE_PAIR = 2,
+    /** A line that is a block answer with another number than the poll directly above. */
     FIO2070_RULE_NUMBER = 3,
+    /** A line that is a poll, not the first, with another number than the one due: that of the poll
+     *  before, plus one modulo 256 if a block answer is directly below that poll. */
     FIO2070_RULE_ADVANCE = 4,
+    /** A line that is a block answer with E, though the poll before its own had another number. */
     FIO2070_RULE_SAME = 5,
+    /** A line that is a block answer with G and E, or with G and a block answer before it. */
     FIO2070_RULE_SEQUENCE = 6,
+    /** A line that is a block answer with F and without C, or with C and a count other than 255, or with
+     *  an input above 63. */
     FIO2070_RULE_LIMITS = 7,
+    /** A line that is a block answer without entries, and the block answer before it has C. */
     FIO2070_RULE_REST = 8,
+    /** A line that is an answer 179 that says done (bit 0 is 0) to a configuration 51 that names an input
+     *  above 63. */
     FIO2070_RULE_REFUSAL = 9,
     /* The names of before, which version 2 leaves out. */
     FIO2070_READABLE = FIO2070_RULE_READABLE, FIO2070_PAIR = FIO2070_RULE_PAIR,
@@ -473,9 +485,14 @@ uint8_t fio2070_checker_heard(struct fio2070_checker *checker, const uint8_t *oc
 /** What an entry of a block may break, in the order in which the rules are tried (own profile; docs/FORMATS.md). They
  * judge a transcript that keeps the rules above. */
 enum {
-    FIO2070_CONTENT_ORDER = 1,     /**< its time is before that of the entry before it */
-    FIO2070_CONTENT_ALTERNATE = 2, /**< it has the state of the latest entry of its input */
-    FIO2070_CONTENT_APART = 3      /**< it is nearer to that entry than the filter for the change */
+    /** An entry that has a wide time before that of the entry above it: two are swapped, or the module
+     *  restarted. */
+    FIO2070_CONTENT_ORDER = 1,
+    /** An entry that has the state of the latest entry of its input: one is lost, doubled or turned. */
+    FIO2070_CONTENT_ALTERNATE = 2,
+    /** An entry that has the other state than the latest entry of its input, but is nearer to it than the
+     *  filter for the change. */
+    FIO2070_CONTENT_APART = 3
 };
 
 /** What the rules on content keep of the frames above. The fields are the library's own. */

@@ -58,6 +58,7 @@ stage_documents() {
     install -d "$1/docs" "$1/examples"
     install -m 644 README.md "$1"
     install -m 644 docs/*.md "$1/docs"
+    tools/generate-glossary >"$1/docs/GLOSSARY.md"
     (cd examples && find . -type f) | while read -r file; do
         install -D -m 644 "examples/$file" "$1/examples/$file"
     done

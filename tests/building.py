@@ -1,7 +1,8 @@
 #!/usr/bin/env python3
-"""What `./fio2070` says while it builds the program, and where it cannot: a line a crate, one line that moves on a
-terminal, one clear line and status 125 for each thing that is missing. A short script stands in the place of `rt`, in a
-repository of three crates. Last line: `N passed, M failed`."""
+"""What `./fio2070` says while it builds the program, and where it cannot: what it will prove and about how long that
+takes, a line for each crate, one line that moves on a terminal, one clear line and status 125 for each thing that is
+missing; that crates which do not wait for each other are proved side by side. A short script stands in the place of
+`rt`, in a repository of four crates. Last line: `N passed, M failed`."""
 
 import os
 import pty
@@ -18,19 +19,28 @@ sys.dont_write_bytecode = True
 from support.check import Check
 from support.tables import TOP
 
-CRATES = 'low:\nhigh: low hex\nfio2070: high\nother: low\n'
+CRATES = 'low:\nhigh: low hex\nbeside: low\nfio2070: high beside\nother: low\n'
 
 # Proves nothing. Writes what rt writes, fails in the crate that FAILS names, takes long in the one that LINGERS names,
-# and writes nothing of a library that was proved before.
+# waits for the one that MEETS names, and writes nothing of a library that was proved before.
 RT = r"""#!/bin/sh
 crate=$(basename "$PWD")
+echo "$*" >>../../words
 if [ -e out/rlib ] && [ -z "$(find src -newer out/rlib)" ]; then exit 0; fi
 echo "so far: 3 of 10 functions checked"
 mktemp >/dev/null
 if [ "$crate" = "$LINGERS" ]; then sleep 2; fi
+mkdir -p out
+touch out/begun
+if [ -n "$MEETS" ] && [ "$crate" = beside ]; then
+    for _ in 1 2 3 4 5 6 7 8 9 10; do [ -e "../$MEETS/out/begun" ] || sleep 0.5; done
+    [ ! -e "../$MEETS/out/rlib" ] || exit 1
+fi
+if [ -n "$MEETS" ] && [ "$crate" = "$MEETS" ]; then
+    for _ in 1 2 3 4 5 6 7 8 9 10; do [ -e ../beside/out/rlib ] || sleep 0.5; done
+fi
 if [ "$crate" = "$FAILS" ]; then echo 'logic=not-proved'; exit 1; fi
 echo 'logic=proved functions=10'
-mkdir -p out
 if [ "$crate" != fio2070 ]; then
     touch out/rlib
 else
@@ -48,7 +58,7 @@ class Clone:
         self.bin = os.path.join(self.top, 'bin')
         self.temporary = os.path.join(self.top, 'temporary')
         self.out = os.path.join(self.top, 'crates', 'fio2070', 'out')
-        for crate in ('low', 'high', 'other', 'fio2070'):
+        for crate in ('low', 'high', 'beside', 'other', 'fio2070'):
             os.makedirs(os.path.join(self.top, 'crates', crate, 'src'))
         os.mkdir(self.bin)
         os.mkdir(self.temporary)
@@ -60,6 +70,10 @@ class Clone:
         with open(rt, 'w', encoding='ascii') as script:
             script.write(RT)
         os.chmod(rt, 0o755)
+
+    def log(self, crate):
+        """The file for what rt writes of a crate."""
+        return os.path.join(self.top, 'crates', crate, 'out', 'build.log')
 
     def environment(self, **settings):
         path = self.bin + os.pathsep + os.environ.get('PATH', os.defpath)
@@ -101,25 +115,39 @@ def one_line(text, *words):
     return re.fullmatch('fio2070: [^\n]*\n', text) is not None and all(word in text for word in words)
 
 
+def proved_in(said):
+    """How many crates each line but the first says are proved."""
+    return [int(count) for count in re.findall(r'^fio2070: (\d+) of \d+ crates proved', said, re.M)]
+
+
 def try_build(check, room):
     """A first build, a further run, and a build after an edit, without a terminal."""
     clone = Clone(room, 'plain')
     text, said, status = clone.run('show', 'x')
-    lines = said.splitlines()
     check.holds('the program runs', (text, status) == ('run show x\n', 0), said)
-    check.holds('a line a crate, lowest first', len(lines) == 3 and all(
-        'crate %d of 3, %s' % (number, crate) in line
-        for number, (crate, line) in enumerate(zip(('low', 'high', 'fio2070'), lines), 1)), said)
-    with open(os.path.join(clone.out, 'build.log'), encoding='utf-8') as log:
-        check.holds('the log has what rt wrote', log.read().count('logic=proved') == 3)
+    check.holds('what will be done, and about how long it takes',
+                re.match(r'fio2070: proving 4 crates, 0 lines, up to \d+ side by side: about \d+ (s|min)\n', said) is not None, said)
+    check.equal('a line a crate', [1, 2, 3, 4], proved_in(said))
+    for crate in ('low', 'high', 'beside', 'fio2070'):
+        with open(clone.log(crate), encoding='utf-8') as log:
+            check.equal('the log of %s has what rt wrote' % crate, 1, log.read().count('logic=proved'))
     check.holds('no temporary file', clone.is_tidy())
     check.holds('nothing is said of a built program', clone.run('show') == ('run show\n', '', 0))
     time.sleep(0.1)
     with open(os.path.join(clone.top, 'crates', 'low', 'src', 'lib.rt'), 'w', encoding='ascii') as source:
         source.write('\n')
     said = clone.run('show')[1]
-    check.holds('after an edit what changed is built again, and the time that is left is said', len(said.splitlines()) == 2
-          and 'crate 1 of 3' in said and 'crate 3 of 3' in said and 'left' in said, said)
+    check.holds('after an edit what changed is built again', proved_in(said) == [1, 4] and 'left' in said, said)
+
+
+def try_side_by_side(check, room):
+    """Two crates that do not wait for each other: each of them waits here for the other to begin."""
+    if len(os.sched_getaffinity(0)) < 2:
+        check.skip('crates side by side', 'there is one processor')
+        return
+    clone = Clone(room, 'beside')
+    _, said, status = clone.run('show', MEETS='high')
+    check.holds('crates are proved side by side', status == 0, said)
 
 
 def try_library(check, room):
@@ -128,18 +156,18 @@ def try_library(check, room):
     done = subprocess.run([os.path.join(clone.top, 'build'), '--library', 'high', '--jobs', '1'], env=clone.environment(),
                           stdin=subprocess.DEVNULL, stdout=subprocess.PIPE, stderr=subprocess.PIPE, timeout=60)
     said = done.stderr.decode()
-    check.holds('a line for each crate of a library', (done.returncode, done.stdout) == (0, b'') and len(said.splitlines()) == 2
-                and 'crate 1 of 2, low' in said and 'crate 2 of 2, high' in said, said)
-    with open(os.path.join(clone.out, 'build.log'), encoding='utf-8') as log:
-        check.equal('further words go to rt lib', 2, log.read().count(': rt lib --jobs 1\n'))
+    check.holds('a line for each crate of a library', (done.returncode, done.stdout) == (0, b'')
+                and 'proving 2 crates' in said and proved_in(said) == [1, 2], said)
+    with open(os.path.join(clone.top, 'words'), encoding='utf-8') as words:
+        check.equal('further words go to rt lib', 'lib --jobs 1\nlib --jobs 1\n', words.read())
     check.holds('no program', not os.path.exists(os.path.join(clone.out, 'fio2070')))
 
 
 def try_terminal(check, room):
-    """A build on a terminal: one line that moves, and goes."""
+    """A build on a terminal: a line that says what will be done, and one that moves, and goes."""
     clone = Clone(room, 'terminal')
-    written = clone.run_on_terminal(LINGERS='high')
-    check.holds('one line that moves', '\n' not in written and 'crate 2 of 3, high: 3 of 10 functions' in written, written)
+    written = clone.run_on_terminal(LINGERS='low')
+    check.holds('one line that moves', written.count('\n') == 1 and '0 of 4 crates proved, now low; ' in written, written)
     check.holds('the line goes', re.search('\r *\r$', written) is not None, repr(written[-100:]))
 
 
@@ -148,7 +176,7 @@ def try_faults(check, room):
     clone = Clone(room, 'faults')
     text, said, status = clone.run('show', FAILS='high')
     check.holds('a crate that is not proved', (text, status) == ('', 125)
-          and one_line(said.splitlines(True)[-1], 'high', os.path.join('out', 'build.log')), said)
+          and one_line(said.splitlines(True)[-1], 'high', os.path.join('high', 'out', 'build.log')), said)
     check.holds('no program', not os.path.exists(os.path.join(clone.out, 'fio2070')))
     check.holds('no temporary file after a failure', clone.is_tidy())
     text, said, status = clone.run('show', TMPDIR=os.path.join(room, 'nowhere'))
@@ -199,9 +227,9 @@ def try_interrupt(check, room):
         with subprocess.Popen([os.path.join(clone.top, 'fio2070'), 'show'], env=clone.environment(LINGERS='low'),
                               stdin=subprocess.DEVNULL, stdout=subprocess.PIPE, stderr=subprocess.PIPE,
                               start_new_session=True) as done:
-            log = os.path.join(clone.out, 'build.log')
+            log = clone.log('low')
             end = time.monotonic() + 20
-            while time.monotonic() < end and not (os.path.exists(log) and os.path.getsize(log) > 40):
+            while time.monotonic() < end and not (os.path.exists(log) and os.path.getsize(log)):
                 time.sleep(0.05)
             os.killpg(done.pid, number)
             text, said = done.communicate(timeout=20)
@@ -217,6 +245,7 @@ def main():
     signal.signal(signal.SIGINT, signal.default_int_handler)
     with tempfile.TemporaryDirectory() as room:
         try_build(check, room)
+        try_side_by_side(check, room)
         try_library(check, room)
         try_terminal(check, room)
         try_faults(check, room)

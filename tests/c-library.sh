@@ -1,6 +1,7 @@
 #!/bin/sh
-# Builds the library for C, and by each compiler that is installed the worked examples, the programs of examples/c and
-# a run over random octets, and compares what they write. The last line is `N passed, M failed`.
+# Builds the library for C, and by a compiler, with --all by each that is installed, the worked examples, the programs of
+# examples/c and a run over random octets, and compares what they write. With --all also under sanitizers and valgrind, and the
+# layouts of other processors. The last line is `N passed, M failed`.
 
 . "$(dirname -- "$(readlink -f -- "$0")")/support/check.sh"
 archive=$room/libfio2070.a
@@ -123,9 +124,14 @@ fits_not() {
     ! "$1" -ffreestanding -I "$top/include" -fsyntax-only header.c 2>said && grep -q '#error "libfio2070.a' said
 }
 
-# tells PROGRAM RUN..: run so, the header tells the program that the processor fits.
+# tells PROGRAM RUN..: run so, the header tells the program that the processor fits, in `main` and in its first constructor.
 tells() {
-    printf '%s\n' '#include "fio2070.h"' 'int main(void) { return fio2070_processor_fits() != 1; }' >fitting.c
+    cat >fitting.c <<'end'
+#include "fio2070.h"
+static int early = 7;
+__attribute__((constructor(101))) static void begin(void) { early = fio2070_processor_fits(); }
+int main(void) { return early == fio2070_processor_fits() ? early != 1 : 3; }
+end
     # shellcheck disable=SC2086
     cc -std=c99 $strict -I "$top/include" fitting.c -o "$1" || return 2
     program=./$1
@@ -146,7 +152,8 @@ names_variable() {
     grep -q 'set FIO2070_LIB_DIR to the folder that has it' said
 }
 
-holds 'what follows from the structs' "$top/tools/generate-layouts" --check
+holds 'what follows from the structs and exports' "$top/tools/generate-layouts" --check
+holds 'what follows from limits and rules' "$top/tools/generate-constants" --check
 if has_command doxygen && has_command python3; then
     first 'make doc' run_make doc DOC="$room/doc"
     holds 'the page of doxygen has words on each call' described "$room/doc"
@@ -173,6 +180,7 @@ awk 'BEGIN { for (n = 1; n <= 600; n++) {
     time = n == 1 ? 2 : n
     print "input", n % 64, "state", int((n - 1) / 64) % 2, "stamp", time, "wide", time } }' >wave
 
+last=
 for build in 'gcc -std=c99' 'g++ -std=c++11' 'clang -std=c99 -g -O1 -fsanitize=address,undefined -fno-sanitize-recover=all'; do
     # shellcheck disable=SC2086
     set -- $build
@@ -180,6 +188,7 @@ for build in 'gcc -std=c99' 'g++ -std=c++11' 'clang -std=c99 -g -O1 -fsanitize=a
         skip "build by $1" 'it is not installed'
         continue
     fi
+    [ -z "$last" ] || whole "build by $1" || continue
     first "build by $1" builds "$room/$1" "$@"
     counts "rows by $1" "$room/$1/rows"
     counts "calls of a module in turn by $1" "$room/$1/turns"
@@ -192,13 +201,16 @@ for build in 'gcc -std=c99' 'g++ -std=c++11' 'clang -std=c99 -g -O1 -fsanitize=a
     holds "poller on a babbling line by $1" gives_up "$room/$1"
     last=$room/$1
 done
-if has_command valgrind && [ -x "$room/gcc/fresh" ]; then
+if ! whole 'memory that nothing has written, watched'; then
+    :
+elif has_command valgrind && [ -x "$room/gcc/fresh" ]; then
     counts 'memory that nothing has written, watched' valgrind -q --error-exitcode=9 "$room/gcc/fresh"
     holds 'a poller that is watched' valgrind -q --error-exitcode=9 "$room/gcc/poller"
 else
     skip 'memory that nothing has written, watched' 'no valgrind here (Debian package valgrind)'
 fi
 for processor in aarch64-linux-gnu m68k-linux-gnu arm-linux-gnueabihf powerpc-linux-gnu riscv64-linux-gnu; do
+    whole "layout on $processor" || continue
     if [ -z "$(command -v "$processor-gcc")" ]; then
         skip "layout on $processor" "$processor-gcc is not installed"
         continue
@@ -207,14 +219,19 @@ for processor in aarch64-linux-gnu m68k-linux-gnu arm-linux-gnueabihf powerpc-li
     case $processor in aarch64*) ;; *) holds "no archive for $processor" fits_not "$processor-gcc" ;; esac
 done
 holds 'this processor fits' tells fitting
-if has_command qemu-x86_64 && [ "$(uname -m)" = x86_64 ]; then
-    holds 'one without POPCNT does not fit' tells_not fitting qemu-x86_64 -cpu Penryn
+if ! whole 'processors that fit'; then
+    :
+elif has_command qemu-x86_64 && [ "$(uname -m)" = x86_64 ]; then
+    for lacking in Penryn Nehalem,-popcnt Nehalem,-sse4.2; do
+        holds "$lacking does not fit" tells_not fitting qemu-x86_64 -cpu "$lacking"
+    done
     holds 'one of x86-64-v2 fits' tells fitting qemu-x86_64 -cpu Nehalem
 else
     skip 'processors that fit' 'no qemu-x86_64 here (Debian package qemu-user)'
 fi
 for compiler in g++ clang++; do
     [ -n "$(command -v "$compiler")" ] || continue
+    [ "$compiler" = g++ ] || whole "wrapper by $compiler" || continue
     [ "$compiler" = g++ ] || set -- -fsanitize=address,undefined -fno-sanitize-recover=all
     [ "$compiler" != g++ ] || set --
     # shellcheck disable=SC2086
@@ -223,7 +240,9 @@ for compiler in g++ clang++; do
     counts "rows of the wrapper by $compiler" "$room/wrapper"
 done
 last_rule=$(sed -n 's/^    FIO2070_RULE_[A-Z]* = \([0-9]*\),$/\1/p' "$top/include/fio2070.h" | tail -n 1)
-holds 'a million random buffers' "$last/fuzz" 1000000 20260701 "$last_rule"
+buffers=50000
+[ -z "$all" ] || buffers=1000000
+holds "$buffers random buffers" "$last/fuzz" "$buffers" 20260701 "$last_rule"
 if [ -n "$(command -v python3)" ]; then
     holds 'Python' env -C "$top/bindings/python" PYTHONDONTWRITEBYTECODE=1 FIO2070_LIBRARY="$room/libfio2070.so" \
         python3 test.py

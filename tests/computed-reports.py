@@ -9,7 +9,7 @@ import sys
 sys.dont_write_bytecode = True
 
 from support.check import Check
-from support.tables import row
+from support.tables import MOST_WAITING, row
 
 ALL = (1 << 64) - 1
 GAP = 'gap'
@@ -159,7 +159,7 @@ def long_records(check):
     """Records of 65,536 items and of more: after a block of one entry, 257, 258 and 1,425 blocks of 255 entries. Those
     1,425 are 1,101,525 octets, and their record has 363,376 items."""
     for blocks in (257, 258, 1_425):
-        run = Example(version='3', limits=' 255 8192')
+        run = Example(version='3', limits=' 255 %d' % MOST_WAITING)
         run.open_inputs(range(64))
         run.scan(ALL - 1)
         run.polled(0, run.log, 0)
@@ -306,10 +306,11 @@ FULL_SCANS = [
     # Six blocks over two losses.
     ([(20, 256, 511, 0x0c, 769), (28, 768, 1023, 0x0c, 769), (28, 1023, 1278, 8, 514),
       (28, 1278, 1533, 8, 259), (28, 1533, 1788, 8, 4), (28, 1788, 1792, 0, 0)], ''),
-    # The most that may ever wait, and more.
-    ([(128, 0, 255, 8, 7937)], ' 255 8192'),
-    ([(129, 64, 319, 0x0c, 7937)], ' 255 8192'),
 ]
+# As many as may wait, and more, by the limits of a script.
+for limit in range(1024, MOST_WAITING + 1, 256):
+    FULL_SCANS.append(([(limit // 64, 0, 255, 8, limit - 255)], ' 255 %d' % limit))
+    FULL_SCANS.append(([(limit // 64 + 1, 64, 319, 0x0c, limit - 255)], ' 255 %d' % limit))
 
 check = Check()
 lost_poll(check)

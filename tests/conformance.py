@@ -1,8 +1,8 @@
 #!/usr/bin/env python3
 """The tester of tools/conformance: it finds no difference in the proved ends and in right ones that are written from
 docs/PROTOCOL.md, exercises each rule, and finds each planted fault, of a module and of a CPU's end, within the number of
-events that stands beside it in tests/support/c/planted; its reports, scripts, words and tables. Last line: `N passed, M
-failed`."""
+events that stands beside it in tests/support/c/planted; its reports, scripts, words and tables. With `--all` also by a
+second compiler and with sanitizers. Last line: `N passed, M failed`."""
 
 import os
 import pty
@@ -335,6 +335,8 @@ def wires(check, room):
 
 def sanitized(check, room):
     """Built with sanitizers, the tester runs as well."""
+    if not check.whole('with sanitizers'):
+        return
     if not shutil.which('clang'):
         check.skip('build by clang', 'it is not installed')
         return
@@ -350,8 +352,9 @@ def main():
     with tempfile.TemporaryDirectory() as room:
         run(['make', '-s', '-C', TOP, room + '/libfio2070.a', 'OUT=' + room])
         program = built(check, room, 'gcc', 'gcc', '-std=c99', '-O2')
-        built(check, room, 'g++', 'g++', '-x', 'c++', '-std=c++11') if shutil.which('g++') else check.skip(
-            'build by g++', 'it is not installed')
+        if check.whole('build by g++'):
+            built(check, room, 'g++', 'g++', '-x', 'c++', '-std=c++11') if shutil.which('g++') else check.skip(
+                'build by g++', 'it is not installed')
         if program:
             for part in (right_ends, planted_faults, reports, goes_on, words, transcripts):
                 part(check, program)

@@ -65,8 +65,7 @@ def check_words(check):
     check.holds('how many are passed over', '1 of %d lines passed over: 1 no octets' % (len(SESSION) + 1) in done.err)
     for command in (['decode'], ['stats'], ['check'], ['record'], ['convert', '--to', 'frames']):
         done = fiolog(*command, text='nothing here\n')
-        if 'no checker' not in done.err:
-            check.equal('%s of nothing' % command[0], (1, True), (done.status, 'no frame in 1 lines' in done.err))
+        check.equal('%s of nothing' % command[0], (1, True), (done.status, 'no frame in 1 lines' in done.err))
     check.equal('a file that is not there', 3, fiolog('decode', 'no-such-file').status)
     check.equal('no subcommand', 2, fiolog().status)
     check.equal('a pattern without octets', 2, fiolog('decode', '--pattern', '(', text='').status)
@@ -114,9 +113,6 @@ def check_convert(check):
 
 def check_check(check):
     """`check` finds first what the program finds, and goes on: past noise, past damage, in logs of the other end."""
-    if 'no checker' in fiolog('check', text=LOG).err:
-        check.skip('fiolog check', 'this libfio2070 has no checker')
-        return
     for name in sorted(glob.glob(os.path.join(EXAMPLES, '*.transcript'))):
         with open(name[:-len('transcript')] + 'verdict', encoding='ascii') as file:
             verdict = re.match(r'line (\d+) breaks (\w+)', file.read())

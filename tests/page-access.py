@@ -1,6 +1,6 @@
 #!/usr/bin/env python3
-"""The page that `make page` writes without a pointer, and in older browsers, in headless Chromium and Firefox: the role and
-the name that each control has in the browser's accessibility tree; that the key Tab reaches each, with a mark around it;
+"""The page that `make page` writes without a pointer, and in older browsers, in headless Chromium, with `--all` in Firefox too:
+the role and the name that each control has in the browser's accessibility tree; that the key Tab reaches each, with a mark around it;
 and what is said where the browser has no memory of 64 bits, or passes no numbers of 64 bits. Last line: `N passed, M failed`."""
 
 import os
@@ -11,7 +11,7 @@ import tempfile
 
 sys.dont_write_bytecode = True
 
-from support.browsers import ELEMENT, Chromium, Firefox, is_here, running
+from support.browsers import ELEMENT, browsers, running
 from support.check import Check
 from support.tables import TOP
 
@@ -140,10 +140,7 @@ def main():
     check = Check()
     made = subprocess.run(['make', '-s', '-C', TOP, 'page'], stdout=subprocess.PIPE, stderr=subprocess.STDOUT)
     check.equal('make page', 0, made.returncode)
-    for kind in (Chromium, Firefox) if made.returncode == 0 else ():
-        if not is_here(kind):
-            check.skip(kind.name, 'no %s here' % ' or no '.join(kind.programs))
-            continue
+    for kind in browsers(check) if made.returncode == 0 else ():
         with tempfile.TemporaryDirectory() as folder, running(kind) as browser:
             opened(browser)
             check_roles(check, browser, kind.name)

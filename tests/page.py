@@ -1,5 +1,5 @@
 #!/usr/bin/env python3
-"""Drives the page that `make page` writes, in headless Chromium and Firefox, as a person would: the examples give what
+"""Drives the page that `make page` writes, in headless Chromium, with `--all` in Firefox too, as a person would: the examples give what
 `show`, `check` and `simulate` give, letter for letter; 100,000 messages open within two seconds and scroll; hostile files
 change nothing but the table; the views follow pointer and keys; the planning table is that of docs/PLANNING.md. With
 `--pictures` the pictures of tools/page/ are taken anew. Last line: `N passed, M failed`."""
@@ -16,7 +16,7 @@ import time
 
 sys.dont_write_bytecode = True
 
-from support.browsers import KEYS, Chromium, Firefox, is_here, running
+from support.browsers import KEYS, Chromium, browsers, running
 from support.check import Check
 from support.damage import DAMAGED
 from support.loggers import LOGGERS
@@ -525,11 +525,8 @@ def main():
     if not shutil.which('wasm-opt'):
         check.skip('32-bit addresses', 'no wasm-opt here (Debian package binaryen)')
     with tempfile.TemporaryDirectory() as folder:
-        for kind in (Chromium, Firefox):
-            if is_here(kind):
-                check_browser(check, kind, folder)
-            else:
-                check.skip(kind.name, 'no %s here' % ' or no '.join(kind.programs))
+        for kind in browsers(check):
+            check_browser(check, kind, folder)
         if check.given.pictures:
             take_pictures(folder)
     check.end()

@@ -14,12 +14,12 @@ import sys
 sys.dont_write_bytecode = True
 
 from support.check import Check
-from support.tables import TOP, output_of
+from support.tables import MOST_WAITING, TOP, output_of
 
 FILTERS = (1, 2, 5, 10, 20, 50)
 INPUTS = (8, 16, 32, 64)
 PER_BLOCK = 255
-WAITING = (1024, 8192)
+WAITING = (1024, MOST_WAITING)
 ALL_ONES = 2 ** 64 - 1
 
 

@@ -1,7 +1,8 @@
 #!/usr/bin/env python3
 """Holds the translator of the portable library (tools/portable) against an interpreter: each instruction that it takes is
 run on numbers at the edges of its range, by `wasm-interp` of the Debian package wabt and as translated C, and each other
-instruction is refused. Translators with a rule that no frame shows to be wrong are found. Last line: `N passed, M failed`."""
+instruction is refused. With `--all` also with sanitizers, and translators with a rule that no frame shows to be wrong are
+found. Last line: `N passed, M failed`."""
 
 import os
 import re
@@ -107,14 +108,14 @@ if not shutil.which('wasm-interp'):
     check.end()
 wanted = interpreted(cases.TAKEN)
 check.equal('each function is run', sorted(name for name, _ in cases.TAKEN), sorted(wanted))
-for options in WAYS:
+for options in WAYS if check.whole('with sanitizers') else WAYS[:2]:
     found = translated(cases.TAKEN, options)
     for name, _ in cases.TAKEN:
         check.equal('%s by gcc %s' % (name, options[0]), wanted.get(name), found.get(name, found.get('compiler')))
 for options in WAYS[:2]:
     for name, outside in translated(cases.OUTSIDE, options).items():
         check.equal('%s is outside, by gcc %s' % (name, options[0]), 'trap', outside)
-for name, wrong in UNSEEN:
+for name, wrong in UNSEEN if check.whole('wrong translators') else ():
     check.fault('wrong: ' + name, is_found, wrong)
 for name, text in cases.REFUSED:
     check.fault('%s is refused' % name, is_refused, text)

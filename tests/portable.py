@@ -1,8 +1,8 @@
 #!/usr/bin/env python3
 """Builds the portable library of `make portable`, and compares what it answers to random frames and lossy links with what
-the library for x86-64 answers: here by each compiler, on other processors under qemu-user where cross compilers are, and
-on a Cortex-M4 under qemu-system-arm. Two of those under qemu-user are asked for by default, with `--every` all. Last line:
-`N passed, M failed`."""
+the library for x86-64 answers: here by a compiler; with `--all` by each compiler and with sanitizers, on two other processors
+under qemu-user and on a Cortex-M4 under qemu-system-arm, and by wrong translators, each of which is found. With `--all
+--every` on all processors, and by all wrong translators. Last line: `N passed, M failed`."""
 
 import functools
 import os
@@ -113,6 +113,8 @@ def on_processor(name, prefix, options, qemu):
 
 
 def others():
+    if not check.whole('frames and links on other processors'):
+        return
     for place, (name, prefix, options, qemu) in enumerate(PROCESSORS):
         row = 'frames and links on ' + name
         missing = [it for it in (prefix + 'gcc', qemu) if not shutil.which(it)]
@@ -139,6 +141,8 @@ def within_limits():
 
 
 def cortex_rows():
+    if not check.whole('frames and links on a Cortex-M4'):
+        return
     rows = [('frames and links on a Cortex-M4', ['-Os'], SHORT, wanted)]
     if check.given.every:
         rows.append(('more frames and links on a Cortex-M4', ['-O2', '-DFIO2070_FAST'], LONG, run(path('native'), *LONG).stdout))
@@ -214,7 +218,7 @@ def is_found(wrong):
 
 
 def wrong_translators():
-    for name, wrong in WRONG:
+    for name, wrong in WRONG if check.whole('wrong translators') else ():
         if check.given.every or wrong.usual:
             check.fault('wrong: ' + name, is_found, wrong)
 
@@ -235,16 +239,20 @@ for compiler in ('gcc', 'clang'):
     if not shutil.which(compiler):
         check.skip('by ' + compiler, 'no %s here' % compiler)
         continue
+    if compiler != 'gcc' and not check.whole('by ' + compiler):
+        continue
     check.fault('no warning by ' + compiler, object_fault, compiler)
     check.fault('alone by ' + compiler, is_alone, compiler)
-    check.fault('frames and links by ' + compiler, lambda by: build(by, ['-O1', *FAULTS.get(by, [])], by) or differs([path(by)]), compiler)
+    check.fault('frames and links by ' + compiler, lambda by: build(by, ['-O1', *(FAULTS.get(by, []) if check.given.all else [])], by) or differs([path(by)]), compiler)
 check.fault('the decoder of the examples', shows)
 check.fault('the poller of the examples', polls)
 for end in ('module', 'cpu'):
     check.fault('the tester: ' + end, is_tested, end)
 others()
 cortex_rows()
-if shutil.which('aarch64-linux-gnu-gcc') and shutil.which('qemu-aarch64'):
+if not check.whole('the archive for aarch64'):
+    pass
+elif shutil.which('aarch64-linux-gnu-gcc') and shutil.which('qemu-aarch64'):
     check.fault('the archive for aarch64', archive_for_aarch64)
 else:
     check.skip('the archive for aarch64', 'it runs with the Debian packages gcc-aarch64-linux-gnu and qemu-user')

@@ -33,6 +33,11 @@ given 'no input' '' 0 '' show
 given 'no subcommand' '3605' 2 'fio2070: no subcommand'
 given 'another word' '3605' 2 "error: unrecognized subcommand 'other'*" other
 given 'a word with a capital' '3605' 2 "error: unrecognized subcommand 'Show'*" Show
+for letters in 1000 4000 16000; do
+    long=$(printf "%0${letters}d" 0)
+    given "a word of $letters letters" '3605' 2 "error: unrecognized subcommand '$long'*" "$long"
+    given "a word of $letters letters too many" '3605' 2 "error: unexpected argument '$long'*Usage: fio2070 show < FILE*" show "$long"
+done
 given 'another option' '3605' 2 "error: unexpected argument '-x'*" -x
 given 'one word too many' '3605' 2 "error: unexpected argument 'x'*Usage: fio2070 show < FILE*" show x
 given 'help as a word' '3605' 2 "error: unrecognized subcommand 'help'*" help

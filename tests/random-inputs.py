@@ -1,6 +1,6 @@
 #!/usr/bin/env python3
-"""Runs the built program on random octets, random lines and mutated texts, 6,000 inputs for each tool, from a fixed
-seed: each run ends within ten seconds with status 0 or 1, writes lines of the known forms alone, and its status
+"""Runs the built program on random octets, random lines and mutated texts, 500 inputs for each tool and with `--all` 6,000,
+from a fixed seed: each run ends within ten seconds with status 0 or 1, writes lines of the known forms alone, and its status
 says whether they tell of a fault. `tests/random-inputs.py SEED COUNT` takes another seed and another number of inputs a
 tool. Last line: `N passed, M failed`."""
 
@@ -15,7 +15,7 @@ sys.dont_write_bytecode = True
 
 from support.check import Check
 from support.messages import LENGTHS
-from support.tables import TOP, program
+from support.tables import MOST_WAITING, TOP, program
 
 TOOLS = ('show', 'simulate', 'check', 'record')
 SECONDS = 10
@@ -194,7 +194,7 @@ class Inputs:
     def script(self):
         """The lines of a script."""
         header = self.random.choice([b'fio2070 script 1 2 0', b'fio2070 script 2 2 255', b'fio2070 script 2 2 0',
-                                     b'fio2070 script 3 2 0 1 1024', b'fio2070 script 3 2 7 255 8192'])
+                                     b'fio2070 script 3 2 0 1 1024', b'fio2070 script 3 2 7 255 %d' % MOST_WAITING])
         if self.random.random() < 0.1:
             header = b'fio2070 script 3 2 0 %d %d' % (self.random.randrange(300), self.random.randrange(9_000))
         sent = [0, 0]
@@ -265,7 +265,7 @@ def run(case):
 
 
 def main():
-    check = Check(seed=2070, count=6000)
+    check = Check(seed=2070, count=(500, 6000))
     seed, count = check.given.seed, check.given.count
     # Has the program built where it is not.
     program()

@@ -127,6 +127,10 @@ WORKED = [
      block(2, 300, entry(12, 0, 9), *FULL[1:], status=12),
      'record 257\n' + ONE + 'gap\ninput 12 state 0 stamp 9 wide 9\n' +
      ''.join('input 0 state %d stamp %d wide %d\n' % (place % 2, place + 11, place + 11) for place in range(1, 255))),
+    # Below many lines.
+    *[('below %d lines' % above, '\n' * above + LOST + block(2, 31, entry(12, 0, 30)),
+       'record 1\n' + ONE + 'line %d input 12 breaks alternate\n' % (above + 8))
+      for above in (65_527, 65_528, 70_000, 131_072, 1_000_000)],
     # The rules of `check` come first, also below an entry that breaks a rule on content.
     ('a rule broken below', START + block(1, 11, entry(12, 0, 10), entry(12, 0, 10)) + '> 3604\n', 'line 7 breaks advance\n'),
     ('a bad line below', START + block(1, 11, entry(12, 0, 10), entry(12, 0, 10)) + '> zz\n', 'line 7: bad line\n'),
@@ -149,6 +153,14 @@ def longest():
         text += block((turn + 1) % 256, stamp, *entries, status=8)
     text += block((count + 1) % 256, stamp + 5, entry(13, state, stamp + 5))
     return text, 'record %d\n%sline %d input 13 breaks alternate\n' % (len(items), ''.join(items), text.count('\n'))
+
+
+def most_items():
+    """As many full blocks as fit, each below a gap mark, and what `record` writes of them."""
+    count = lines_that_fit(block(0, 300, *FULL, status=12))
+    text = ''.join(block(turn % 256, 300, *FULL, status=12) for turn in range(count))
+    items = ''.join('input 0 state %d stamp %d wide %d\n' % (place % 2, place + 11, place + 11) for place in range(255))
+    return text, 'record %d\n' % (256 * count) + ('gap\n' + items) * count
 
 
 def random_transcript(draw):
@@ -289,6 +301,9 @@ for name, text, expected in WORKED:
 text, expected = longest()
 check.holds('the longest transcript is no longer than an input may be', MOST_OCTETS - 4096 < len(text) <= MOST_OCTETS, len(text))
 row(check, 'the longest transcript', 'record', text, expected, 1)
+text, expected = most_items()
+check.holds('a gap mark in each block gives the most items', expected.startswith('record 172288\n'), expected[:20])
+row(check, 'the most items', 'record', text, expected, 0)
 draw = random.Random(1)
 kept = 0
 for turn in range(TRANSCRIPTS):

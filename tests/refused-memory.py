@@ -1,10 +1,10 @@
 #!/usr/bin/env python3
-"""Refuses each growth of memory in turn: to `fio_refusals`, which makes calls that can run out of memory once each
+"""Refuses each growth of memory in turn: to `fio_allocations`, which makes calls that can run out of memory once each
 and reports their answers, and to the built program, which makes the others, at some inputs. Growth 1 is refused to a
 first run, growth 2 to a second one, until a run meets no refusal. The number of growths of each call and of each
 input, and how many octets they ask for, are compared with the table `tests/support/growths`, so that room that a call
 asks for and never uses is found too; `tests/refused-memory.py --counts` writes the table anew. A C compiler (`$CC`,
-else `cc`) makes the library that refuses; `fio_refusals` is proved and built first, where it is not yet. Last line:
+else `cc`) makes the library that refuses; `fio_allocations` is proved and built first, where it is not yet. Last line:
 `N passed, M failed`, where each run that met a refusal and each row of the table counts."""
 
 import glob
@@ -21,7 +21,7 @@ from support.check import Check
 from support.tables import TOP, program
 
 LIBRARY = os.path.join(TOP, 'tests', 'support', 'refuse.c')
-REFUSALS = os.path.join(TOP, 'crates', 'fio_refusals')
+ALLOCATIONS = os.path.join(TOP, 'crates', 'fio_allocations')
 TABLE = os.path.join(TOP, 'tests', 'support', 'growths')
 
 # Large texts with a fault at their ends. A line that is of no form once its digits are read, beside one that is of none
@@ -169,18 +169,18 @@ class Sweep:
 
 
 def kind_of(answer):
-    """What a row of `fio_refusals` says of a growth that was refused while it was made."""
+    """What a row of `fio_allocations` says of a growth that was refused while it was made."""
     if answer.startswith('refused at '):
         return 'reported'
     return {'not begun': 'before', 'right': 'passed over'}.get(answer)
 
 
 def sweep_calls(sweep):
-    """Refuses each growth of `fio_refusals`. The row that follows the refusal is that of the call which met it."""
-    calls = os.path.join(REFUSALS, 'out', 'fio_refusals')
+    """Refuses each growth of `fio_allocations`. The row that follows the refusal is that of the call which met it."""
+    calls = os.path.join(ALLOCATIONS, 'out', 'fio_allocations')
     if is_stale(calls):
-        made(['rt', 'run'], REFUSALS, 'fio_refusals')
-    with open(os.path.join(REFUSALS, 'stdout'), encoding='utf-8') as file:
+        made(['rt', 'run'], ALLOCATIONS, 'fio_allocations')
+    with open(os.path.join(ALLOCATIONS, 'stdout'), encoding='utf-8') as file:
         ample = file.read().splitlines()
     names = [row.partition(': ')[0] for row in ample]
     places = {name: [] for name in names}
@@ -191,7 +191,7 @@ def sweep_calls(sweep):
         name, _, answer = (below or [''])[0].partition(': ')
         kind = kind_of(answer)
         others = above + ['%s: right' % name] + below[1:]
-        sweep.check.holds('fio_refusals, growth %d' % growth, status == 0 and kind is not None and others == ample,
+        sweep.check.holds('fio_allocations, growth %d' % growth, status == 0 and kind is not None and others == ample,
                           (above[-1:], below[:1], status))
         if kind is not None:
             sweep.count(name, kind, octets)

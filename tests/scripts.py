@@ -8,7 +8,7 @@ import sys
 sys.dont_write_bytecode = True
 
 from support.check import Check
-from support.tables import MOST_OCTETS, in_short, lines_that_fit, row
+from support.tables import MOST_OCTETS, MOST_WAITING, in_short, lines_that_fit, row
 
 HEADER = 'fio2070 script 1 2 0\n'
 
@@ -160,7 +160,7 @@ BAD_HEADERS = [
     'fio2070 script 3 2 0 256 1024',
     'fio2070 script 3 2 0 0 1024',
     'fio2070 script 3 2 0 1 1023',
-    'fio2070 script 3 2 0 1 8193',
+    'fio2070 script 3 2 0 1 %d' % (MOST_WAITING + 1),
     # 66,560 is 1,024 more than 65,536, and 257 is one more than 256.
     'fio2070 script 3 2 0 1 66560',
     'fio2070 script 3 2 0 257 1024',
@@ -219,6 +219,8 @@ for skipped in (10_001, 13_000, 65_533, 65_534, 65_535, 70_000, 131_072, 500_000
         (HEADER + '\n' * skipped + 'zz', 'line %d: bad line' % (skipped + 2)),
         (HEADER + '\n' * skipped + 'send 33', 'line %d: bad frame wrong length needed 2 got 1' % (skipped + 2)),
     ]
+for sent in (8_999, 9_000, 9_500, 9_999):
+    FAULTS.append((HEADER + 'poll\n' * sent + 'send 33', 'line %d: bad frame wrong length needed 2 got 1' % (sent + 2)))
 # Behind 1,270 frames of 401 octets, and behind 9,999 scans.
 FAULTS += [
     (HEADER + ('send 38%s\n' % ('07' * 400)) * 1_270 + 'zz', 'line 1272: bad line'),
@@ -238,7 +240,8 @@ LONGEST = '38' + '07' * 772
 COMMANDS = lines_that_fit('send %s\n' % LONGEST, above=HEADER)
 
 LARGEST = [
-    ('the most events', HEADER + 'poll\n' * 10_000 + '# the end\n\n', each_sent('3600', 10_000)),
+    *[('%d events' % count, HEADER + 'poll\n' * count + '# the end\n\n', each_sent('3600', count))
+      for count in (9_000, 9_998, 9_999, 10_000)],
     ('the most events and the most octets', (HEADER + 'poll\n' * 10_000).ljust(MOST_OCTETS, '\n'),
      each_sent('3600', 10_000)),
     ('the most empty lines', HEADER.ljust(MOST_OCTETS, '\n'), NOTHING_RECORDED),

@@ -92,9 +92,10 @@ LONGEST = [
     ('38' * 32_768, 'line 1: too long got 32768\n', 1),
 ]
 
-# A body of 772 octets, and a block of 255 entries.
+# A body of 772 octets, and a block of 255 entries, whose text is the longest with the greatest numbers.
 LONGEST_BODY = '38' + '07' * 772 + '\n'
 LONGEST_BLOCK = 'b605ff' + '8c03e7' * 255 + '08000003e8\n'
+GREATEST_BLOCK = 'b6ffff' + 'ffffff' * 255 + '08ffffffff\n'
 BODIES = lines_that_fit(LONGEST_BODY)
 BLOCKS = lines_that_fit(LONGEST_BLOCK)
 
@@ -110,6 +111,8 @@ LARGEST = [
     (LONGEST_BODY * BODIES, ('other 56 body ' + '07' * 772 + '\n') * BODIES, 0),
     (LONGEST_BLOCK * BLOCKS, ('block 5 entries 255 status 08 stamp 1000\n'
                               + '  input 12 state 1 stamp 999 wide 999\n' * 255) * BLOCKS, 0),
+    (GREATEST_BLOCK * BLOCKS, ('block 255 entries 255 status 08 stamp 4294967295\n'
+                               + '  input 127 state 1 stamp 65535 wide 4294967295\n' * 255) * BLOCKS, 0),
 ]
 
 # Lines that say something, or nothing, above two faulty ones.

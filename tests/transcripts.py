@@ -248,6 +248,9 @@ for heading, table in TABLES.items():
 for text, expected in RECORDS:
     row(check, 'record %s' % in_short(text), 'record', text, expected + '\n',
         0 if expected.startswith('record ') else 1)
+for text, expected in DEEP:
+    row(check, 'record, deep: %s, %s, %d octets' % (expected, in_short(text), len(text)), 'record', text,
+        'record 0\n' if expected.startswith('good ') else expected + '\n', 0 if expected.startswith('good ') else 1)
 for number, line, expected in CHANGES:
     row(check, 'line %d changed: %s, %s' % (number, expected, line[:40]), 'check', changed(number, line),
         expected + '\n', 0 if expected.startswith('good ') else 1)

@@ -1,8 +1,8 @@
 #!/usr/bin/env python3
 """Compares the Wireshark dissector, as tshark runs it, with `show`: frames of the protocol's tables and random ones
 in each way in which a capture carries them; the links between commands and answers of transcripts; frames that
-`show` has no line for; and the captures of hex2pcap. Then runs wrong dissectors, of which each has to be caught by the
-comparison that is named with it.
+`show` has no line for; and the captures of hex2pcap. With `--all` ten times as many random frames, and wrong dissectors,
+of which each has to be caught by the comparison that is named with it.
 `tests/wireshark.py SEED COUNT` takes another seed and another number of random frames.
 Last line: `N passed, M failed`."""
 
@@ -255,7 +255,7 @@ def fault_of_wrong(folder, by_name, name, text, other, catcher):
     return None if by_name[catcher](Tshark(folder, path)) else 'not caught by %s: %s' % (catcher, name)
 
 
-def comparisons(cases):
+def comparisons(check, cases):
     """Each comparison: its name, and a function of a folder of its own that gives the first difference or None."""
     def over(function, *given):
         return lambda folder: function(Tshark(folder), *given)
@@ -277,7 +277,7 @@ def comparisons(cases):
     yield 'a simulated run', over(fault_of_simulated_run)
     yield 'filters', over(fault_of_filters)
     by_name = short_comparisons(cases)
-    for wrong in WRONG_DISSECTORS:
+    for wrong in WRONG_DISSECTORS if check.whole('wrong dissectors') else ():
         yield 'wrong: ' + wrong[0], lambda folder, wrong=wrong: fault_of_wrong(folder, by_name, *wrong)
 
 
@@ -290,7 +290,7 @@ def outcome(folder, function):
 
 
 def main():
-    check = Check(seed=2070, count=5000)
+    check = Check(seed=2070, count=(500, 5000))
     if not shutil.which('tshark') or not shutil.which('text2pcap'):
         check.skip('the dissector', 'no tshark here (Debian package tshark)')
         check.end()
@@ -298,7 +298,7 @@ def main():
     cases = Cases(seed, count)
     with tempfile.TemporaryDirectory() as room, concurrent.futures.ThreadPoolExecutor(os.cpu_count()) as pool:
         runs = [(name, pool.submit(outcome, os.path.join(room, str(place)), function))
-                for place, (name, function) in enumerate(comparisons(cases)) if check.wants(name)]
+                for place, (name, function) in enumerate(comparisons(check, cases)) if check.wants(name)]
         for name, run in runs:
             check.fault(name, run.result)
     print('%d frames and %d transcripts from seed %d' % (len(cases.frames), len(cases.transcripts), seed))

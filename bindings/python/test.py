@@ -42,7 +42,9 @@ class Rules(unittest.TestCase):
         self.assertIsNone(checker.heard(BLOCK))
         self.assertIsNone(checker.sent(encode.poll(6)))
         self.assertEqual(checker.heard(BLOCK), (3, True, 6, 5))
-
+        breach = fio2070.Checker().heard(b'\xb3\0')
+        self.assertEqual(breach, (2, False, 0, 0))
+        self.assertIs(breach.has_due, False)
 
     def test_an_entry_that_comes_twice(self):
         content, again = fio2070.ContentChecker(), encode.block_answer(2, [Entry(13, 0, 11), Entry(12, 0, 12)], 0, 21)
@@ -154,6 +156,10 @@ class Ends(unittest.TestCase):
         self.assertEqual(poller.hear(answer), fio2070.Heard('taken', entries=1))
         self.assertEqual(poller.record, [(False, 12, 0, 999, 999)])
         self.assertEqual(poller.hear(answer), fio2070.Heard('stale', number=5))
+        lost = fio2070.Poller(255)
+        self.assertEqual(lost.hear(encode.block_answer(255, [Entry(12, 1, 999)], 0x0c, 1000)),
+                         fio2070.Heard('taken', entries=1, status=0x0c))
+        self.assertEqual((lost.number, lost.record), (0, [(True, 0, 0, 0, 0), (False, 12, 1, 999, 999)]))
         self.assertEqual(poller.hear(b'\xb3\0'), fio2070.Heard('other', code=179))
         self.assertEqual(str(poller.hear(b'').fault), 'empty')
         self.assertEqual(poller.number, 6)

@@ -235,5 +235,11 @@ def running(kind):
             browser.end()
 
 
-def is_here(kind):
-    return all(map(shutil.which, kind.programs))
+def browsers(check):
+    """Returns the browsers in which a check is run: with `--all` each that is installed, else the first."""
+    installed = [kind for kind in (Chromium, Firefox) if all(map(shutil.which, kind.programs))]
+    for kind in (Chromium, Firefox):
+        if kind not in installed:
+            check.skip(kind.name, 'no %s here' % ' or no '.join(kind.programs))
+        elif kind is installed[0] or check.whole(kind.name):
+            yield kind

@@ -1,6 +1,7 @@
 """The counting of rows, for the checks in tests/. Each row has a name; one that fails prints it, with what was expected
-and what came instead. The last line of a check is `N passed, M failed`, and its status is 0 where no row failed. With
-`-k WORD` it has only those rows whose name has the word in it."""
+and what came instead. The last line of a check is `N passed, M failed`, and its status is 0 if no row failed. With
+`-k WORD` it has only those rows whose name has the word in it. A check has a quick form, which `./test` runs, and with
+`--all` its whole form, which `./test --all` runs: it asks `Check.whole` for rows that only that has."""
 
 import argparse
 import sys
@@ -27,22 +28,33 @@ class Check:
     """Counts the rows of a check that hold, and prints those that fail."""
 
     def __init__(self, **settings):
-        """Reads the command line: `-k WORD`, and what the check takes beside it. A setting with a number is a word that
-        may be given, in order; one that is `False` is an option, as `--counts`."""
+        """Reads the command line: `-k WORD`, `--all`, and what the check takes beside them. A setting with a number is a word
+        that may be given, in order, and one with two numbers has the first in the quick form, the second with `--all`; one
+        that is `False` is an option, as `--counts`."""
         # The description is the check's own.
         parser = argparse.ArgumentParser(description=sys.modules['__main__'].__doc__)
         parser.add_argument('-k', metavar='WORD', default='', help='only the rows whose name has WORD in it')
+        parser.add_argument('--all', action='store_true', help='the whole form, in place of the quick one')
         for name, value in settings.items():
             if value is False:
                 parser.add_argument('--' + name, action='store_true')
             else:
-                parser.add_argument(name, nargs='?', type=type(value), default=value)
+                parser.add_argument(name, nargs='?', type=int, default=value)
         self.given = parser.parse_args()
+        for name, value in vars(self.given).items():
+            setattr(self.given, name, value[self.given.all] if isinstance(value, tuple) else value)
         self.passed = self.failed = self.skipped = 0
 
     def wants(self, name):
         """Whether a row of this name is asked for."""
         return self.given.k in name
+
+    def whole(self, name):
+        """Returns whether this is the whole form. If not, says that these rows are left to it; `./test` lists them."""
+        if not self.given.all and self.wants(name):
+            self.skipped += 1
+            print('left to --all: %s' % name)
+        return self.given.all
 
     def equal(self, name, expected, got):
         """A row: what came is what was expected."""

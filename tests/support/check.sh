@@ -1,6 +1,7 @@
 # The counting of rows, for the checks in tests/ that are shell scripts; check.py is the same for Python. A check reads
 # this file with its own words, begins in the folder $room, which is removed in the end, and closes with `end`. With
-# `-k WORD` it has only those rows whose name has the word in it.
+# `-k WORD` it has only those rows whose name has the word in it. A check has a quick form, which `./test` runs, and with
+# `--all` its whole form, which `./test --all` runs: it asks `whole` for rows that only that has.
 
 top=$(dirname -- "$(dirname -- "$(readlink -f -- "$0")")")
 room=$(mktemp -d) || exit 1
@@ -10,12 +11,18 @@ passed=0
 failed=0
 skipped=0
 word=
-if [ "$1" = -k ] && [ $# -eq 2 ]; then
-    word=$2
-elif [ $# -gt 0 ]; then
-    echo "Usage: $(basename -- "$0") [-k WORD]" >&2
-    exit 2
-fi
+all=
+while [ $# -gt 0 ]; do
+    case $1 in
+    --all) all=yes ;;
+    -k) [ $# -gt 1 ] && word=$2 && shift ;;
+    *) false ;;
+    esac || {
+        echo "Usage: $(basename -- "$0") [--all] [-k WORD]" >&2
+        exit 2
+    }
+    shift
+done
 
 # wants NAME: a row of this name is asked for.
 wants() {
@@ -23,6 +30,16 @@ wants() {
     *"$word"*) return 0 ;;
     *) return 1 ;;
     esac
+}
+
+# whole NAME: this is the whole form. If not, it says that these rows are left to it; `./test` lists them.
+whole() {
+    [ -z "$all" ] || return 0
+    if wants "$1"; then
+        skipped=$((skipped + 1))
+        echo "left to --all: $1"
+    fi
+    return 1
 }
 
 # judge NAME STATUS EXPECTED GOT: a row that holds where the status is 0; else it prints what was expected and what came.

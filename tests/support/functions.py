@@ -51,14 +51,18 @@ def end_of_braces(text, start):
     return len(text)
 
 
-HEADER = re.compile(r'^impl(?:<[^{]*?>)?\s+(?:(?:\w+::)*(\w+)(<[^{]*?>)?\s+for\s+)?(&?\[?)(\w+)\]?(<[^{>]*>)?[^{]*\{', re.M)
+# A law: a public function that does nothing. Its name, and where it stands.
+LAW = re.compile(r'^pub fn (\w+)[^\n]*\n(?:    [^\n]*\n)*\{\}$', re.M)
+HEADER = re.compile(r'^impl(<[^{]*?>)?\s+(?:(?:\w+::)*(\w+)(<[^{]*?>)?\s+for\s+)?(&?\[?)(\w+)\]?(<[^{>]*>)?[^{]*\{', re.M)
 
 
 def owner_of(header):
     """The type and the trait, if any, of an `impl`, as the prover names them: with the types that a trait, or the type
-    that has it, is of."""
-    trait, of_trait, mark, name, of_type = header.groups(default='')
-    words = [''.join(re.findall(r'\b[A-Z]\w+', one)) for one in (of_trait, of_type)]
+    that has it, is of, less its own parameters."""
+    parameters, trait, of_trait, mark, name, of_type = header.groups(default='')
+    own = re.findall(r'[<,]\s*(?:const )?(\w+)', parameters)
+    words = [''.join(word[0].upper() + word[1:] for word in re.findall(r'\b(?:[A-Z]\w+|[iu]\d+)\b', one) if word not in own)
+             for one in (of_trait, of_type)]
     marks = 'Ref' * mark.count('&') + 'Slice' * mark.count('[')
     return marks + name + words[1] * bool(trait), trait + words[0]
 
@@ -130,28 +134,3 @@ def without_bodies(text, functions):
         if not one.is_const:
             text = text[:one.body] + '{ unreachable!() }' + text[one.end:]
     return text
-
-
-def changed_functions(functions, sources, stanza):
-    """The functions that a stanza changes. Where it changes none of a file, as by a constant at its head, it changes
-    all of them."""
-    changed = set()
-    places = list(changed_places(sources, stanza))
-    for path in {path for path, _, _ in places}:
-        of_file = [one for one in functions if one.path == path]
-        changed.update([one for one in of_file for place, first, last in places
-                        if place == path and one.start < last and first < one.end] or of_file)
-    return changed
-
-
-def reached_from(function, functions, sources):
-    """The function, and those of its crate that it uses, directly or not, by their names."""
-    found, left = set(), [function]
-    while left:
-        one = left.pop()
-        if one in found:
-            continue
-        found.add(one)
-        used = set(re.findall(r'\b(\w+)\(', without_words(sources[one.path])[one.body:one.end]))
-        left += [other for other in functions if other.name in used]
-    return found

@@ -126,12 +126,12 @@ class Lane:
         text = LEFT_OUT.format(place=name, lemmas=lemmas, name=place.split('::')[-1])
         lay(self.proof_folder(crate, place), {PROOF: text})
 
-    def bring_back(self, crate, short, is_tried):
-        """Brings back the proof of a function. What is tried has a hole in its answers: the prover tries the same of it, but
-        does not run once more for the answers that it would offer. So no function is proved, and a right one is refused by
-        no clause. The law of a control has none."""
+    def bring_back(self, crate, short):
+        """Brings back the proof of a function or a law. A function has a hole in its answers: the prover tries the same of it,
+        but does not run once more for the answers that it would offer. So no function is proved, and a right one is refused
+        by no clause. A law has none: which of its goals are left the prover says only with the answers that it offers."""
         texts = dict(crate.proofs_of(short))
-        if is_tried and PROOF not in texts:
+        if PROOF not in texts and not short.startswith('law '):
             texts[ANSWERS] = texts.get(ANSWERS, '') + HOLE
         lay(self.proof_folder(crate, crate.places[short]), texts)
 
@@ -160,10 +160,10 @@ class Lane:
         self.bring(crate)
         folder, kept = self.folder(crate), os.path.join(self.kept, crate.name)
         copy(kept, os.path.join(folder, KEPT), shutil.copy2)
-        named, tried = group.named(), group.named([False])
+        named = group.named()
         self.write(crate, texts, named)
         for short in named & crate.places.keys():
-            self.bring_back(crate, short, short in tried or not short.startswith('law '))
+            self.bring_back(crate, short)
         done = self.run(crate, named)
         for short in named & crate.places.keys():
             self.leave_out(crate, short)

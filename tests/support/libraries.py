@@ -1,5 +1,5 @@
 #!/usr/bin/env python3
-"""Gives a copy of the sources the libraries below a crate, as `rt ci` builds them here: `libraries.py CRATE COPY --until FILE`.
+"""Gives a copy of the sources the libraries below crates, as `rt ci` builds them here: `libraries.py COPY CRATE.. --until FILE`.
 
 Nothing has to prove them once more then; what they hold of proofs is their statements. Each is taken as soon as it is there,
 the lowest first, until all are, or FILE says that `rt ci` has ended; what lacks then, the copy proves for itself. `rt ci` leaves
@@ -33,9 +33,21 @@ def files_of(crate):
     return found if is_whole and os.path.join(folder, 'stamp') not in found else {}
 
 
+def built(crate):
+    """The folder of a library in the copy."""
+    return os.path.join(crate.folder, 'out', 'rlib')
+
+
+def missing(copy, names):
+    """The libraries below these crates that the copy does not have yet, the lowest first."""
+    crates = crates_of(copy)
+    below = {one.name: one for name in names for one in crates[name].below()}
+    return [one for one in below.values() if not os.path.exists(os.path.join(built(one), 'stamp'))]
+
+
 def take(crate):
     """Takes a library, and stamps it."""
-    target = os.path.join(crate.folder, 'out', 'rlib')
+    target = built(crate)
     shutil.copytree(os.path.join(TOP, 'crates', crate.name, 'out', 'rlib'), target, copy_function=link_or_copy)
     with open(target + '.stamp', 'w', encoding='utf-8') as stamp:
         stamp.write(crate.stamp())
@@ -44,11 +56,11 @@ def take(crate):
 
 def main():
     parser = argparse.ArgumentParser(description=__doc__.split('\n', maxsplit=1)[0])
-    parser.add_argument('crate')
     parser.add_argument('copy', type=os.path.realpath)
+    parser.add_argument('crate', nargs='+')
     parser.add_argument('--until', metavar='FILE', required=True)
     given = parser.parse_args()
-    left, seen = crates_of(given.copy)[given.crate].below(), {}
+    left, seen = missing(given.copy, given.crate), {}
     while left:
         is_last = os.path.exists(given.until)
         files = files_of(left[0])

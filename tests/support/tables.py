@@ -9,6 +9,9 @@ TOP = os.path.dirname(os.path.dirname(os.path.dirname(os.path.realpath(__file__)
 # The most octets of an input.
 MOST_OCTETS = 1_048_576
 
+# The most entries that may wait in a module, by the limits that a script gives it.
+MOST_WAITING = 8_192
+
 
 def lines_that_fit(line, above=''):
     """How many such lines an input may have below the text above."""

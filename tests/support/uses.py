@@ -56,9 +56,17 @@ class Uses:
                                         % self.crate, text, re.M):
             wanted = names.split(',') if names else self.names.get(module, ())
             for name, _, other in (one.strip().partition(' as ') for one in wanted):
-                if name in self.names.get(module, ()):
-                    found[other or name] = module, name
+                item = self.found_in(module, name)
+                if item:
+                    found[other or name] = item
         return found
+
+    def found_in(self, module, name):
+        """The item that a module has of this name, or passes on, or None."""
+        if name in self.names.get(module, ()):
+            return module, name
+        passed = '\n'.join(re.findall(r'^pub use .*$', self.texts.get(module, ''), re.M))
+        return self.scope(passed).get(name) if passed else None
 
     @staticmethod
     def named(text, scope):

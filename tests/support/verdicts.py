@@ -4,6 +4,7 @@ import re
 
 NOTE = re.compile(r'note: \S+:\d+:\d+: (.*?) \(`(\S+)`\)')
 IN_PROOF = re.compile(r'(?:\./)?proofs/(\S+)/(?:Answers|Invariants|Proof)\.antt:\d+:\d+: error: (.*)')
+LEFT = re.compile(r'note: `(\S+)` of proofs/(laws/\S+)/Answers\.antt must prove: ')
 VERDICT = re.compile(r'fn (\S+): (.*)')
 LOST_NAME = re.compile(r'is not in scope|has no field|is no name|has no `|operand is missing|expected the end')
 
@@ -63,7 +64,20 @@ def refusals(said):
             noted = []
             if re.match(r'not proved|no proof(?!: it calls)', verdict[2]):
                 refused[verdict[1]] = sorted({clause_of(goal) for goal in goals})
+    for law, goals in left_of_laws(said).items():
+        name = next((one for one in refused if one.partition('::')[2] == law), None)
+        if name:
+            refused[name] = sorted({*refused[name], *map(clause_of, goals)})
     return refused
+
+
+def left_of_laws(said):
+    """The goals of laws that are left to prove: none where a lemma only names what a change took away. Where an attribute
+    names the lemma that proves a goal, and that is refused, the prover tries nothing else, and says no more of the goal."""
+    left = {}
+    for goal, law in LEFT.findall(said):
+        left.setdefault(law.replace('/', '::'), []).append(goal)
+    return {} if any(LOST_NAME.search(line) for line in said.splitlines() if re.match(r'(?:\./)?proofs/\S+: error', line)) else left
 
 
 def proved(said):

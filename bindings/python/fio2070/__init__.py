@@ -131,16 +131,15 @@ class Checker:
 
     def sent(self, octets: Octets) -> Optional[Breach]:
         """The breach of a frame that the CPU sent; None where it keeps the rules."""
-        octets = bytes(octets)
-        return self._found(c.library.fio2070_checker_sent(self._checker, octets, len(octets), self._breach))
+        return self._breach_by(c.library.fio2070_checker_sent, octets)
 
     def heard(self, octets: Octets) -> Optional[Breach]:
         """The breach of a frame that the CPU heard; None where it keeps the rules."""
-        octets = bytes(octets)
-        return self._found(c.library.fio2070_checker_heard(self._checker, octets, len(octets), self._breach))
+        return self._breach_by(c.library.fio2070_checker_heard, octets)
 
-    def _found(self, rule: int) -> Optional[Breach]:
-        found = self._breach
+    def _breach_by(self, take: Any, octets: Octets) -> Optional[Breach]:
+        octets, found = bytes(octets), self._breach
+        rule = take(self._checker, octets, len(octets), found)
         return Breach(rule, bool(found.has_due), found.due, found.got) if rule else None
 
 

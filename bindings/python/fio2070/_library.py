@@ -2,8 +2,8 @@
 
 import ctypes
 import os
-from ctypes import POINTER, c_size_t, c_uint8, c_uint16, c_uint32, c_uint64
-from typing import Any, Dict, List, Tuple
+from ctypes import POINTER, c_char_p, c_size_t, c_uint8, c_uint16, c_uint32, c_uint64
+from typing import Any
 
 from .constants import LONGEST_FAULT_TEXT, LONGEST_FRAME, MOST_ENTRIES, MOST_RECORD_ITEMS
 
@@ -109,68 +109,91 @@ library = _load()
 
 
 def _declare(name: str, result: Any, *arguments: Any) -> None:
-    function = getattr(library, 'fio2070_' + name)
+    function = getattr(library, name)
     function.restype = result
     function.argtypes = arguments
 
 
-_OCTETS = (ctypes.c_char_p, c_size_t)
-_OUT = (POINTER(c_uint8), c_size_t)
+# The calls: written by tools/generate-layouts.
 
-_declare('fault_text', c_size_t, POINTER(CFault), *_OUT)
-_declare('decode_command', CFault, *_OCTETS, POINTER(CCommand))
-_declare('command_items', c_size_t, *_OCTETS, POINTER(CItem), c_size_t)
-_declare('show', c_size_t, *_OCTETS, *_OUT)
-_declare('show_length', c_size_t, *_OCTETS)
-_declare('decode_answer', CFault, *_OCTETS, POINTER(CAnswer))
-_declare('block_entries', c_size_t, *_OCTETS, POINTER(CEntry), c_size_t)
-_declare('version', c_uint32)
-_declare('widen', c_uint32, c_uint32, c_uint16)
-_ENCODERS: Dict[str, List[Any]] = {
-        'status': [c_uint8], 'load_counter': [c_uint32], 'configure_inputs': [POINTER(CItem), c_size_t],
-        'raw_inputs': [], 'filtered_inputs': [], 'poll': [c_uint8], 'set_outputs': [_OCTETS[0], _OCTETS[0]],
-        'watchdog': [c_uint8], 'identify': [], 'other_command': [c_uint8, *_OCTETS],
-        'status_answer': [c_uint8, c_uint8, c_uint8, c_uint32], 'load_counter_answer': [c_uint8],
-        'configure_inputs_answer': [c_uint8], 'raw_inputs_answer': [c_uint64, c_uint32],
-        'filtered_inputs_answer': [c_uint64, c_uint32],
-        'block_answer': [c_uint8, POINTER(CEntry), c_size_t, c_uint8, c_uint32],
-        'watchdog_answer': [c_uint8], 'other_answer': [c_uint8, *_OCTETS]}
-for _name, _arguments in _ENCODERS.items():
-    _declare('encode_' + _name, c_size_t, *_arguments, *_OUT)
-_declare('poller_hear', CHeard, POINTER(CPoller), *_OCTETS, POINTER(CRecordItem), c_size_t)
-_declare('checker_start', None, POINTER(CChecker))
-_declare('checker_sent', c_uint8, POINTER(CChecker), *_OCTETS, POINTER(CBreach))
-_declare('checker_heard', c_uint8, POINTER(CChecker), *_OCTETS, POINTER(CBreach))
-_declare('content_start', None, POINTER(CContentChecker))
-_declare('content_sent', None, POINTER(CContentChecker), *_OCTETS)
-_declare('content_heard', c_uint8, POINTER(CContentChecker), *_OCTETS, POINTER(CContentBreach))
-_declare('counter_start', None, POINTER(CCounter))
-_declare('counter_tick', None, POINTER(CCounter))
-_declare('counter_ask_load', None, POINTER(CCounter), c_uint32)
-_declare('counter_line_sync', None, POINTER(CCounter))
-_declare('counter_now', c_uint32, POINTER(CCounter))
-_declare('filters_start', None, POINTER(CFilters))
-_declare('filters_configure', CConfigured, POINTER(CFilters), POINTER(CItem), c_size_t)
-_declare('filters_scan', c_uint64, POINTER(CFilters), c_uint64)
-_declare('filters_filtered', c_uint64, POINTER(CFilters))
-_declare('filters_raw', c_uint64, POINTER(CFilters))
-# The calls of both kinds of module, and what else those that reach the waiting entries take.
-_MODULES: List[Tuple[str, Any, Tuple[Any, ...]]] = [
-        ('module_', CModule, ()), ('sized_module_', CSizedModule, (POINTER(c_uint8 * 3), c_size_t))]
-for _calls, _module, _ring in _MODULES:
-    _state = POINTER(_module)
-    _declare(_calls + 'start', c_uint8, _state, c_uint8, c_uint8)
-    _declare(_calls + 'restart', None, _state)
-    _declare(_calls + 'scan', None, _state, *_ring, c_uint64)
-    _declare(_calls + 'line_sync', None, _state)
-    _declare(_calls + 'raise', None, _state, c_uint8)
-    _declare(_calls + 'receive', c_size_t, _state, *_ring, *_OCTETS, POINTER(c_uint8))
-    _declare(_calls + 'set_errors', None, _state, c_uint8, c_uint8)
-    _declare(_calls + 'outputs', COutputs, _state)
-    _declare(_calls + 'watchdog_ms', c_uint8, _state)
-    _declare(_calls + 'counter', c_uint32, _state)
-    _declare(_calls + 'filtered', c_uint64, _state)
-    _declare(_calls + 'raw', c_uint64, _state)
-    _declare(_calls + 'flags', c_uint8, _state)
-    _declare(_calls + 'errors', CErrorCounts, _state)
-    _declare(_calls + 'waiting', c_size_t, _state, *_ring[1:])
+_declare('fio2070_encode_status_answer', c_size_t, c_uint8, c_uint8, c_uint8, c_uint32, POINTER(c_uint8), c_size_t)
+_declare('fio2070_encode_load_counter_answer', c_size_t, c_uint8, POINTER(c_uint8), c_size_t)
+_declare('fio2070_encode_configure_inputs_answer', c_size_t, c_uint8, POINTER(c_uint8), c_size_t)
+_declare('fio2070_encode_raw_inputs_answer', c_size_t, c_uint64, c_uint32, POINTER(c_uint8), c_size_t)
+_declare('fio2070_encode_filtered_inputs_answer', c_size_t, c_uint64, c_uint32, POINTER(c_uint8), c_size_t)
+_declare('fio2070_encode_block_answer', c_size_t, c_uint8, POINTER(CEntry), c_size_t, c_uint8, c_uint32,
+         POINTER(c_uint8), c_size_t)
+_declare('fio2070_encode_block_answer_length', c_size_t, POINTER(CEntry), c_size_t)
+_declare('fio2070_encode_watchdog_answer', c_size_t, c_uint8, POINTER(c_uint8), c_size_t)
+_declare('fio2070_encode_other_answer', c_size_t, c_uint8, c_char_p, c_size_t, POINTER(c_uint8), c_size_t)
+_declare('fio2070_encode_other_answer_length', c_size_t, c_uint8, c_size_t)
+_declare('fio2070_decode_answer', CFault, c_char_p, c_size_t, POINTER(CAnswer))
+_declare('fio2070_block_entries', c_size_t, c_char_p, c_size_t, POINTER(CEntry), c_size_t)
+_declare('fio2070_checker_start', None, POINTER(CChecker))
+_declare('fio2070_checker_sent', c_uint8, POINTER(CChecker), c_char_p, c_size_t, POINTER(CBreach))
+_declare('fio2070_checker_heard', c_uint8, POINTER(CChecker), c_char_p, c_size_t, POINTER(CBreach))
+_declare('fio2070_encode_status', c_size_t, c_uint8, POINTER(c_uint8), c_size_t)
+_declare('fio2070_encode_load_counter', c_size_t, c_uint32, POINTER(c_uint8), c_size_t)
+_declare('fio2070_encode_configure_inputs', c_size_t, POINTER(CItem), c_size_t, POINTER(c_uint8), c_size_t)
+_declare('fio2070_encode_configure_inputs_length', c_size_t, POINTER(CItem), c_size_t)
+_declare('fio2070_encode_raw_inputs', c_size_t, POINTER(c_uint8), c_size_t)
+_declare('fio2070_encode_filtered_inputs', c_size_t, POINTER(c_uint8), c_size_t)
+_declare('fio2070_encode_poll', c_size_t, c_uint8, POINTER(c_uint8), c_size_t)
+_declare('fio2070_encode_set_outputs', c_size_t, c_char_p, c_char_p, POINTER(c_uint8), c_size_t)
+_declare('fio2070_encode_watchdog', c_size_t, c_uint8, POINTER(c_uint8), c_size_t)
+_declare('fio2070_encode_identify', c_size_t, POINTER(c_uint8), c_size_t)
+_declare('fio2070_encode_other_command', c_size_t, c_uint8, c_char_p, c_size_t, POINTER(c_uint8), c_size_t)
+_declare('fio2070_encode_other_command_length', c_size_t, c_uint8, c_size_t)
+_declare('fio2070_decode_command', CFault, c_char_p, c_size_t, POINTER(CCommand))
+_declare('fio2070_command_items', c_size_t, c_char_p, c_size_t, POINTER(CItem), c_size_t)
+_declare('fio2070_content_start', None, POINTER(CContentChecker))
+_declare('fio2070_content_sent', None, POINTER(CContentChecker), c_char_p, c_size_t)
+_declare('fio2070_content_heard', c_uint8, POINTER(CContentChecker), c_char_p, c_size_t, POINTER(CContentBreach))
+_declare('fio2070_counter_start', None, POINTER(CCounter))
+_declare('fio2070_counter_tick', None, POINTER(CCounter))
+_declare('fio2070_counter_ask_load', None, POINTER(CCounter), c_uint32)
+_declare('fio2070_counter_line_sync', None, POINTER(CCounter))
+_declare('fio2070_counter_now', c_uint32, POINTER(CCounter))
+_declare('fio2070_widen', c_uint32, c_uint32, c_uint16)
+_declare('fio2070_fault_text', c_size_t, POINTER(CFault), POINTER(c_uint8), c_size_t)
+_declare('fio2070_filters_start', None, POINTER(CFilters))
+_declare('fio2070_filters_scan', c_uint64, POINTER(CFilters), c_uint64)
+_declare('fio2070_filters_filtered', c_uint64, POINTER(CFilters))
+_declare('fio2070_filters_raw', c_uint64, POINTER(CFilters))
+_declare('fio2070_filters_configure', CConfigured, POINTER(CFilters), POINTER(CItem), c_size_t)
+_declare('fio2070_module_start', c_uint8, POINTER(CModule), c_uint8, c_uint8)
+_declare('fio2070_module_restart', None, POINTER(CModule))
+_declare('fio2070_module_scan', None, POINTER(CModule), c_uint64)
+_declare('fio2070_module_line_sync', None, POINTER(CModule))
+_declare('fio2070_module_raise', None, POINTER(CModule), c_uint8)
+_declare('fio2070_module_set_errors', None, POINTER(CModule), c_uint8, c_uint8)
+_declare('fio2070_module_receive', c_size_t, POINTER(CModule), c_char_p, c_size_t, POINTER(c_uint8))
+_declare('fio2070_module_flags', c_uint8, POINTER(CModule))
+_declare('fio2070_module_errors', CErrorCounts, POINTER(CModule))
+_declare('fio2070_module_outputs', COutputs, POINTER(CModule))
+_declare('fio2070_module_watchdog_ms', c_uint8, POINTER(CModule))
+_declare('fio2070_module_counter', c_uint32, POINTER(CModule))
+_declare('fio2070_module_filtered', c_uint64, POINTER(CModule))
+_declare('fio2070_module_raw', c_uint64, POINTER(CModule))
+_declare('fio2070_module_waiting', c_size_t, POINTER(CModule))
+_declare('fio2070_poller_poll', c_size_t, POINTER(CPoller), POINTER(c_uint8), c_size_t)
+_declare('fio2070_poller_hear', CHeard, POINTER(CPoller), c_char_p, c_size_t, POINTER(CRecordItem), c_size_t)
+_declare('fio2070_show', c_size_t, c_char_p, c_size_t, POINTER(c_uint8), c_size_t)
+_declare('fio2070_show_length', c_size_t, c_char_p, c_size_t)
+_declare('fio2070_sized_module_start', c_uint8, POINTER(CSizedModule), c_uint8, c_uint8)
+_declare('fio2070_sized_module_restart', None, POINTER(CSizedModule))
+_declare('fio2070_sized_module_scan', None, POINTER(CSizedModule), POINTER(c_uint8 * 3), c_size_t, c_uint64)
+_declare('fio2070_sized_module_line_sync', None, POINTER(CSizedModule))
+_declare('fio2070_sized_module_raise', None, POINTER(CSizedModule), c_uint8)
+_declare('fio2070_sized_module_set_errors', None, POINTER(CSizedModule), c_uint8, c_uint8)
+_declare('fio2070_sized_module_receive', c_size_t, POINTER(CSizedModule), POINTER(c_uint8 * 3), c_size_t, c_char_p,
+         c_size_t, POINTER(c_uint8))
+_declare('fio2070_sized_module_flags', c_uint8, POINTER(CSizedModule))
+_declare('fio2070_sized_module_errors', CErrorCounts, POINTER(CSizedModule))
+_declare('fio2070_sized_module_outputs', COutputs, POINTER(CSizedModule))
+_declare('fio2070_sized_module_watchdog_ms', c_uint8, POINTER(CSizedModule))
+_declare('fio2070_sized_module_counter', c_uint32, POINTER(CSizedModule))
+_declare('fio2070_sized_module_filtered', c_uint64, POINTER(CSizedModule))
+_declare('fio2070_sized_module_raw', c_uint64, POINTER(CSizedModule))
+_declare('fio2070_sized_module_waiting', c_size_t, POINTER(CSizedModule), c_size_t)
+_declare('fio2070_version', c_uint32)

@@ -23,14 +23,9 @@ BEGINNING = ('Begin with `fiolog check LOG`: what is wrong, since when and how o
              'says, `fiolog record LOG` what became of the entries; `fiolog COMMAND --help` lists the options.')
 
 
-def parser_of(name):
-    """The module of a subcommand, or None where it is not there."""
-    try:
-        return importlib.import_module('fiolog.' + name)
-    except ModuleNotFoundError as missing:
-        if missing.name != 'fiolog.' + name:
-            raise
-        return None
+def module_of(name):
+    """The module of a subcommand."""
+    return importlib.import_module('fiolog.' + name)
 
 
 def arguments(words):
@@ -39,7 +34,7 @@ def arguments(words):
     choices = parser.add_subparsers(dest='command', metavar='COMMAND', required=True)
     wanted = [word for word in words[:1] if word in COMMANDS] or COMMANDS
     for name in COMMANDS:
-        module = parser_of(name) if name in wanted else None
+        module = module_of(name) if name in wanted else None
         one = choices.add_parser(name, help=COMMANDS[name], description=module.__doc__ if module else '')
         if module:
             module.add_arguments(one)
@@ -67,7 +62,7 @@ def main(words=None):
         except re.error as fault:
             parser.error('--pattern: %s' % fault)
     try:
-        status = parser_of(option.command).run(option)
+        status = module_of(option.command).run(option)
         sys.stdout.flush()
         return status
     except BrokenPipeError:

@@ -12,20 +12,11 @@ from .decode import DATED, clock, direction_of
 from .events import DAMAGED, FRAME, REMARK
 from .judge import words_of
 from .message import POLL, message_of
+from .protocol import RULES
 
-# The rules by their numbers.
-RULES = {number: name[len('RULE_'):].lower() for name, number in vars(fio2070.constants).items() if name.startswith('RULE_')}
 # What was due and what came, by rule, where the library says both.
-DUE = {
-    'pair': 'an answer %d was due, %d came', 'number': 'block %d was asked for, %d came',
-    'advance': 'block %d was due, %d came', 'same': 'E needs another poll for block %d, the one before was for %d'}
-WORDS = {
-    'readable': 'no message of its direction', 'pair': 'an answer without its command directly above',
-    'number': 'a block with another number than the poll', 'advance': 'another number than was due',
-    'same': 'E is set, and the poll before had another number', 'sequence': 'G with E, or G behind another block',
-    'limits': 'F without C, C without 255 entries, or an input above 63',
-    'rest': 'no entries, and the block before said with C that more wait',
-    'refusal': 'done, to a configuration that names an input above 63'}
+DUE = {'pair': 'an answer %d was due, %d came', 'number': 'block %d was asked for, %d came',
+       'advance': 'block %d was due, %d came'}
 
 
 _OF_DAY = re.compile(r'\d{1,2}:\d\d:\d\d(?:[.,]\d{1,9})?')
@@ -42,11 +33,6 @@ def add_arguments(parser):
     log.add_arguments(parser)
     add_place(parser)
     parser.add_argument('--json', action='store_true', help='an object for each breach, and one for the summary')
-
-
-def has_checker():
-    """Whether the library has the checker."""
-    return hasattr(fio2070, 'Checker')
 
 
 class Judge:
@@ -86,20 +72,16 @@ class Judge:
             self.polled, self.is_behind_damage = event.octets[1], False
         if found is None:
             return None
-        rule = RULES[found.rule] if isinstance(found.rule, int) else str(found.rule)
+        rule, words = RULES[found.rule]
         if place != 'cpu' and (was_damaged or rule == 'advance' and self.polled == before):
             # Whether the CPU heard the answer is not known here: asking again, or for the next block, may be right.
             self.excused += 1
             return None
-        return rule, self.words(rule, found, event), found
-
-    @staticmethod
-    def words(rule, found, event):
-        if rule == 'readable':
-            return words_of(event.octets) or WORDS[rule]
-        if found.has_due and rule in DUE:
-            return DUE[rule] % (found.due, found.got)
-        return WORDS.get(rule, '')
+        if found.has_due:
+            words = DUE[rule] % (found.due, found.got)
+        elif rule == 'readable':
+            words = words_of(event.octets) or words
+        return rule, words, found
 
 
 def is_lost(event):
@@ -138,55 +120,59 @@ def due_of(found):
     return {'due': found.due, 'got': found.got} if found.has_due else {}
 
 
-def run(option):
-    """Checks the logs; status 1 where a rule is broken or no frame is there."""
-    if not has_checker():
-        terminal.say('this libfio2070 has no checker; a later one has')
-        return 3
-    paint, read, counts = terminal.painter('auto'), log.Log(option, sys.stdout.flush, writes=option.json), Counts()
-    judge, name, is_open, breaches, spans = Judge(option.at), None, not option.start_at_poll, 0, Spans()
+def frames_judged(read, option, begin):
+    """Each frame of a log with its breach and what judged it, which `begin` gives for each file; with --start-at-poll from the
+    first poll on."""
+    judge, name, is_open = begin(), None, not option.start_at_poll
     for event in read.events():
         if is_lost(event):
             judge.lose()
         if event.kind not in (FRAME, DAMAGED):
             continue
         if name != read.name:
-            judge, name, is_open = Judge(option.at), read.name, not option.start_at_poll
+            judge, name, is_open = begin(), read.name, not option.start_at_poll
         is_open = is_open or event.octets[:1] == bytes([POLL])
-        if not is_open:
-            continue
+        if is_open:
+            yield event, judge.breach(read, event), judge
+
+
+def run(option):
+    """Checks the logs; status 1 where a rule is broken or no frame is there."""
+    paint, read, counts = terminal.painter('auto'), log.Log(option, sys.stdout.flush, writes=option.json), Counts()
+    excused, breaches, spans = 0, 0, Spans()
+    for event, found, judge in frames_judged(read, option, lambda: Judge(option.at)):
         counts.add(event, message_of(event.octets) if event.kind == FRAME else None)
-        found = judge.breach(read, event)
+        excused = judge.excused
         if found:
             breaches += 1
             rule, words, breach = found
             spans.add(rule, event)
             if option.json:
-                print(json.dumps({'file': name, 'line': event.number, 'rule': rule, **due_of(breach), 'says': words}))
+                print(json.dumps({'file': read.name, 'line': event.number, 'rule': rule, **due_of(breach), 'says': words}))
             else:
                 print('line %d: %s: %s' % (event.number, paint('fault', rule), words))
     if not read.summary():
         return 1
     for words in () if option.quiet else spans.words():
         terminal.say(words)
-    return end(option, read, counts, judge, breaches)
+    return end(option, read, counts, excused, breaches)
 
 
-def say_excused(judge):
+def say_excused(excused):
     """Says how many polls are not judged."""
-    if judge.excused:
+    if excused:
         terminal.say('%d frames are not judged, since this log was not taken at the CPU: polls that repeat a block that was answered '
-                     'are right where the CPU did not hear it, and what comes behind a damaged frame where it did' % judge.excused)
+                     'are right where the CPU did not hear it, and what comes behind a damaged frame where it did' % excused)
 
 
-def end(option, read, counts, judge, breaches):
+def end(option, read, counts, excused, breaches):
     """The summary, and the hints."""
     numbers = {**counts.in_short(), 'breaches': breaches}
     if option.json:
         print(json.dumps({'summary': numbers}))
     else:
         print(', '.join('%s %d' % (name.replace('_', ' '), number) for name, number in numbers.items()))
-    say_excused(judge)
+    say_excused(excused)
     if read.is_reversed and option.at in ('cpu', 'bus'):
         terminal.say('the directions are those of the other end: try --at module')
     if breaches and not option.start_at_poll and not counts.begins_with_poll:

@@ -10,7 +10,7 @@ import time
 from . import log, terminal
 from .events import DAMAGED, FRAME
 from .judge import is_answer
-from .message import BLOCK, LETTERS, message_of, part_words
+from .message import BLOCK, LETTERS, message_of
 from .options import line_range, message_type, number_in, status_letters
 
 # Times from here on are of a date.
@@ -83,18 +83,16 @@ class Filter:
             return False
         if self.option.block is not None and message.fields.get('block') != self.option.block:
             return False
-        return self.option.input is None or any(part['input'] == self.option.input for part in message.parts)
+        return self.option.input is None or any(self.takes_part(part) for part in message.parts)
 
-    def parts(self, message):
-        """The entries or items that are asked for."""
-        if self.option.input is None:
-            return message.parts
-        return [part for part in message.parts if part['input'] == self.option.input]
+    def takes_part(self, part):
+        """Whether this entry or item is asked for."""
+        return self.option.input is None or part['input'] == self.option.input
 
 
-def as_text(write, paint):
+def as_text(write, paint, takes_part=lambda part: True):
     """Writes messages in the words of `show`."""
-    def line(name, event, message, parts):
+    def line(name, event, message):
         direction = direction_of(event)
         head = '%-6s %s%s ' % ('%d:' % event.number, clock(event.time) + ' ' if event.time is not None else '', direction)
         if message is None:
@@ -103,34 +101,36 @@ def as_text(write, paint):
         colour = 'heard' if direction == '<' else 'sent'
         if message.code == BLOCK and message.fields['status']:
             colour = 'mark'
-        write('%s%s\n' % (head, paint(colour, message.says)) + ''.join(part_words(part) + '\n' for part in parts))
+        says, *lines = message.lines()
+        write('%s%s\n' % (head, paint(colour, says))
+              + ''.join(words + '\n' for part, words in zip(message.parts, lines) if takes_part(part)))
     return line
 
 
-def as_json(write):
+def as_json(write, takes_part):
     """Writes an object a line."""
-    def line(name, event, message, parts):
+    def line(name, event, message):
         one = {'file': name, 'line': event.number, 'time': event.time, 'direction': direction_of(event),
                'octets': event.octets.hex()}
         if message is None:
             one['fault'] = event.note
         else:
-            one.update(type=message.code, says=message.says, **message.fields)
+            one.update(type=message.code, says=message.lines()[0], **message.fields)
             if message.parts:
-                one['entries' if message.code == BLOCK else 'items'] = parts
+                one['entries' if message.code == BLOCK else 'items'] = list(filter(takes_part, message.parts))
         write(json.dumps(one) + '\n')
     return line
 
 
-def as_csv(write):
+def as_csv(write, takes_part):
     """Writes a row for each message without entries, and for each entry."""
     rows = csv.writer(argparse.Namespace(write=write), lineterminator='\n')
     rows.writerow(COLUMNS)
 
-    def line(name, event, message, parts):
+    def line(name, event, message):
         head = [name, event.number, '' if event.time is None else event.time, direction_of(event), event.octets.hex(),
-                '' if message is None else message.code, event.note if message is None else message.says]
-        for part in parts or [{}]:
+                '' if message is None else message.code, event.note if message is None else message.lines()[0]]
+        for part in message and list(filter(takes_part, message.parts)) or [{}]:
             rows.writerow(head + [part.get(column, '') for column in COLUMNS[len(head):]])
     return line
 
@@ -139,9 +139,9 @@ def run(option):
     """Decodes the logs; status 1 where a frame is damaged or none is there."""
     write, taken = sys.stdout.write, Filter(option)
     if option.json or option.csv:
-        line = as_json(write) if option.json else as_csv(write)
+        line = (as_json if option.json else as_csv)(write, taken.takes_part)
     else:
-        line = as_text(write, terminal.painter(option.color))
+        line = as_text(write, terminal.painter(option.color), taken.takes_part)
     read = log.Log(option, sys.stdout.flush)
     for event in read.events():
         if event.kind == FRAME:
@@ -151,5 +151,5 @@ def run(option):
         else:
             continue
         if taken.takes(event, message):
-            line(read.name, event, message, taken.parts(message) if message else [])
+            line(read.name, event, message)
     return 0 if read.summary() and not read.kinds[DAMAGED] else 1

@@ -1,18 +1,17 @@
 """What libfio2070 says of octets: whether they spell a message, and how many octets it needs."""
 
 from fio2070 import _library as c
+from fio2070.constants import FAULT_WRONG_LENGTH as WRONG_LENGTH, TYPE_ANSWER
 
 _command, _answer = c.CCommand(), c.CAnswer()
 _decode_command, _decode_answer = c.library.fio2070_decode_command, c.library.fio2070_decode_answer
-_ANSWERS = 128      # `show` reads a frame as an answer from this first octet on
-WRONG_LENGTH = 4
 # Loggers wrap octets at 8 of them or more.
 SHORTEST_WIDTH = 8
 
 
 def fault_of(octets):
     """The library's fault; its kind is 0 where the octets spell a message."""
-    if octets and octets[0] >= _ANSWERS:
+    if octets and octets[0] >= TYPE_ANSWER:
         return _decode_answer(octets, len(octets), _answer)
     return _decode_command(octets, len(octets), _command)
 
@@ -68,4 +67,4 @@ def words_of(octets):
 
 def is_answer(octets):
     """Whether `show` reads the octets as an answer."""
-    return bool(octets) and octets[0] >= _ANSWERS
+    return bool(octets) and octets[0] >= TYPE_ANSWER

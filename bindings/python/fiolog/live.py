@@ -13,6 +13,8 @@ import subprocess
 import sys
 import time
 
+from fio2070.constants import LONGEST_FRAME
+
 from . import check, sdlc, terminal
 from .counts import Counts
 from .decode import as_text
@@ -28,7 +30,7 @@ from .source import Ends
 CHUNK = 1 << 16
 LONGEST_DATAGRAM = 1 << 16
 # A frame with its header and check, each octet stuffed; a babbler's octets beyond are dropped.
-LONGEST_STUFFED = 2 * (773 + 4)
+LONGEST_STUFFED = 2 * (LONGEST_FRAME + 4)
 # Seconds without a frame after which the status line says so.
 QUIET = 2.0
 # Seconds that a process has to end.
@@ -142,7 +144,7 @@ class Station:
         self.out = sys.stderr if option.pcapng == '-' else sys.stdout
         self.paint, self.status = terminal.painter('auto'), terminal.Status()
         self.line = as_text(self._write, self.paint)
-        self.rules = Rules(option.at) if check.has_checker() else None
+        self.rules = Rules(option.at)
         self.transcript = open(option.transcript, 'w') if option.transcript else None
         self.capture = None
         if option.pcapng:
@@ -153,7 +155,7 @@ class Station:
     def add(self, event):
         """A frame, good or damaged; other lines are passed over."""
         self.remark()
-        if check.is_lost(event) and self.rules:
+        if check.is_lost(event):
             self.rules.lose()
         if event.kind not in (FRAME, DAMAGED):
             if event.kind == PASSED and self.option.verbose:
@@ -163,7 +165,7 @@ class Station:
         message = message_of(event.octets) if event.kind == FRAME else None
         self.counts.add(event, message)
         if not self.option.quiet:
-            self.line(self.name, event, message, message.parts if message else [])
+            self.line(self.name, event, message)
         self._check(event)
         direction = event.direction or ('<' if is_answer(event.octets) else '>')
         if self.transcript:
@@ -191,7 +193,7 @@ class Station:
 
     def _check(self, event):
         """Says what a frame breaks. Answers above the first command are to what was sent before: they are not judged."""
-        self.is_open = self.is_open or self.rules and self.rules.judge.direction(self, event) == '>'
+        self.is_open = self.is_open or self.rules.judge.direction(self, event) == '>'
         found = self.rules.breach(self, event) if self.is_open else None
         if found:
             self.breaches += not found.is_content
@@ -214,8 +216,7 @@ class Station:
     def numbers(self, is_over=True):
         """What was counted."""
         numbers = {name.replace('_', ' '): number for name, number in self.counts.in_short(is_over).items()}
-        if self.rules:
-            numbers.update({'breaches': self.breaches, 'breaches in content': self.broken_entries})
+        numbers.update({'breaches': self.breaches, 'breaches in content': self.broken_entries})
         passed = self.source.reader.kinds['passed']
         return {**numbers, **({'lines passed over': passed} if passed else {}),
                 **({'wrong frame checks': self.source.wrong} if getattr(self.source, 'wrong', 0) else {})}
@@ -229,10 +230,7 @@ class Station:
             self._say(words)
         self._write(', '.join('%s %d' % pair for pair in self.numbers().items()) + '\n')
         self._flush()
-        if self.rules:
-            check.say_excused(self.rules.judge)
-        else:
-            terminal.say('this libfio2070 has no checker: nothing was checked')
+        check.say_excused(self.rules.judge.excused)
         if not self.counts.frames:
             terminal.say('no frame came')
         return 1 if self.breaches or self.broken_entries or not self.counts.frames else 0

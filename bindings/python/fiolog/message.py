@@ -1,14 +1,17 @@
-"""A message as the library reads it: its fields by name, and the words that `fio2070 show` writes of it."""
+"""A message as the library reads it: its fields by name, and the lines that `fio2070 show` writes of it."""
 
 from typing import NamedTuple
 
+import fio2070
 from fio2070 import _library as c
+from fio2070.constants import BIT_AGAIN as AGAIN, BIT_LOST as LOST, BIT_MORE as MORE, BIT_OUT_OF_SEQUENCE as OUT_OF_SEQUENCE
+from fio2070.constants import TYPE_ANSWER, TYPE_CONFIGURE_INPUTS as CONFIGURATION, TYPE_POLL as POLL
 
 from . import judge
+from .fields import FIELDS
 
-POLL, BLOCK, CONFIGURATION = 54, 182, 51
+BLOCK = POLL + TYPE_ANSWER
 # The bits of a block's status.
-MORE, LOST, AGAIN, OUT_OF_SEQUENCE = 0x08, 0x04, 0x02, 0x01
 LETTERS = {'C': MORE, 'F': LOST, 'E': AGAIN, 'G': OUT_OF_SEQUENCE}
 
 _items, _entries = (c.CItem * c.MOST_ENTRIES)(), (c.CEntry * c.MOST_ENTRIES)()
@@ -16,40 +19,31 @@ _widen = c.library.fio2070_widen
 
 
 class Message(NamedTuple):
-    """A message. `says` are the words of its first line; `fields` its numbers by name; `parts` the entries of a block
-    or the items of a configuration, each by name too."""
+    """A message. `fields` are its numbers by name; `parts` the entries of a block or the items of a configuration, each by
+    name too."""
+    octets: bytes
     code: int
-    says: str
     fields: dict
     parts: list
+
+    def lines(self):
+        """Returns the lines that `show` writes: one of the message, and one of each part."""
+        return fio2070.show(self.octets).splitlines()
 
     @property
     def is_answer(self):
         """Whether the module sent it."""
-        return self.code >= 128
+        return self.code >= TYPE_ANSWER
 
 
-def _levels(octets):
-    return bytes(octets).hex()
-
-
-def _inputs(number):
-    return number.to_bytes(8, 'little').hex()
-
-
-# For each type of command and of answer: its words, and its fields in the order of these.
-_COMMANDS = {
-    49: ('status clear %02x', ['clear']), 50: ('load counter %d', ['load']), 51: ('configure inputs %d', ['count']),
-    52: ('raw inputs', []), 53: ('filtered inputs', []), 54: ('poll block %d', ['block']),
-    55: ('set outputs data %s control %s', ['levels', 'controls']), 58: ('watchdog ms %d', ['timeout']),
-    60: ('identify', [])}
-_ANSWERS = {
-    177: ('status flags %02x receive %d transmit %d stamp %d', ['flags', 'receive_errors', 'transmit_errors', 'stamp']),
-    178: ('counter load status %02x', ['status']), 179: ('configure status %02x', ['status']),
-    180: ('raw inputs %s stamp %d', ['inputs', 'stamp']), 181: ('filtered inputs %s stamp %d', ['inputs', 'stamp']),
-    182: ('block %d entries %d status %02x stamp %d', ['block', 'count', 'status', 'stamp']),
-    186: ('watchdog status %02x', ['status'])}
-_AS_TEXT = {'levels': _levels, 'controls': _levels, 'inputs': _inputs}
+def _field(octets, read, name):
+    """A field that was read of octets: a number, or octets in hexadecimal."""
+    value = getattr(read, name)
+    if name == 'body':
+        return octets[1:1 + value].hex()
+    if name == 'inputs':
+        return value.to_bytes(8, 'little').hex()
+    return value if isinstance(value, int) else bytes(value).hex()
 
 
 def _parts(octets, code, stamp):
@@ -70,17 +64,5 @@ def message_of(octets):
     if judge.fault_of(octets).kind:
         raise ValueError(judge.words_of(octets))
     read = judge.last_read(octets)
-    code = read.code
-    words, names = (_ANSWERS if code >= 128 else _COMMANDS).get(code, ('', None))
-    if names is None:
-        body = octets[1:1 + read.body].hex()
-        return Message(code, 'other %d body %s' % (code, body or '-'), {'body': body}, [])
-    fields = {name: _AS_TEXT[name](getattr(read, name)) if name in _AS_TEXT else getattr(read, name) for name in names}
-    says = words % tuple(fields.values())
-    fields.pop('count', None)
-    return Message(code, says, fields, _parts(octets, code, fields.get('stamp', 0)))
-
-
-def part_words(part):
-    """The words of an entry or of an item."""
-    return '  ' + ' '.join('%s %d' % pair for pair in part.items())
+    fields = {name: _field(octets, read, name) for name in FIELDS[read.code]}
+    return Message(octets, read.code, fields, _parts(octets, read.code, fields.get('stamp', 0)))

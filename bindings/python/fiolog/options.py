@@ -2,9 +2,10 @@
 
 import argparse
 
+from .fields import FIELDS
+
 TYPES = {'poll': 54, 'block': 182}
 LETTERS = 'CFEG'
-_COMMANDS, _ANSWERS = range(49, 61), range(177, 189)
 
 
 def number_in(low, high):
@@ -21,7 +22,7 @@ def number_in(low, high):
 def message_type(text):
     """A type of message, by its number or name."""
     number = TYPES.get(text) or (int(text) if text.isascii() and text.isdigit() else 0)
-    if number not in _COMMANDS and number not in _ANSWERS:
+    if number not in FIELDS:
         raise argparse.ArgumentTypeError('%r is no type: 49 to 60, 177 to 188, poll or block' % text)
     return number
 

@@ -6,19 +6,21 @@ import sys
 
 from . import terminal
 from .options import number_in
+from .protocol import BLOCK_ENTRIES, INPUTS, MOST_WAITING, STANDARD_WAITING
 
-LIMITS = {'standard': (255, 1024), 'largest': (255, 8192)}
+WAITING = {'standard': STANDARD_WAITING, 'largest': MOST_WAITING}
 COMPUTED = 'computed, not proved'
 MOST_ROUNDS = 10_000
-MOST_INPUTS, MOST_FILTER, MOST_SCANS = 64, 255, 1 << 31
+MOST_FILTER, MOST_SCANS = 255, 1 << 31
 
 
 def add_arguments(parser):
-    parser.add_argument('--inputs', type=number_in(1, MOST_INPUTS), required=True, metavar='N',
-                        help='inputs that are not ignored, 1 to 64')
+    parser.add_argument('--inputs', type=number_in(1, INPUTS), required=True, metavar='N',
+                        help='inputs that are not ignored, 1 to %d' % INPUTS)
     parser.add_argument('--filter', type=number_in(0, MOST_FILTER), required=True, metavar='N',
                         help='the smallest filter of one of them, 0 to 255')
-    parser.add_argument('--limits', choices=LIMITS, default='standard', help='1,024 entries wait (standard) or 8,192')
+    parser.add_argument('--limits', choices=WAITING, default='standard',
+                        help='{:,} entries wait (standard) or {:,}'.format(*WAITING.values()))
     parser.add_argument('--outage', type=number_in(0, MOST_SCANS), metavar='MS', help='the link is down so long')
     parser.add_argument('--lost', type=number_in(0, 1000), default=0, metavar='N', help='rounds lost in a row')
     parser.add_argument('--every', type=number_in(1, MOST_SCANS), metavar='MS', help='a poll comes so often')
@@ -54,7 +56,7 @@ def paces(inputs, filter_length, per_block, waiting, left):
 def row(option):
     """The rows: a name, a number with its unit, and where it is from."""
     inputs, length = option.inputs, max(option.filter, 1)
-    per_block, waiting = LIMITS[option.limits]
+    per_block, waiting = BLOCK_ENTRIES, WAITING[option.limits]
     every = per_block * length // inputs
     apart = every // (option.lost + 1)
     yield 'poll every', '%d ms' % every, '`enough` of `FewChange`'

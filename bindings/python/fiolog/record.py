@@ -10,9 +10,9 @@ from typing import NamedTuple
 import fio2070
 
 from . import log, plot, terminal
-from .check import add_place, is_lost
+from .check import add_place, frames_judged
 from .decode import clock
-from .events import DAMAGED, FRAME, Line
+from .events import FRAME, Line
 from .message import BLOCK, LOST, POLL, message_of
 from .rules import Breach, Rules
 from .waveform import Block, draw
@@ -63,25 +63,10 @@ class Hearing:
         return heard.kind == 'taken', items
 
 
-def frames_judged(read, option):
-    """Each frame with its breach, file after file; with --start-at-poll from the first poll on."""
-    rules, name, is_open = Rules(option.at, not option.start_at_poll), None, not option.start_at_poll
-    for event in read.events():
-        if is_lost(event):
-            rules.lose()
-        if event.kind not in (FRAME, DAMAGED):
-            continue
-        if name != read.name:
-            rules, name, is_open = Rules(option.at, not option.start_at_poll), read.name, not option.start_at_poll
-        is_open = is_open or event.octets[:1] == bytes([POLL])
-        if is_open:
-            yield event, rules.breach(read, event)
-
-
 def taken(read, option):
     """What each frame adds to the record or breaks, where it does either."""
     hearing = Hearing()
-    for event, breach in frames_judged(read, option):
+    for event, breach, _ in frames_judged(read, option, lambda: Rules(option.at, not option.start_at_poll)):
         is_taken, items = False, []
         if event.kind == FRAME and event.octets[0] == POLL:
             words = hearing.note(event)

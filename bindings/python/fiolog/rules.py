@@ -4,19 +4,11 @@ are kept: below a breach from the next poll on."""
 from typing import NamedTuple
 
 import fio2070
+from fio2070.constants import TYPE_LOAD_COUNTER
 
 from .check import Judge
 from .message import POLL
-
-# The rules on content by their numbers.
-CONTENT = {number: name[len('CONTENT_'):].lower() for name, number in vars(fio2070.constants).items()
-           if name.startswith('CONTENT_')}
-# What a breach of a rule on content says of the entries of an input.
-WORDS = {
-    'order': 'its time is before that of the entry above: two are swapped, or the module restarted',
-    'alternate': 'the state of its entry before again: one is lost, doubled or turned',
-    'apart': 'nearer to its entry before than its filter allows'}
-LOAD = 50
+from .protocol import CONTENT_RULES
 
 
 class Breach(NamedTuple):
@@ -60,7 +52,7 @@ class Rules:
             return self.heard(event.octets)
         if self.content is None and is_poll:
             self.begin()
-        if event.octets[:1] == bytes([LOAD]):
+        if event.octets[:1] == bytes([TYPE_LOAD_COUNTER]):
             self.load = event.octets
         if self.content is not None:
             self.content.sent(event.octets)
@@ -71,8 +63,8 @@ class Rules:
         found = self.content and self.content.heard(octets)
         if not found:
             return None
-        rule = CONTENT[found.rule]
-        return Breach(rule, 'input %d: %s' % (found.input, WORDS[rule]), found.entry, found.input)
+        rule, words = CONTENT_RULES[found.rule]
+        return Breach(rule, 'input %d: %s' % (found.input, words), found.entry, found.input)
 
     def begin(self):
         """Goes on below a breach. A load of the counter that was sent above still counts."""

@@ -4,7 +4,7 @@ from collections import Counter
 
 from .events import PASSED, Line
 
-MOST_WAITING = 256
+MOST_HELD = 256
 # So many lines above the first frame may be a heading.
 MOST_HEADINGS = 20
 
@@ -49,7 +49,7 @@ class Queue(list):
             first = self[0]
             if isinstance(first, Waiting):
                 if first.events is None:
-                    if len(self) <= MOST_WAITING:
+                    if len(self) <= MOST_HELD:
                         break
                     close(first, at_end=True)
                 events += first.events

@@ -26,7 +26,7 @@ fn main(rt: HostRuntime) -> ExitCode {
     }
 }
 
-/// The exit status, or why the words of the command line could not be had.
+/// Returns the exit status, or why the words of the command line could not be had.
 fn run(rt: &HostRuntime) -> io::Result<u8> {
     let alloc = rt.alloc();
     let words: Vec<String> = words(rt)?;
@@ -34,7 +34,7 @@ fn run(rt: &HostRuntime) -> io::Result<u8> {
     Ok(run_program(alloc, words.as_slice(), &mut rt.stdin(), &mut rt.stdout()))
 }
 
-/// The words of the command line, the program's name first.
+/// Returns the words of the command line, the program's name first.
 fn words(rt: &(impl Env + AllocGlobal)) -> io::Result<Vec<String>> {
     let words = env::args(rt)?.collect(rt.alloc())?;
     Ok(words)

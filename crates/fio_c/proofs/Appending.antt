@@ -1,10 +1,7 @@
 -- Octets that are written one after the other, where there is room for them.
-use Rattle.std.proofs.Common.{◌≡◌, ℕ, ◌+◌, ◌≤◌, List, [], ◌∷◌, ◌*◌, ◌<◌, refl, ◌++◌, length, take, drop, sym, ap, ◌∙◌, arith, length-drop}
+use Rattle.std.proofs.Common.{◌≡◌, ℕ, ◌+◌, ◌≤◌, List, [], ◌++◌, length, take, drop, sym, ap, ◌∙◌, arith, append-nil, length-drop, subst}
 use Rattle.std.proofs.lemmas.List.{length-append, length-take-le, take-append-drop}
-use Rattle.hex.specs.Hex.{encode_with}
-use Rattle.fio_show.specs.CommandLines.{body_text}
-use Rattle.fio_show.specs.Digits.{digits_of}
-use Rattle.fio_c.specs.Written.{Appends, buffer_with}
+use Rattle.fio_flat.specs.Written.{Appends, WritesOn, buffer_with}
 use Rattle.fio_c.proofs.Overwriting.{buffer_with-more}
 
 -- a buffer that is written into is as long as before
@@ -40,32 +37,14 @@ both front back before middle after place inner end first then = record {
       buffer_with-more place inner front back before middle after first.counted (omega (arith, then.counted, room)) here (then.written (omega (arith, long, room)));
 }
 
--- a body that is not empty is written in its digits
-pub body-digits : (body : List ℕ) → 0 < length body → digits_of body ≡ body_text body
-body-digits [] some = absurd (omega (arith, some))
-body-digits (octet ∷ body) some = refl
+-- octets that are written are one text with what is written behind them
+pub goes_on : (octets before after : List ℕ) (place end : ℕ) → Appends octets before after place end → WritesOn octets before after place end
+goes_on octets before after place end first = record {
+  counted = first.counted;
+  joined = λ more last at then. both octets more before after last place end at first then;
+}
 
-length-encoded : (table octets : List ℕ) → length (encode_with table octets) ≡ 2 * length octets
-unfolding encode_with
-length-encoded table [] = refl
-length-encoded table (octet ∷ octets) = let rest = length-encoded table octets in omega (arith, rest)
-
--- two digits for each octet
-pub length-digits : (octets : List ℕ) → length (digits_of octets) ≡ 2 * length octets
-unfolding digits_of
-length-digits octets = length-encoded _ octets
-
-encoded-append : (table front back : List ℕ) → encode_with table (front ++ back) ≡ encode_with table front ++ encode_with table back
-unfolding encode_with
-encoded-append table [] back = refl
-encoded-append table (octet ∷ front) back = rw (encoded-append table front back) refl
-
--- the digits of two parts, one after the other
-pub digits-append : (front back : List ℕ) → digits_of (front ++ back) ≡ digits_of front ++ digits_of back
-unfolding digits_of
-digits-append front back = encoded-append _ front back
-
--- an empty body has no digits
-pub digits-none : digits_of [] ≡ []
-unfolding digits_of encode_with
-digits-none = refl
+-- and then nothing more
+pub ends : (octets before after : List ℕ) (place end : ℕ) → WritesOn octets before after place end → Appends octets before after place end
+ends octets before after place end on =
+    subst (λ text. Appends text before after place end) (append-nil octets) (on.joined [] after end (none after end))

@@ -11,7 +11,7 @@ use Rattle.fio_message.specs.Reading.{answer_at}
 use Rattle.fio_message.specs.Refusals.{Refuses}
 use Rattle.fio_message.proofs.DecodingLaws.{refused-decoded}
 use Rattle.fio_message.proofs.Numbers.{octet_at}
-use Rattle.fio_c.specs.Faults.{NeedFitsFrame}
+use Rattle.fio_flat.specs.Faults.{NeedFitsFrame}
 
 -- so many octets, where they are known, fit in a frame
 record IsWithinFrame (needed : Option ℕ) : Type 0 where

@@ -1,11 +1,10 @@
 -- Octets that are written into a buffer one behind the other.
 use Rattle.std.proofs.Common.{◌≡◌, ℕ, ◌+◌, ◌*◌, ◌<◌, ◌≤◌, List, [], ◌∷◌, ◌++◌, length, get_or, map, take, drop, refl, sym, ap, ap₂, ◌∙◌, append_assoc, arith}
 use Rattle.std.specs.List.{flat_map}
-use Rattle.std.proofs.lemmas.List.{length-append, length-map, length-take-le, map-append, take_more, flat_map_more}
+use Rattle.std.proofs.lemmas.List.{length-append, length-take-le, take_more, flat_map_more}
 use Rattle.std.proofs.lemmas.Slice.{drop-append-drop}
 use Rattle.std.proofs.Math.Seq.{take-append_seam}
-use Rattle.fio_message.proofs.Parts.{IsPart, length-parts}
-use Rattle.fio_c.specs.Written.{Writes, buffer_with}
+use Rattle.fio_flat.specs.Written.{Writes, buffer_with}
 
 -- octets that are written behind others
 pub buffer_with-more : (from place : ℕ) (octets more before now after : List ℕ)
@@ -48,28 +47,31 @@ writes-none octets before count long short = record {
   no_room = λ lt. (refl, refl);
 }
 
-module _ {X Y : Type 0} {Fits : Y → Type 0} {octets_of : Y → List ℕ} {part_at : List ℕ → Y}
-    (part : IsPart Fits octets_of part_at) (read : X → Y) where
-  -- parts of a list of C have three octets each
-  pub length-read : (items : List X) → length (flat_map octets_of (map read items)) ≡ 3 * length items
-  length-read items = omega (arith, length-parts part (map read items), length-map items read)
+module _ {X : Type 0} (spelled : X → List ℕ) (three : (part : X) → length (spelled part) ≡ 3) where
+  -- parts have three octets each
+  pub length-spelled : (parts : List X) → length (flat_map spelled parts) ≡ 3 * length parts
+  length-spelled [] = refl
+  length-spelled (part ∷ parts) =
+      omega (arith, length-append (spelled part) (flat_map spelled parts), length-spelled parts, three part)
 
-  -- one more part is written
-  pub part-more : (from place i : ℕ) (items : List X) (blank : X) (group before now after : List ℕ)
-      → place ≡ from + 3 * i → i < length items → group ≡ octets_of (read (get_or items i blank))
-      → from + 3 * length items ≤ length before
-      → now ≡ buffer_with from (flat_map octets_of (map read (take i items))) before
-      → after ≡ buffer_with place group now
-      → after ≡ buffer_with from (flat_map octets_of (map read (take (i + 1) items))) before
-  part-more from place i items blank group before now after at lt spelled room here there =
-      let item = get_or items i blank in
-      let octets = flat_map octets_of (map read (take i items)) in
-      let long : length octets ≡ 3 * i = omega (arith, length-read (take i items), length-take-le i items (omega arith)) in
-      let three : length group ≡ 3 = ap length spelled ∙ part.len (read item) in
-      let items_more : take (i + 1) items ≡ take i items ++ item ∷ [] = take_more items i blank lt in
-      let octets_more : octets ++ group ≡ flat_map octets_of (map read (take (i + 1) items)) =
-      ap (λ (more : List ℕ). octets ++ more) spelled
-      ∙ flat_map_more octets_of [] (map read (take i items)) (read item)
-      ∙ ap (flat_map octets_of) (sym (map-append read (take i items) (item ∷ [])) ∙ ap (map read) (sym items_more)) in
-      buffer_with-more from place octets group before now after (omega arith) (omega arith) here there
-      ∙ ap (λ o. buffer_with from o before) octets_more
+  -- one part more is written
+  pub part-more : (from place i : ℕ) (parts : List X) (blank : X) (before now after : List ℕ)
+      → place ≡ from + 3 * i → i < length parts → from + 3 * length parts ≤ length before
+      → now ≡ buffer_with from (flat_map spelled (take i parts)) before
+      → after ≡ buffer_with place (spelled (get_or parts i blank)) now
+      → after ≡ buffer_with from (flat_map spelled (take (i + 1) parts)) before
+  part-more from place i parts blank before now after at lt room here there =
+      let part = get_or parts i blank in
+      let octets = flat_map spelled (take i parts) in
+      let long : length octets ≡ 3 * i = omega (arith, length-spelled (take i parts), length-take-le i parts (omega arith)) in
+      let last = three part in
+      let more : octets ++ spelled part ≡ flat_map spelled (take (i + 1) parts) =
+      flat_map_more spelled [] (take i parts) part ∙ ap (flat_map spelled) (sym (take_more parts i blank lt)) in
+      buffer_with-more from place octets (spelled part) before now after (omega arith) (omega arith) here there
+      ∙ ap (λ o. buffer_with from o before) more
+
+-- what parts spell that are read from a list of C
+pub spelled-read : {X Y : Type 0} (octets_of : Y → List ℕ) (read : X → Y) (parts : List X)
+    → flat_map (λ part. octets_of (read part)) parts ≡ flat_map octets_of (map read parts)
+spelled-read octets_of read [] = refl
+spelled-read octets_of read (part ∷ parts) = ap (λ rest. octets_of (read part) ++ rest) (spelled-read octets_of read parts)

@@ -56,7 +56,7 @@ flat_checker checker = record {
 -- a breach of this rule
 abbrev pub with_due : ℕ → Option Due → Breach
 with_due rule None = record { rule = rule; has_due = 0; due = 0; got = 0 }
-with_due rule (Some due) = record { rule = rule; has_due = 1; due = due.due; got = due.came }
+with_due rule (Some due) = record { rule = rule; has_due = 1; due = due.expected; got = due.actual }
 
 -- a breach as C sees it, with its numbers 0 where there is none
 abbrev pub flat_breach : Option BreachOf → Breach

@@ -85,9 +85,9 @@ abbrev pub flat_command : CommandOf → Command
 flat_command command = with_command_fields (command_of_type (command_code command)) command
 
 -- the items of a configuration; any other command has none
-abbrev pub items_of : Option CommandOf → List InputItem
-items_of (Some (commands.ConfigureInputs items)) = items.items
-items_of other = []
+abbrev pub configured_items : Option CommandOf → List InputItem
+configured_items (Some (commands.ConfigureInputs items)) = items.items
+configured_items other = []
 
 -- an item of a configuration that C gives: any ignore flag but 0 says that the input is ignored
 abbrev pub read_item : ConfigurationItem → InputItem

@@ -1,9 +1,3 @@
-pub mod Faults
-pub mod Written
 pub mod Flat
-pub mod Hearing
 pub mod Checkers
-pub mod Module
-pub mod SizedModule
-pub mod Calls
 pub mod Version

@@ -8,13 +8,14 @@ ghost use Rattle.fio_message.specs.Octets.{entry_octets};
 ghost use Rattle.fio_message.specs.declared.answers.Answer.TheVariants as answers;
 ghost use Rattle.fio_message.specs.declared.answers.OtherAnswer.{OtherAnswer as Kind};
 ghost use Rattle.fio_c.specs.Flat.{are_entries, can_be_named, read_entry, read_entries};
-ghost use Rattle.fio_c.specs.Written.{Writes, WritesNothing, buffer_with};
+ghost use Rattle.fio_flat.specs.Written.{Writes, WritesNothing, buffer_with};
 
 use crate::blocks::Entry;
-use crate::written::{length_with_body, write_at, write_front, write_with_body};
+use crate::parts::{Part, are_parts, write_with_parts};
+use crate::written::{length_with_body, write_front, write_with_body};
 use fio_message::{
-    Answer, BLOCK_ENTRIES, EntryOctets, INPUT_NUMBERS, InputNumber, OtherAnswer, before_entries,
-    encode_answer, status_and_stamp,
+    Answer, BLOCK_ENTRIES, InputNumber, OtherAnswer, before_entries, encode_answer,
+    status_and_stamp,
 };
 
 /// Writes an answer, and returns how many octets it has: 0 where there is no room. Inlined, so that no
@@ -105,21 +106,15 @@ pub extern "C" fn fio2070_encode_block_answer(
         out.old out.new result }
     ensures refused { are_entries entries.now ≡ false → WritesNothing out.old out.new result }
 {
-    if !are_entries(entries) {
+    if !are_parts(entries, BLOCK_ENTRIES) {
         return 0;
     }
-    let length = 8 + 3 * entries.len();
-    if out.len() < length {
-        return 0;
-    }
-    write_at(0, &before_entries(block, entries.len() as u8), out);
-    write_entries(entries, 3, out);
-    write_at(length - 5, &status_and_stamp(status, stamp), out);
-    length
+    let before = before_entries(block, entries.len() as u8);
+    write_with_parts(&before, entries, &status_and_stamp(status, stamp), out)
 }
 
-/// How many octets the block answer with these entries has (TEES 2009, answer 182): 0 where there are
-/// more than 255 entries, and where one names an input above 127, since no message has these.
+/// Returns the length in octets of the block answer with these entries (TEES 2009, answer 182): 0 if there
+/// are more than 255 entries, or if one names an input above 127, since no message has these.
 #[unsafe(no_mangle)]
 pub extern "C" fn fio2070_encode_block_answer_length(entries: &[Entry]) -> usize
     ensures written { (block status stamp : ℕ) → are_entries entries.now ≡ true
@@ -127,58 +122,36 @@ pub extern "C" fn fio2070_encode_block_answer_length(entries: &[Entry]) -> usize
         (answers.Block block (record { items = read_entries entries.now }) status stamp)) }
     ensures refused { are_entries entries.now ≡ false → result ≡ 0 }
 {
-    if are_entries(entries) {
+    if are_parts(entries, BLOCK_ENTRIES) {
         8 + 3 * entries.len()
     } else {
         0
     }
 }
 
-/// Whether these are the entries of a block: no more than there may be, each of an input below 128.
-fn are_entries(entries: &[Entry]) -> bool
-    ensures { result ≡ are_entries entries.now }
-{
-    entries.len() <= BLOCK_ENTRIES && are_named(entries)
-}
+impl Part for Entry {
+    ghost use Rattle.std.proofs.Common.{refl};
 
-/// Whether a message can name the input of each entry. All are looked at, which the compiler does many
-/// at a time.
-fn are_named(entries: &[Entry]) -> bool
-    ensures { result ≡ list_all (λ entry. can_be_named entry.input) entries.now }
-{
-    let mut named = true;
-    for entry in entries {
-        named = named & (entry.input < INPUT_NUMBERS);
+    ghost named = { λ entry. entry.input };
+
+    ghost spelled = { λ entry. entry_octets (read_entry entry) };
+
+    ghost three = { λ entry. refl };
+
+    fn input(&self) -> u8 {
+        self.input
     }
-    named
-}
 
-/// Writes the entries of a block from the place on, three octets each.
-fn write_entries(entries: &[Entry], from: usize, out: &mut [u8])
-    requires named { list_all (λ entry. can_be_named entry.input) entries.now ≡ true }
-    requires room { from + 3 * length entries.now ≤ length out.old }
-    ensures { out.new ≡ buffer_with from (flat_map entry_octets (read_entries entries.now)) out.old }
-{
-    let mut place = from;
-    for entry in entries {
-        write_at(place, &octets_of(entry), out);
-        place += 3;
-    }
-}
-
-/// The octets of an entry.
-fn octets_of(entry: &Entry) -> EntryOctets
-    requires { entry.now.input < INPUT_NUMBERS }
-    ensures { result ≡ entry_octets (read_entry entry.now) }
-{
-    match InputNumber::new(entry.input) {
-        Some(input) => fio_message::Entry {
-            input,
-            level: entry.state != 0,
-            stamp: entry.stamp,
+    fn octets(&self) -> [u8; 3] {
+        match InputNumber::new(self.input) {
+            Some(input) => fio_message::Entry {
+                input,
+                level: self.state != 0,
+                stamp: self.stamp,
+            }
+            .octets(),
+            None => unreachable!(),
         }
-        .octets(),
-        None => unreachable!(),
     }
 }
 
@@ -208,8 +181,8 @@ pub extern "C" fn fio2070_encode_other_answer(code: u8, body: &[u8], out: &mut [
     }
 }
 
-/// How many octets an answer of type 183, 184, 185, 187 or 188 has with so many octets after its type
-/// (TEES 2009): 0 for any other type, and for more than 772 octets, since no message has these.
+/// Returns the length in octets of an answer of type 183, 184, 185, 187 or 188 with `count` octets after
+/// its type (TEES 2009): 0 for any other type, and for more than 772 octets, since no message has these.
 #[unsafe(no_mangle)]
 pub extern "C" fn fio2070_encode_other_answer_length(code: u8, count: usize) -> usize
     ensures written { (kind : Kind) (body : List ℕ) → other_answer_of code ≡ Some kind

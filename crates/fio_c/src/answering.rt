@@ -5,11 +5,11 @@ ghost use Rattle.fio_module.specs.Settings.{Settings};
 ghost use Rattle.fio_module.specs.Life.{Commanded, History, Life, Received};
 ghost use Rattle.fio_module.specs.Replies.{answer_to, reply_to};
 ghost use Rattle.fio_module.specs.State.{IsAfter, IsAfterHistory};
-ghost use Rattle.fio_c.specs.Module.{with_errors};
-ghost use Rattle.fio_c.specs.Written.{WritesAnswer};
+ghost use Rattle.fio_flat.specs.Module.{with_errors};
+ghost use Rattle.fio_flat.specs.Written.{WritesAnswer};
 
-use crate::module::ErrorCounts;
 use crate::written::write_front;
+use fio_flat::ErrorCounts;
 use fio_message::{CommandView, FRAME_OCTETS, read_command};
 use fio_module::{EntryRing, ModuleState};
 

@@ -2,10 +2,11 @@
 ghost use Rattle.std.specs.Prelude.{◌≡◌};
 ghost use Rattle.fio_message.specs.Decoding.{decoded_answer};
 ghost use Rattle.fio_message.specs.Views.{answer_of};
-ghost use Rattle.fio_c.specs.Faults.{Reads};
+ghost use Rattle.fio_flat.specs.Faults.{Reads};
 ghost use Rattle.fio_c.specs.Flat.{answer_of_type, flat_answer};
 
-use crate::faults::{Fault, NO_FAULT, fault_from};
+use crate::faults::{NO_FAULT, fault_from};
+use fio_flat::Fault;
 use fio_message::{AnswerView, read_answer};
 
 /// An answer of the module: the fields of its type, the others 0.
@@ -37,7 +38,7 @@ pub struct Answer {
     pub inputs: u64,
 }
 
-/// An answer of this type with all its fields 0.
+/// Returns an answer of this type with all its fields 0.
 const fn answer_of_type(code: u8) -> Answer
     ensures { result ≡ answer_of_type code }
 {
@@ -56,7 +57,7 @@ const fn answer_of_type(code: u8) -> Answer
     }
 }
 
-/// An answer in its flat form.
+/// Returns an answer in its flat form.
 fn flat_answer(answer: AnswerView<'_>) -> Answer
     ensures { result ≡ flat_answer (answer_of answer.entry) }
 {

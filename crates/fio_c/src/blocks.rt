@@ -4,11 +4,12 @@ ghost use Rattle.fio_message.specs.Answers.{block_length};
 ghost use Rattle.fio_message.specs.Blocks.{Block, SpellsBlock};
 ghost use Rattle.fio_message.specs.Refusals.{Refuses};
 ghost use Rattle.fio_message.specs.declared.faults.DecodeError.{DecodeError};
-ghost use Rattle.fio_c.specs.Faults.{ReadsBlock};
+ghost use Rattle.fio_flat.specs.Faults.{ReadsBlock};
 ghost use Rattle.fio_c.specs.Flat.{flat_header, flat_entry};
-ghost use Rattle.fio_c.specs.Written.{Writes};
+ghost use Rattle.fio_flat.specs.Written.{Writes};
 
-use crate::faults::{Fault, NO_FAULT, fault_from};
+use crate::faults::{NO_FAULT, fault_from};
+use fio_flat::Fault;
 use fio_message::{BlockView, read_block};
 
 /// A block answer (TEES 2009, answer 182) without its entries.
@@ -41,7 +42,7 @@ pub struct Entry {
     pub stamp: u16,
 }
 
-/// The view of a block without its entries.
+/// Returns the view of a block without its entries.
 fn header_of(view: &BlockView) -> BlockHeader
     ensures { result ≡ flat_header view.now }
 {
@@ -54,7 +55,7 @@ fn header_of(view: &BlockView) -> BlockHeader
     }
 }
 
-/// An entry in its flat form.
+/// Returns an entry in its flat form.
 fn entry_of(entry: fio_message::Entry) -> Entry
     ensures { result ≡ flat_entry entry }
 {

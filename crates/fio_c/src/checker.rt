@@ -58,7 +58,7 @@ pub extern "C" fn fio2070_checker_start(checker: &mut Checker)
     ensures made { checker_in checker.new ≡ new_checker }
     ensures octets { checker.new ≡ flat_checker new_checker }
 {
-    keep(&CheckerOf::new(), checker);
+    *checker = flat_from(&CheckerOf::new());
 }
 
 /// Takes a frame that the CPU's end sent: writes its breach, each octet of it, and returns the
@@ -76,12 +76,10 @@ pub extern "C" fn fio2070_checker_sent(
 {
     let mut kept = checker_from(checker);
     let found = kept.sent(octets);
-    keep(&kept, checker);
-    *breach = breach_from(found);
-    breach.rule
+    keep(&kept, found, checker, breach)
 }
 
-/// Takes a frame that the CPU's end heard, likewise.
+/// As `fio2070_checker_sent`, for a frame that the CPU's end heard.
 #[unsafe(no_mangle)]
 pub extern "C" fn fio2070_checker_heard(
     checker: &mut Checker,
@@ -94,12 +92,10 @@ pub extern "C" fn fio2070_checker_heard(
 {
     let mut kept = checker_from(checker);
     let found = kept.heard(octets);
-    keep(&kept, checker);
-    *breach = breach_from(found);
-    breach.rule
+    keep(&kept, found, checker, breach)
 }
 
-/// The checker that a struct of C stands for, whatever its octets are.
+/// Returns the checker that a struct of C stands for, whatever its octets are.
 fn checker_from(flat: &Checker) -> CheckerOf
     ensures { result ≡ checker_in flat.now }
 {
@@ -116,15 +112,25 @@ fn checker_from(flat: &Checker) -> CheckerOf
     }
 }
 
-/// Writes a checker to a struct of C: each octet of it.
-fn keep(checker: &CheckerOf, flat: &mut Checker)
-    ensures octets { flat.new ≡ flat_checker checker.now }
-    ensures kept { checker_in flat.new ≡ checker.now }
+/// Writes a checker and the breach that it found to the caller's structs, each octet of them, and returns
+/// the number of the breach's rule: 0 where there is none.
+#[tactic(auto, using(crate::proofs::Checkers::checker_kept))]
+fn keep(
+    kept: &CheckerOf,
+    found: Option<BreachFound>,
+    checker: &mut Checker,
+    breach: &mut Breach,
+) -> u8
+    ensures kept { checker_in checker.new ≡ kept.now }
+    ensures breach { breach.new ≡ flat_breach found }
+    ensures rule { result ≡ breach.new.rule }
 {
-    *flat = flat_from(checker);
+    *checker = flat_from(kept);
+    *breach = breach_from(found);
+    breach.rule
 }
 
-/// The struct of C that stands for a checker.
+/// Returns the struct of C that stands for a checker.
 fn flat_from(checker: &CheckerOf) -> Checker
     ensures { result ≡ flat_checker checker.now }
 {
@@ -142,21 +148,21 @@ fn flat_from(checker: &CheckerOf) -> Checker
     }
 }
 
-/// A number that there may be.
+/// Returns a number that there may be.
 fn octet_in(has: u8, octet: u8) -> Option<u8>
     ensures { result ≡ octet_in has octet }
 {
     if has == 0 { None } else { Some(octet) }
 }
 
-/// Whether the latest block answer has C.
+/// Returns whether the latest block answer has C.
 fn more_in(more: u8) -> Option<bool>
     ensures { result ≡ more_in more }
 {
     if more == 0 { None } else { Some(more != 1) }
 }
 
-/// The same as an octet.
+/// `more` for C: 0 no block answer, 1 without C, 2 with C.
 fn flat_more(more: Option<bool>) -> u8
     ensures { result ≡ flat_more more }
 {
@@ -167,7 +173,7 @@ fn flat_more(more: Option<bool>) -> u8
     }
 }
 
-/// A breach as C sees it.
+/// Returns a breach as C sees it.
 fn breach_from(found: Option<BreachFound>) -> Breach
     ensures { result ≡ flat_breach found }
 {
@@ -180,8 +186,8 @@ fn breach_from(found: Option<BreachFound>) -> Breach
                 Some(due) => Breach {
                     rule,
                     has_due: 1,
-                    due: due.due,
-                    got: due.came,
+                    due: due.expected,
+                    got: due.actual,
                 },
             }
         }

@@ -8,13 +8,14 @@ ghost use Rattle.fio_message.specs.Octets.{item_octets};
 ghost use Rattle.fio_message.specs.declared.commands.OtherCommand.{OtherCommand as Kind};
 ghost use Rattle.fio_message.specs.declared.commands.Command.TheVariants as commands;
 ghost use Rattle.fio_c.specs.Flat.{are_items, can_be_named, read_item, read_items};
-ghost use Rattle.fio_c.specs.Written.{Writes, WritesNothing, buffer_with};
+ghost use Rattle.fio_flat.specs.Written.{Writes, WritesNothing, buffer_with};
 
 use crate::commands::ConfigurationItem;
-use crate::written::{length_with_body, write_at, write_front, write_with_body};
+use crate::parts::{Part, are_parts, write_with_parts};
+use crate::written::{length_with_body, write_front, write_with_body};
 use fio_message::{
-    CONFIGURATION_ITEMS, Command, INPUT_NUMBERS, InputItem, InputNumber, OtherCommand,
-    before_items, encode_command,
+    CONFIGURATION_ITEMS, Command, InputItem, InputNumber, OtherCommand, before_items,
+    encode_command,
 };
 
 /// Writes a command, and returns how many octets it has: 0 where there is no room. Inlined, so that no
@@ -57,75 +58,46 @@ pub extern "C" fn fio2070_encode_configure_inputs(
         out.old out.new result }
     ensures refused { are_items items.now ≡ false → WritesNothing out.old out.new result }
 {
-    if !are_items(items) {
+    if !are_parts(items, CONFIGURATION_ITEMS) {
         return 0;
     }
-    let length = 2 + 3 * items.len();
-    if out.len() < length {
-        return 0;
-    }
-    write_at(0, &before_items(items.len() as u8), out);
-    write_items(items, 2, out);
-    length
+    write_with_parts(&before_items(items.len() as u8), items, &[], out)
 }
 
-/// How many octets the configuration of these items has (TEES 2009, command 51): 0 where there are more
-/// than 255 items, and where one names an input above 127, since no message has these.
+/// Returns the length in octets of the configuration of these items (TEES 2009, command 51): 0 if there are
+/// more than 255 items, or if one names an input above 127, since no message has these.
 #[unsafe(no_mangle)]
 pub extern "C" fn fio2070_encode_configure_inputs_length(items: &[ConfigurationItem]) -> usize
     ensures written { are_items items.now ≡ true
         → result ≡ length (command_octets (commands.ConfigureInputs (record { items = read_items items.now }))) }
     ensures refused { are_items items.now ≡ false → result ≡ 0 }
 {
-    if are_items(items) {
+    if are_parts(items, CONFIGURATION_ITEMS) {
         2 + 3 * items.len()
     } else {
         0
     }
 }
 
-/// Whether these are the items of a configuration: no more than there may be, each of an input below
-/// 128.
-fn are_items(items: &[ConfigurationItem]) -> bool
-    ensures { result ≡ are_items items.now }
-{
-    items.len() <= CONFIGURATION_ITEMS && are_named(items)
-}
+impl Part for ConfigurationItem {
+    ghost use Rattle.std.proofs.Common.{refl};
 
-/// Whether a message can name the input of each item. All are looked at, which the compiler does many
-/// at a time.
-fn are_named(items: &[ConfigurationItem]) -> bool
-    ensures { result ≡ list_all (λ item. can_be_named item.input) items.now }
-{
-    let mut named = true;
-    for item in items {
-        named = named & (item.input < INPUT_NUMBERS);
+    ghost named = { λ item. item.input };
+
+    ghost spelled = { λ item. item_octets (read_item item) };
+
+    ghost three = { λ item. refl };
+
+    fn input(&self) -> u8 {
+        self.input
     }
-    named
-}
 
-/// Writes the items of a configuration from the place on, three octets each.
-fn write_items(items: &[ConfigurationItem], from: usize, out: &mut [u8])
-    requires named { list_all (λ item. can_be_named item.input) items.now ≡ true }
-    requires room { from + 3 * length items.now ≤ length out.old }
-    ensures { out.new ≡ buffer_with from (flat_map item_octets (read_items items.now)) out.old }
-{
-    let mut place = from;
-    for item in items {
-        write_at(place, &octets_of(item), out);
-        place += 3;
+    fn octets(&self) -> [u8; 3] {
+        read_item(self).octets()
     }
 }
 
-/// The octets of an item.
-fn octets_of(item: &ConfigurationItem) -> [u8; 3]
-    requires { item.now.input < INPUT_NUMBERS }
-    ensures { result ≡ item_octets (read_item item.now) }
-{
-    read_item(item).octets()
-}
-
-/// The item that an item of C is.
+/// Returns the item that an item of C is.
 #[inline]
 pub(crate) fn read_item(item: &ConfigurationItem) -> InputItem
     requires { item.now.input < INPUT_NUMBERS }
@@ -222,8 +194,8 @@ pub extern "C" fn fio2070_encode_other_command(code: u8, body: &[u8], out: &mut 
     }
 }
 
-/// How many octets a command of type 56, 57 or 59 has with so many octets after its type (TEES 2009): 0
-/// for any other type, and for more than 772 octets, since no message has these.
+/// Returns the length in octets of a command of type 56, 57 or 59 with `count` octets after its type (TEES
+/// 2009): 0 for any other type, and for more than 772 octets, since no message has these.
 #[unsafe(no_mangle)]
 pub extern "C" fn fio2070_encode_other_command_length(code: u8, count: usize) -> usize
     ensures written { (kind : Kind) (body : List ℕ) → other_command_of code ≡ Some kind

@@ -1,12 +1,13 @@
 //! Commands, read into structs of the caller.
 ghost use Rattle.std.specs.Prelude.{◌≡◌, ◌≤◌, ◌++◌, length, map, drop};
 ghost use Rattle.fio_message.specs.Decoding.{command_in, decoded_command};
-ghost use Rattle.fio_message.specs.Views.{command_of, items_of as viewed_items};
-ghost use Rattle.fio_c.specs.Faults.{Reads};
-ghost use Rattle.fio_c.specs.Flat.{command_of_type, flat_command, flat_item, items_of};
-ghost use Rattle.fio_c.specs.Written.{Writes};
+ghost use Rattle.fio_message.specs.Views.{command_of, items_of};
+ghost use Rattle.fio_flat.specs.Faults.{Reads};
+ghost use Rattle.fio_c.specs.Flat.{command_of_type, flat_command, flat_item, configured_items};
+ghost use Rattle.fio_flat.specs.Written.{Writes};
 
-use crate::faults::{Fault, NO_FAULT, fault_from};
+use crate::faults::{NO_FAULT, fault_from};
+use fio_flat::Fault;
 use fio_message::{CommandView, InputItem, ItemsView, read_command};
 
 /// A command of the CPU: the fields of its type, the others 0.
@@ -50,7 +51,7 @@ pub struct ConfigurationItem {
     pub trailing: u8,
 }
 
-/// A command of this type with all its fields 0.
+/// Returns a command of this type with all its fields 0.
 const fn command_of_type(code: u8) -> Command
     ensures { result ≡ command_of_type code }
 {
@@ -68,7 +69,7 @@ const fn command_of_type(code: u8) -> Command
     }
 }
 
-/// A command in its flat form.
+/// Returns a command in its flat form.
 fn flat_command(command: CommandView<'_>) -> Command
     ensures { result ≡ flat_command (command_of command.entry) }
 {
@@ -112,7 +113,7 @@ pub extern "C" fn fio2070_decode_command(octets: &[u8], command: &mut Command) -
 /// says how many it has.
 #[unsafe(no_mangle)]
 pub extern "C" fn fio2070_command_items(octets: &[u8], items: &mut [ConfigurationItem]) -> usize
-    ensures { Writes (map flat_item (items_of (command_in octets.now))) items.old items.new result }
+    ensures { Writes (map flat_item (configured_items (command_in octets.now))) items.old items.new result }
 {
     match read_command(octets) {
         Ok(CommandView::ConfigureInputs { items: read }) => {
@@ -129,9 +130,9 @@ pub extern "C" fn fio2070_command_items(octets: &[u8], items: &mut [Configuratio
 
 /// Copies these items, for which there is room.
 fn copy_items(read: ItemsView<'_>, items: &mut [ConfigurationItem])
-    requires { length (viewed_items read) ≤ length items.old }
+    requires { length (items_of read) ≤ length items.old }
     ensures { items.new
-        ≡ map flat_item (viewed_items read.entry) ++ drop (length (viewed_items read.entry)) items.old }
+        ≡ map flat_item (items_of read.entry) ++ drop (length (items_of read.entry)) items.old }
 {
     let mut place = 0;
     for item in read.iter() {
@@ -140,7 +141,7 @@ fn copy_items(read: ItemsView<'_>, items: &mut [ConfigurationItem])
     }
 }
 
-/// An item in its flat form.
+/// Returns an item in its flat form.
 fn item_of(item: InputItem) -> ConfigurationItem
     ensures { result ≡ flat_item item }
 {

@@ -59,7 +59,7 @@ pub extern "C" fn fio2070_content_heard(
     breach.rule
 }
 
-/// A breach as C sees it.
+/// Returns a breach as C sees it.
 fn breach_from(found: Option<BreachFound>) -> ContentBreach
     ensures { result ≡ flat_content_breach found }
 {

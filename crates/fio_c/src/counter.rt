@@ -42,7 +42,7 @@ pub extern "C" fn fio2070_counter_line_sync(counter: &mut Counter)
     counter.line_sync();
 }
 
-/// The milliseconds counted, modulo 2^32.
+/// Returns the milliseconds counted, modulo 2^32.
 #[unsafe(no_mangle)]
 pub extern "C" fn fio2070_counter_now(counter: &Counter) -> u32
     ensures { (history : List CounterEvent) → IsCounterAfter counter.now history
@@ -51,7 +51,7 @@ pub extern "C" fn fio2070_counter_now(counter: &Counter) -> u32
     counter.now()
 }
 
-/// The time in milliseconds of an entry with these low 16 bits, in an answer with this stamp: the
+/// Returns the time in milliseconds of an entry with these low 16 bits, in an answer with this stamp: the
 /// one number at or before the stamp, less than 65,536 steps back modulo 2^32, with these low bits.
 #[unsafe(no_mangle)]
 pub extern "C" fn fio2070_widen(answer_stamp: u32, low: u16) -> u32

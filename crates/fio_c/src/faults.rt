@@ -2,29 +2,12 @@
 ghost use Rattle.std.specs.Prelude.{◌≡◌};
 ghost use Rattle.fio_message.specs.declared.faults.DecodeError.{DecodeError};
 ghost use Rattle.fio_message.specs.Texts.{fault_text};
-ghost use Rattle.fio_c.specs.Faults.{NeedFitsFrame, error_in, fault_of, text_of};
-ghost use Rattle.fio_c.specs.Written.{Writes};
+ghost use Rattle.fio_flat.specs.Faults.{NeedFitsFrame, error_in, fault_of, text_of_fault};
+ghost use Rattle.fio_flat.specs.Written.{Writes};
 
 use crate::written::write_front;
+use fio_flat::Fault;
 use fio_message::DecodeError;
-
-/// Why octets are no message: the first fault that applies (own profile).
-#[derive(Clone, Copy)]
-#[repr(C)]
-pub struct Fault {
-    /// 0 none; 1 there is no octet; 2 more than 773 octets, `got` says how many; 3 no message of
-    /// this call has the type `code`; 4 a message of this type and count has another length,
-    /// `needed` and `got` say which.
-    pub kind: u8,
-    /// The first octet, for kind 3.
-    pub code: u8,
-    /// How many octets are needed, for kind 4: at most 773.
-    pub needed: u16,
-    /// 0 in each octet that the library writes.
-    pub reserved: [u8; 4],
-    /// How many octets there are, for kinds 2 and 4.
-    pub got: u64,
-}
 
 /// Octets that are a message have no fault.
 pub(crate) const NO_FAULT: Fault = Fault {
@@ -35,7 +18,7 @@ pub(crate) const NO_FAULT: Fault = Fault {
     got: 0,
 };
 
-/// A fault of a decoder, which needs no more octets than a frame has.
+/// Returns a fault of a decoder, which needs no more octets than a frame has.
 pub(crate) fn fault_from(error: DecodeError) -> Fault
     requires { NeedFitsFrame error }
     ensures { result ≡ fault_of error }
@@ -64,7 +47,7 @@ pub(crate) fn fault_from(error: DecodeError) -> Fault
     }
 }
 
-/// The fault of a decoder that this is by its kind, if it is one.
+/// Returns the fault of a decoder that this is by its kind, if it is one.
 fn error_in(fault: &Fault) -> Option<DecodeError>
     ensures { result ≡ error_in fault.now }
 {
@@ -87,7 +70,7 @@ fn error_in(fault: &Fault) -> Option<DecodeError>
 /// the kind is none of 1 to 4.
 #[unsafe(no_mangle)]
 pub extern "C" fn fio2070_fault_text(fault: &Fault, out: &mut [u8]) -> usize
-    ensures words { Writes (text_of fault.now) out.old out.new result }
+    ensures words { Writes (text_of_fault fault.now) out.old out.new result }
     ensures decoded { (error : DecodeError) → fault.now ≡ fault_of error
         → Writes (fault_text error) out.old out.new result }
 {

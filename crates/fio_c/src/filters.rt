@@ -112,7 +112,7 @@ impl Configuration for CallersItems<'_> {
     }
 }
 
-/// What became of a configuration, by its kind and place.
+/// Returns what became of a configuration, by its kind and place.
 const fn outcome(kind: u8, place: u64) -> Configured
     ensures { result ≡ outcome kind place }
 {
@@ -123,7 +123,7 @@ const fn outcome(kind: u8, place: u64) -> Configured
     }
 }
 
-/// The place of the first item that names an input above 63.
+/// Returns the place of the first item that names an input above 63.
 fn first_absent(items: &[ConfigurationItem]) -> Option<usize>
     ensures { result ≡ first_absent items.now }
 {

@@ -17,10 +17,9 @@
 //! | say which library it is | `fio2070_version` |
 //! | use its parts | `fio2070_counter_..`, `fio2070_filters_..`, `fio2070_widen` |
 //!
-//! The definitions are in `specs/`: faults and what reading does (`Faults`), octets and lists in
-//! the caller's arrays (`Written`), flat forms of commands, answers and blocks (`Flat`), what a
-//! poller does (`Hearing`), which history a module stands for (`Module`, `SizedModule`), what a caller of both ends does (`Calls`),
-//! versions (`Version`).
+//! The definitions are in `specs/`: flat forms of commands, answers and blocks (`Flat`), checkers
+//! (`Checkers`), versions (`Version`). `fio_flat` has the other structs, and what calls do to them
+//! and to the caller's arrays.
 #![tactic(auto)]
 
 mod answer_frames;
@@ -34,10 +33,11 @@ mod content;
 mod counter;
 mod faults;
 mod filters;
-pub mod laws;
 mod module;
+mod parts;
 mod poller;
 mod show;
 mod sized_module;
+mod text_buffer;
 mod version;
 mod written;

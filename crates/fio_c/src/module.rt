@@ -8,37 +8,15 @@ ghost use Rattle.fio_module.specs.Life.{Scan, LineSync, Raise, Received, Restart
 ghost use Rattle.fio_module.specs.Log.{log_of};
 ghost use Rattle.fio_module.specs.Blocks.{newest_end};
 ghost use Rattle.fio_module.specs.Flags.{flags_of, watchdog_of, outputs_of};
-ghost use Rattle.fio_c.specs.Module.{ErrorsSet, AddsEvent, History, IsModuleAfter, Reached, Replies, errors_of, module_at_start, events_reached, settings_of};
+ghost use Rattle.fio_flat.specs.Module.{ErrorsSet, AddsEvent, DeviceHistory, IsDeviceAfter, Reached, Replies, errors_of, module_at_start, events_reached, settings_of};
 
 use crate::answering::answer;
+use fio_flat::{ErrorCounts, Module};
 use fio_message::FRAME_OCTETS;
 use fio_module::{ArrayRing, EntryRing, Limits, ModuleState, Outputs};
 
-/// How many entries may wait.
+/// The most entries that may wait.
 const WAITING: u16 = 1024;
-
-/// A field I/O module (TEES 2009, in this project's own profile of 64 inputs and 64 outputs), of
-/// which 1,024 entries may wait.
-#[derive(Drop)]
-#[repr(C)]
-pub struct Module {
-    state: ModuleState,
-    waiting: ArrayRing,
-    /// What the answer 177 has.
-    errors: ErrorCounts,
-    /// It makes the module as long as so many words of 64 bits.
-    reserved: [u8; 2],
-}
-
-/// How many errors the firmware counted, as the answer 177 has them.
-#[derive(Clone, Copy)]
-#[repr(C)]
-pub struct ErrorCounts {
-    /// In receiving.
-    pub receive: u8,
-    /// In transmitting.
-    pub transmit: u8,
-}
 
 /// The error counts at the start, and after a restart (own profile).
 pub(crate) const NO_ERRORS: ErrorCounts = ErrorCounts {
@@ -52,7 +30,7 @@ pub(crate) const NO_ERRORS: ErrorCounts = ErrorCounts {
 #[unsafe(no_mangle)]
 pub extern "C" fn fio2070_module_start(device: &mut Module, id: u8, per_block: u8) -> u8
     ensures made { per_block ≢ 0
-        → (result ≡ 0) × IsModuleAfter (settings_of id per_block) device.new [] }
+        → (result ≡ 0) × IsDeviceAfter (settings_of id per_block) device.new [] }
     ensures octets { per_block ≢ 0 → device.new ≡ module_at_start id per_block }
     ensures refused { per_block ≡ 0 → (result ≡ 1) × (device.new ≡ device.old) }
 {
@@ -140,18 +118,18 @@ pub extern "C" fn fio2070_module_receive(
 /// As `fio_module::ModuleState::flags`.
 #[unsafe(no_mangle)]
 pub extern "C" fn fio2070_module_flags(device: &Module) -> u8
-    ensures { (settings : Settings) (history : History)
-        → IsModuleAfter settings device.now history
+    ensures { (settings : Settings) (history : DeviceHistory)
+        → IsDeviceAfter settings device.now history
         → result ≡ flags_of (life_of (events_reached history)) }
 {
     device.state.flags()
 }
 
-/// The error counts, as the answer 177 has them.
+/// Returns the error counts, as the answer 177 has them.
 #[unsafe(no_mangle)]
 pub extern "C" fn fio2070_module_errors(device: &Module) -> ErrorCounts
-    ensures { (settings : Settings) (history : History)
-        → IsModuleAfter settings device.now history
+    ensures { (settings : Settings) (history : DeviceHistory)
+        → IsDeviceAfter settings device.now history
         → result ≡ errors_of history }
 {
     device.errors
@@ -160,29 +138,29 @@ pub extern "C" fn fio2070_module_errors(device: &Module) -> ErrorCounts
 /// As `fio_module::Module::outputs`.
 #[unsafe(no_mangle)]
 pub extern "C" fn fio2070_module_outputs(device: &Module) -> Outputs
-    ensures { (settings : Settings) (history : History)
-        → IsModuleAfter settings device.now history
+    ensures { (settings : Settings) (history : DeviceHistory)
+        → IsDeviceAfter settings device.now history
         → result ≡ outputs_of (life_of (events_reached history)) }
 {
     device.state.outputs()
 }
 
-/// The timeout of the watchdog in milliseconds, 10 to 100, or 0 before the first command that sets
-/// it.
+/// Returns the timeout of the watchdog in milliseconds, 10 to 100: 0 before the first command that
+/// sets it.
 #[unsafe(no_mangle)]
 pub extern "C" fn fio2070_module_watchdog_ms(device: &Module) -> u8
-    ensures { (settings : Settings) (history : History)
-        → IsModuleAfter settings device.now history
+    ensures { (settings : Settings) (history : DeviceHistory)
+        → IsDeviceAfter settings device.now history
         → result ≡ unwrap_or (watchdog_of (life_of (events_reached history))) 0 }
 {
     device.state.watchdog_ms().unwrap_or(0)
 }
 
-/// The milliseconds counted, modulo 2^32 (TEES 2009).
+/// Returns the milliseconds counted, modulo 2^32 (TEES 2009).
 #[unsafe(no_mangle)]
 pub extern "C" fn fio2070_module_counter(device: &Module) -> u32
-    ensures { (settings : Settings) (history : History)
-        → IsModuleAfter settings device.now history
+    ensures { (settings : Settings) (history : DeviceHistory)
+        → IsDeviceAfter settings device.now history
         → result ≡ counter_of (life_of (events_reached history)) }
 {
     device.state.counter()
@@ -191,8 +169,8 @@ pub extern "C" fn fio2070_module_counter(device: &Module) -> u32
 /// As `fio_module::Module::filtered`.
 #[unsafe(no_mangle)]
 pub extern "C" fn fio2070_module_filtered(device: &Module) -> u64
-    ensures { (settings : Settings) (history : History)
-        → IsModuleAfter settings device.now history
+    ensures { (settings : Settings) (history : DeviceHistory)
+        → IsDeviceAfter settings device.now history
         → (input : ℕ) → input < INPUTS
         → is_set result input ≡ input_state input (filter_events (life_of (events_reached history))) }
 {
@@ -202,18 +180,18 @@ pub extern "C" fn fio2070_module_filtered(device: &Module) -> u64
 /// As `fio_module::ModuleState::raw`.
 #[unsafe(no_mangle)]
 pub extern "C" fn fio2070_module_raw(device: &Module) -> u64
-    ensures { (settings : Settings) (history : History)
-        → IsModuleAfter settings device.now history
+    ensures { (settings : Settings) (history : DeviceHistory)
+        → IsDeviceAfter settings device.now history
         → result ≡ raw_levels (filter_events (life_of (events_reached history))) }
 {
     device.state.raw()
 }
 
-/// How many entries wait for a poll, at most 1,024.
+/// Returns the number of entries that wait for a poll, at most 1,024.
 #[unsafe(no_mangle)]
 pub extern "C" fn fio2070_module_waiting(device: &Module) -> usize
-    ensures { (settings : Settings) (history : History)
-        → IsModuleAfter settings device.now history
+    ensures { (settings : Settings) (history : DeviceHistory)
+        → IsDeviceAfter settings device.now history
         → result ≡ min settings.waiting
         (length (log_of (life_of (events_reached history))) - newest_end settings (life_of (events_reached history))) }
 {

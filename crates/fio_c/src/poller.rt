@@ -5,63 +5,15 @@ ghost use Rattle.fio_message.specs.Commands.{command_octets};
 ghost use Rattle.fio_message.specs.declared.commands.Command.TheVariants as commands;
 ghost use Rattle.fio_cpu.specs.declared.poller.Heard.TheVariants as outcomes;
 ghost use Rattle.fio_cpu.specs.Hearing.{items_added, HasFewEntries};
-ghost use Rattle.fio_c.specs.Faults.{NeedFitsFrame};
-ghost use Rattle.fio_c.specs.Hearing.{Hears, flat_heard, flat_record_item};
-ghost use Rattle.fio_c.specs.Written.{Writes};
+ghost use Rattle.fio_flat.specs.Faults.{NeedFitsFrame};
+ghost use Rattle.fio_flat.specs.Hearing.{Hears, flat_heard, flat_record_item};
+ghost use Rattle.fio_flat.specs.Written.{Writes};
 
 use crate::command_frames::fio2070_encode_poll;
-use crate::faults::{Fault, NO_FAULT, fault_from};
+use crate::faults::{NO_FAULT, fault_from};
 use fio_cpu::{BlockItems, Item, Record, hear_frame};
+use fio_flat::{Heard, Poller, RecordItem};
 use fio_message::BlockStatus;
-
-/// The CPU's end of the link. Its record is kept by the caller.
-#[derive(Clone, Copy)]
-#[repr(C)]
-pub struct Poller {
-    /// The block number of the next poll. The caller sets the first one.
-    pub number: u8,
-}
-
-/// An item of the record.
-#[derive(Clone, Copy)]
-#[repr(C)]
-pub struct RecordItem {
-    /// 1 for a gap mark, where entries are missing, and the other fields are 0; 0 for an entry.
-    pub gap: u8,
-    /// The input that changed, from 0 to 127.
-    pub input: u8,
-    /// The filtered state after the transition, 0 or 1.
-    pub state: u8,
-    /// 0 in each octet that the library writes.
-    pub reserved: [u8; 3],
-    /// The low 16 bits of the module's millisecond counter at the transition.
-    pub stamp: u16,
-    /// The time in milliseconds, in 32 bits, as `fio2070_widen` has it (own profile).
-    pub wide: u32,
-}
-
-/// What the octets were that a poller heard: the first of these that applies (own profile).
-#[derive(Clone, Copy)]
-#[repr(C)]
-pub struct Heard {
-    /// 0 a block that was taken, with `entries` and `status`; 1 no answer, with `fault`; 2 another
-    /// answer, with its type `code`; 3 a stale block, with its `number`; 4 no room for `items`.
-    pub kind: u8,
-    /// The type of another answer.
-    pub code: u8,
-    /// The number of a stale block.
-    pub number: u8,
-    /// The status of a block that was taken, with C, F, E and G in bits 3 to 0.
-    pub status: u8,
-    /// How many entries a block has that was taken.
-    pub entries: u8,
-    /// 0 where the library writes it.
-    pub reserved: u8,
-    /// How many items were written, or would have been with room for them: at most 256.
-    pub items: u16,
-    /// Why the octets are no answer.
-    pub fault: Fault,
-}
 
 /// A gap mark.
 const GAP: RecordItem = RecordItem {
@@ -107,7 +59,7 @@ pub extern "C" fn fio2070_poller_hear(
 ) -> Heard
     ensures { Hears poller.old.number octets.now items.old items.new poller.new.number result }
 {
-    let mut places = Places { items };
+    let mut places = ItemSlots { items };
     match hear_frame(&mut poller.number, &mut places, octets) {
         Ok(heard) => flat_heard(heard),
         Err(count) => Heard {
@@ -118,7 +70,7 @@ pub extern "C" fn fio2070_poller_hear(
     }
 }
 
-/// What was heard in its flat form, with as many items as it adds to the record.
+/// Returns what was heard in its flat form, with as many items as it adds to the record.
 fn flat_heard(heard: fio_cpu::Heard) -> Heard
     requires few { HasFewEntries heard }
     requires need { (error : DecodeError) → heard ≡ outcomes.Unreadable error → NeedFitsFrame error }
@@ -149,14 +101,14 @@ fn flat_heard(heard: fio_cpu::Heard) -> Heard
     }
 }
 
-/// The places of the caller for items of the record.
+/// The slots of the caller for items of the record.
 #[derive(Drop)]
-struct Places<'a> {
+struct ItemSlots<'a> {
     items: &'a mut [RecordItem],
 }
 
-impl Record for Places<'_> {
-    ghost use Rattle.fio_c.specs.Hearing.{Gain};
+impl Record for ItemSlots<'_> {
+    ghost use Rattle.fio_flat.specs.Hearing.{Gain};
     ghost use Rattle.std.proofs.Common.{rules};
 
     /// How many items there are.
@@ -191,7 +143,7 @@ fn write_items(items: &BlockItems<'_>, places: &mut [RecordItem])
     }
 }
 
-/// An item of the record in its flat form.
+/// Returns an item of the record in its flat form.
 fn flat_item(item: Item) -> RecordItem
     ensures { result ≡ flat_record_item item }
 {

@@ -11,26 +11,14 @@ ghost use Rattle.fio_module.specs.Life.{Scan, LineSync, Raise, Received, Restart
 ghost use Rattle.fio_module.specs.Log.{log_of};
 ghost use Rattle.fio_module.specs.Blocks.{newest_end};
 ghost use Rattle.fio_module.specs.Flags.{flags_of, watchdog_of, outputs_of};
-ghost use Rattle.fio_c.specs.Module.{ErrorsSet, History, Reached, errors_of, events_reached};
-ghost use Rattle.fio_c.specs.SizedModule.{HasHadIn, HasHadWithout, IsSizedModuleAfter, RepliesIn, sized_module_at_start, sized_settings};
+ghost use Rattle.fio_flat.specs.Module.{ErrorsSet, DeviceHistory, Reached, errors_of, events_reached};
+ghost use Rattle.fio_flat.specs.SizedModule.{HasHadIn, HasHadWithout, IsSizedModuleAfter, RepliesIn, sized_module_at_start, sized_settings};
 
 use crate::answering::answer;
-use crate::module::{ErrorCounts, NO_ERRORS};
+use crate::module::NO_ERRORS;
+use fio_flat::{ErrorCounts, SizedModule};
 use fio_message::{EntryOctets, FRAME_OCTETS};
 use fio_module::{Limits, MemoryRing, ModuleState, Outputs, RingPlace, STANDARD_WAITING};
-
-/// A field I/O module (TEES 2009, in this project's own profile of 64 inputs and 64 outputs), whose
-/// entries wait in an array of the caller (own profile: TEES has 1,024).
-#[derive(Drop)]
-#[repr(C)]
-pub struct SizedModule {
-    state: ModuleState,
-    place: RingPlace,
-    /// What the answer 177 has.
-    errors: ErrorCounts,
-    /// It makes the module as long as so many words of 64 bits.
-    reserved: [u8; 6],
-}
 
 /// Starts a module that answers `id` where it is asked for its identification (own profile: one
 /// octet), and whose blocks have at most `per_block` entries, 1 to 255 (TEES 2009: 255). Each octet
@@ -135,17 +123,17 @@ pub extern "C" fn fio2070_sized_module_receive(
 /// As `fio_module::ModuleState::flags`.
 #[unsafe(no_mangle)]
 pub extern "C" fn fio2070_sized_module_flags(device: &SizedModule) -> u8
-    ensures { (settings : Settings) (slots : List (List ℕ)) (history : History)
+    ensures { (settings : Settings) (slots : List (List ℕ)) (history : DeviceHistory)
         → IsSizedModuleAfter settings device.now slots history
         → result ≡ flags_of (life_of (events_reached history)) }
 {
     device.state.flags()
 }
 
-/// The error counts, as the answer 177 has them.
+/// Returns the error counts, as the answer 177 has them.
 #[unsafe(no_mangle)]
 pub extern "C" fn fio2070_sized_module_errors(device: &SizedModule) -> ErrorCounts
-    ensures { (settings : Settings) (slots : List (List ℕ)) (history : History)
+    ensures { (settings : Settings) (slots : List (List ℕ)) (history : DeviceHistory)
         → IsSizedModuleAfter settings device.now slots history
         → result ≡ errors_of history }
 {
@@ -155,28 +143,28 @@ pub extern "C" fn fio2070_sized_module_errors(device: &SizedModule) -> ErrorCoun
 /// As `fio_module::Module::outputs`.
 #[unsafe(no_mangle)]
 pub extern "C" fn fio2070_sized_module_outputs(device: &SizedModule) -> Outputs
-    ensures { (settings : Settings) (slots : List (List ℕ)) (history : History)
+    ensures { (settings : Settings) (slots : List (List ℕ)) (history : DeviceHistory)
         → IsSizedModuleAfter settings device.now slots history
         → result ≡ outputs_of (life_of (events_reached history)) }
 {
     device.state.outputs()
 }
 
-/// The timeout of the watchdog in milliseconds, 10 to 100, or 0 before the first command that sets
-/// it.
+/// Returns the timeout of the watchdog in milliseconds, 10 to 100: 0 before the first command that
+/// sets it.
 #[unsafe(no_mangle)]
 pub extern "C" fn fio2070_sized_module_watchdog_ms(device: &SizedModule) -> u8
-    ensures { (settings : Settings) (slots : List (List ℕ)) (history : History)
+    ensures { (settings : Settings) (slots : List (List ℕ)) (history : DeviceHistory)
         → IsSizedModuleAfter settings device.now slots history
         → result ≡ unwrap_or (watchdog_of (life_of (events_reached history))) 0 }
 {
     device.state.watchdog_ms().unwrap_or(0)
 }
 
-/// The milliseconds counted, modulo 2^32 (TEES 2009).
+/// Returns the milliseconds counted, modulo 2^32 (TEES 2009).
 #[unsafe(no_mangle)]
 pub extern "C" fn fio2070_sized_module_counter(device: &SizedModule) -> u32
-    ensures { (settings : Settings) (slots : List (List ℕ)) (history : History)
+    ensures { (settings : Settings) (slots : List (List ℕ)) (history : DeviceHistory)
         → IsSizedModuleAfter settings device.now slots history
         → result ≡ counter_of (life_of (events_reached history)) }
 {
@@ -186,7 +174,7 @@ pub extern "C" fn fio2070_sized_module_counter(device: &SizedModule) -> u32
 /// As `fio_module::Module::filtered`.
 #[unsafe(no_mangle)]
 pub extern "C" fn fio2070_sized_module_filtered(device: &SizedModule) -> u64
-    ensures { (settings : Settings) (slots : List (List ℕ)) (history : History)
+    ensures { (settings : Settings) (slots : List (List ℕ)) (history : DeviceHistory)
         → IsSizedModuleAfter settings device.now slots history
         → (input : ℕ) → input < INPUTS
         → is_set result input ≡ input_state input (filter_events (life_of (events_reached history))) }
@@ -197,17 +185,17 @@ pub extern "C" fn fio2070_sized_module_filtered(device: &SizedModule) -> u64
 /// As `fio_module::ModuleState::raw`.
 #[unsafe(no_mangle)]
 pub extern "C" fn fio2070_sized_module_raw(device: &SizedModule) -> u64
-    ensures { (settings : Settings) (slots : List (List ℕ)) (history : History)
+    ensures { (settings : Settings) (slots : List (List ℕ)) (history : DeviceHistory)
         → IsSizedModuleAfter settings device.now slots history
         → result ≡ raw_levels (filter_events (life_of (events_reached history))) }
 {
     device.state.raw()
 }
 
-/// How many entries wait for a poll, at most `capacity`, the length of their array.
+/// Returns the number of entries that wait for a poll, at most `capacity`, the length of their array.
 #[unsafe(no_mangle)]
 pub extern "C" fn fio2070_sized_module_waiting(device: &SizedModule, capacity: usize) -> usize
-    ensures { (settings : Settings) (slots : List (List ℕ)) (history : History)
+    ensures { (settings : Settings) (slots : List (List ℕ)) (history : DeviceHistory)
         → length slots ≡ capacity → IsSizedModuleAfter settings device.now slots history
         → result ≡ min settings.waiting
         (length (log_of (life_of (events_reached history))) - newest_end settings (life_of (events_reached history))) }

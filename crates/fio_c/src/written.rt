@@ -1,7 +1,7 @@
 //! Octets in a buffer of the caller.
 ghost use Rattle.std.specs.Prelude.{◌≡◌, ◌<◌, ◌≤◌, ◌+◌, ◌∷◌, length};
 ghost use Rattle.fio_message.specs.declared.limits.TheConstants.{BODY_OCTETS};
-ghost use Rattle.fio_c.specs.Written.{Writes, WritesNothing, buffer_with};
+ghost use Rattle.fio_flat.specs.Written.{Writes, WritesNothing, buffer_with};
 
 use fio_message::BODY_OCTETS;
 
@@ -38,7 +38,8 @@ pub(crate) fn write_with_body(code: u8, body: &[u8], out: &mut [u8]) -> usize
     }
 }
 
-/// How many octets a message has that is its type and a body of so many: 0 for more than 772.
+/// Returns 1 + `count`, the length of a message that is its type and a body of `count` octets: 0 for more
+/// than 772.
 pub(crate) fn length_with_body(count: usize) -> usize
     ensures fits { count ≤ BODY_OCTETS → result ≡ 1 + count }
     ensures long { BODY_OCTETS < count → result ≡ 0 }

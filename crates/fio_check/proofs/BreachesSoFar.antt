@@ -1,17 +1,6 @@
 -- What a check has found once it has gone through the first lines of a transcript.
-use Rattle.std.proofs.Common.{◌≡◌, ◌≤◌, ◌∙◌, ℕ, suc, List, Option, Some, None, refl, sym, ap, ap₂, arith, length}
-use Rattle.std.specs.Prelude.{option_map, slice_get, unwrap_or}
-use Rattle.std.specs.Option.{option_or}
-use Rattle.fio_check.specs.Facts.{facts_at, facts_with}
-use Rattle.fio_check.specs.Lines.{TranscriptLine}
-use Rattle.fio_check.specs.Observations.{observation_on}
-use Rattle.fio_check.specs.Places.{earliest_above}
-use Rattle.fio_check.specs.Rules.{first_broken, rule_broken}
-use Rattle.fio_check.specs.Verdicts.{breach_at, verdict_on}
+use Rattle.fio_check.proofs.Names.{◌≡◌, ◌≤◌, ◌∙◌, ℕ, suc, List, Option, Some, None, refl, sym, ap, ap₂, arith, length, option_map, slice_get, unwrap_or, option_or, facts_at, facts_with, TranscriptLine, observation_on, earliest_above, first_broken, rule_broken, breach_at, verdict_on, Rule, Verdict, Good, Broken}
 use Rattle.fio_check.specs.declared.facts.Facts.{Facts}
-use Rattle.fio_check.specs.declared.rules.Rule.{Rule}
-use Rattle.fio_check.specs.declared.verdict.Verdict.{Verdict}
-use Rattle.fio_check.specs.declared.verdict.Verdict.TheVariants.{Good, Broken}
 use Rattle.fio_check.proofs.KeptFacts.{facts_next, seen_at}
 use Rattle.fio_check.proofs.Verdicts.{breach-is, earliest_stays}
 

@@ -1,23 +1,11 @@
 -- The checker, one line at a time.
-use Rattle.std.proofs.Common.{◌≡◌, ◌≤◌, ◌<◌, inl, inr, ◌∙◌, ◌+◌, ℕ, zero, suc, Bool, true, false, List, [], ◌∷◌, Option, Some, None, refl, sym, ap, arith, length, drop}
-use Rattle.std.specs.Prelude.{is_some, option_map, option_and_then, slice_get, unwrap_or, if◌then◌else◌}
-use Rattle.std.specs.Option.{option_or}
-use Rattle.std.proofs.lemmas.Option.{slice_get_cases}
+use Rattle.fio_check.proofs.Names.{◌≡◌, ◌≤◌, ◌<◌, inl, inr, ◌∙◌, ◌+◌, ℕ, zero, suc, Bool, true, false, List, [], ◌∷◌, Option, Some, None, refl, sym, ap, arith, length, drop, is_some, option_map, option_and_then, slice_get, unwrap_or, if◌then◌else◌, option_or, slice_get_cases, facts_at, facts_with, number_polled, TranscriptLine, observation_at, earliest_above, first_broken, rule_broken, breach_at, verdict_on, Rule, Verdict, Good, Broken}
 use Rattle.fio_check.specs.Checkers.{HasNoPollBetween, GoesOn, breach_of, checker_at, checker_below_breach, checker_with, due_in, found_at, found_by, new_checker, passes_over, verdict_found_at, verdict_of_checker}
-use Rattle.fio_check.specs.Facts.{facts_at, facts_with, number_polled}
-use Rattle.fio_check.specs.Lines.{TranscriptLine}
-use Rattle.fio_check.specs.Observations.{observation_at}
-use Rattle.fio_check.specs.Places.{earliest_above}
-use Rattle.fio_check.specs.Rules.{first_broken, rule_broken}
-use Rattle.fio_check.specs.Verdicts.{breach_at, verdict_on}
 use Rattle.fio_check.specs.declared.checker.Breach.{Breach}
 use Rattle.fio_check.specs.declared.checker.Checker.{Checker}
 use Rattle.fio_check.specs.declared.facts.Facts.{Facts}
 use Rattle.fio_check.specs.declared.observation.Observation.{Observation}
 use Rattle.fio_check.specs.declared.observation.Observation.TheVariants.{Unreadable, Poll, Command, Block, Answer}
-use Rattle.fio_check.specs.declared.rules.Rule.{Rule}
-use Rattle.fio_check.specs.declared.verdict.Verdict.{Verdict}
-use Rattle.fio_check.specs.declared.verdict.Verdict.TheVariants.{Good, Broken}
 use Rattle.fio_check.proofs.KeptFacts.{facts_next, seen_at}
 use Rattle.fio_check.proofs.Verdicts.{below-or-at, breach-is}
 

@@ -1,22 +1,9 @@
 -- The first breach of a transcript's events, found event by event.
-use Rattle.std.proofs.Common.{◌≡◌, ◌<◌, ◌≤◌, ◌∙◌, ℕ, zero, suc, ◌+◌, Bool, List, [], ◌∷◌, ◌++◌, length, drop, take, map, Option, Some, None, true, false, refl, sym, ap, ap₂, arith, append_assoc, append-nil, length-append}
-use Rattle.std.specs.Prelude.{fold, option_map, option_and_then, slice_get, if◌then◌else◌}
-use Rattle.std.specs.List.{flat_map}
-use Rattle.std.specs.Option.{option_or}
+use Rattle.fio_check.proofs.Names.{◌≡◌, ◌<◌, ◌≤◌, ◌∙◌, ℕ, zero, suc, ◌+◌, Bool, List, [], ◌∷◌, ◌++◌, length, drop, take, map, Option, Some, None, true, false, refl, sym, ap, ap₂, arith, append_assoc, append-nil, length-append, fold, option_map, option_and_then, slice_get, if◌then◌else◌, flat_map, option_or, slice_get_within, Block, says_lost, says_more, item_of, items_of_block, Item, Entry, Gap, ContentFacts, content_at, content_with, breach_among, ContentEvent, LineEvent, Polled, Loaded, Configured, Accepted, Recorded, Ended, events_of_block, item_of_event, recorded_items, earliest_above}
 use Rattle.std.proofs.lemmas.List.{drop_at, flat_map_more, length-map, take_at}
-use Rattle.std.proofs.lemmas.Option.{slice_get_within}
 use Rattle.fio_message.specs.declared.fields.Entry.{Entry as EntryOf}
-use Rattle.fio_message.specs.Blocks.{Block}
-use Rattle.fio_message.specs.Status.{says_lost, says_more}
 use Rattle.fio_input.specs.Widening.{wide_time_of}
-use Rattle.fio_cpu.specs.Record.{item_of, items_of_block}
-use Rattle.fio_cpu.specs.declared.record.Item.{Item}
-use Rattle.fio_cpu.specs.declared.record.Item.TheVariants.{Entry, Gap}
-use Rattle.fio_check.specs.ContentAbove.{ContentFacts, content_at, content_with}
-use Rattle.fio_check.specs.ContentCheckers.{breach_among, breach_found, index_below}
-use Rattle.fio_check.specs.ContentEvents.{ContentEvent, LineEvent, Polled, Loaded, Configured, Accepted, Recorded, Ended, events_of_block, item_of_event, items_in}
 use Rattle.fio_check.specs.ContentRules.{BrokenEntry, content_breach_at, breach_of_event, first_content_broken}
-use Rattle.fio_check.specs.Places.{earliest_above}
 use Rattle.fio_check.specs.declared.content.ContentBreach.{ContentBreach}
 use Rattle.fio_check.specs.declared.content_rules.ContentRule.{ContentRule}
 use Rattle.fio_check.proofs.ContentPlaces.{content_next}
@@ -54,12 +41,12 @@ broken_among facts items line (event ∷ events) =
 -- what is known above a place
 pub record IsContentCourse (all : List LineEvent) (place : ℕ) (facts : ContentFacts) (items : List Item) (broken : Option BrokenEntry) : Type 0 where
   pub facts_are : content_at all place ≡ facts
-  pub items_are : items_in (take place all) ≡ items
+  pub items_are : recorded_items (take place all) ≡ items
   pub broken_is : earliest_above (content_breach_at all) place ≡ broken
   pub within : place ≤ length all
 
 breach-here : (all : List LineEvent) (place line : ℕ) (event : ContentEvent) (facts : ContentFacts) (items : List Item) → content_at all place ≡ facts
-    → items_in (take place all) ≡ items → breach_of_event all place line event ≡ broken_by facts items line event
+    → recorded_items (take place all) ≡ items → breach_of_event all place line event ≡ broken_by facts items line event
 breach-here all place line (Recorded (Entry input level stamp wide)) facts items f i =
     ap₂ (λ above known. option_map (λ rule. record { line = line; input = input; rule = rule; above = known }) (first_content_broken above input (record { level = level; wide = wide }))) f i
 breach-here all place line (Recorded Gap) facts items f i = refl
@@ -81,7 +68,7 @@ one_event all rest place line event facts items broken left course =
     let below : place < length all = slice_get_within all place (tagged line event) cut.0 in
     record {
       facts_are = content_next all place (tagged line event) cut.0 ∙ ap (λ above. content_with above event) course.facts_are;
-      items_are = ap items_in cut.2 ∙ sym (flat_map_more (λ found. item_of_event found.event) [] (take place all) (tagged line event)) ∙ ap (λ known. known ++ item_of_event event) course.items_are;
+      items_are = ap recorded_items cut.2 ∙ sym (flat_map_more (λ found. item_of_event found.event) [] (take place all) (tagged line event)) ∙ ap (λ known. known ++ item_of_event event) course.items_are;
       broken_is = ap₂ option_or course.broken_is
           (ap (option_and_then (λ found. breach_of_event all place found.line found.event)) cut.0 ∙ breach-here all place line event facts items course.facts_are course.items_are);
       within = omega (arith, below);

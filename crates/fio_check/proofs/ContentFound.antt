@@ -1,16 +1,6 @@
 -- What a checker of the rules on content finds first is the first broken entry of the transcript.
-use Rattle.std.proofs.Common.{◌≡◌, ◌∙◌, ℕ, suc, List, [], ◌∷◌, ◌++◌, length, drop, map, Option, Some, None, refl, sym, ap, ap₂, arith, length-drop}
-use Rattle.std.specs.Prelude.{option_map}
-use Rattle.std.specs.List.{flat_map}
-use Rattle.std.specs.Option.{option_or}
-use Rattle.fio_cpu.specs.declared.record.Item.{Item}
-use Rattle.fio_cpu.specs.declared.record.Item.TheVariants.{Entry, Gap}
-use Rattle.fio_check.specs.ContentAbove.{ContentFacts, content_with}
-use Rattle.fio_check.specs.ContentCheckers.{ContentKept, FoundEntry, breach_among, breach_found, found_first, entry_found, found_on, index_below, kept_with, nothing_kept}
-use Rattle.fio_check.specs.ContentEvents.{ContentEvent, LineEvent, Polled, Loaded, Configured, Accepted, Recorded, Ended, events_below, events_in, events_of_lines, item_of_event}
+use Rattle.fio_check.proofs.Names.{◌≡◌, ◌∙◌, ℕ, List, [], ◌∷◌, ◌++◌, length, drop, Option, Some, None, refl, sym, ap, ap₂, arith, length-drop, option_map, flat_map, option_or, Item, Entry, Gap, ContentFacts, content_with, ContentKept, breach_among, breach_found, found_first, entry_found, found_on, index_below, kept_with, nothing_kept, ContentEvent, LineEvent, Polled, Loaded, Configured, Accepted, Recorded, Ended, events_below, events_in, events_of_lines, item_of_event, TranscriptLine, earliest_above}
 use Rattle.fio_check.specs.ContentRules.{BrokenEntry, broken_entry_in, content_breach_at, first_content_broken}
-use Rattle.fio_check.specs.Lines.{TranscriptLine}
-use Rattle.fio_check.specs.Places.{earliest_above}
 use Rattle.fio_check.specs.declared.content_rules.ContentRule.{ContentRule}
 use Rattle.fio_check.proofs.ContentCourse.{IsContentCourse, broken_among, broken_by, first_course, frame_course, option_or_assoc}
 

@@ -1,18 +1,9 @@
 -- What is kept event by event is what is above the next event.
-use Rattle.std.proofs.Common.{◌≡◌, ◌<◌, ◌≤◌, ◌∙◌, ℕ, zero, suc, inl, inr, Bool, true, false, List, Option, Some, None, refl, sym, ap, ap₂, arith}
-use Rattle.std.specs.Prelude.{◌==◌, if◌then◌else◌, is_some, nat_lt, not, option_map, option_and_then, slice_get}
-use Rattle.std.specs.Option.{option_or}
+use Rattle.fio_check.proofs.Names.{◌≡◌, ◌<◌, ◌∙◌, ℕ, suc, Bool, true, false, List, Option, Some, None, refl, sym, ap, ap₂, arith, ◌==◌, if◌then◌else◌, nat_lt, not, option_map, option_and_then, slice_get, option_or, nat_tests, Entry, Gap, FilterPair, LatestEntry, TimedState, cleared_at, clear_since, content_at, content_with, entry_recorded, filters_of, first_poll, first_poll_at, is_asking, is_clear_end, is_poll, is_quiet_since, items_configured, latest_of, latest_said, unquiet, ContentEvent, LineEvent, Polled, Loaded, Configured, Accepted, Recorded, Ended, content_event_at, IsLatestAbove, Placed, is_some_and, latest_above}
 use Rattle.std.proofs.Math.Path.{fun_ext}
-use Rattle.std.proofs.lemmas.Bool.Decides.{nat_tests}
-use Rattle.std.proofs.lemmas.Option.{same_Some}
 use Rattle.fio_message.specs.declared.fields.InputItem.{InputItem}
 use Rattle.fio_input.specs.FilterHistory.{last_item_of}
-use Rattle.fio_cpu.specs.declared.record.Item.TheVariants.{Entry, Gap}
-use Rattle.fio_check.specs.ContentAbove.{ContentFacts, FilterPair, LatestEntry, TimedState, cleared_at, clear_since, content_at, content_with, entry_recorded, filters_of, first_poll, first_poll_at, is_asking, is_clear_end, is_poll, is_quiet_since, items_configured, latest_of, latest_said, unquiet}
-use Rattle.fio_check.specs.ContentEvents.{ContentEvent, LineEvent, Polled, Loaded, Configured, Accepted, Recorded, Ended, event_at}
 use Rattle.fio_check.specs.ContentLaws.{KeepsContent}
-use Rattle.fio_check.specs.Laws.{IsLatestAbove}
-use Rattle.fio_check.specs.Places.{Placed, is_some_and, latest_above}
 use Rattle.fio_check.proofs.Places.{is_the_latest}
 
 -- ---- the places that are found are above
@@ -29,7 +20,7 @@ first-below : (events : List LineEvent) (place first : ℕ) (found : Option (Pla
     → option_map (λ poll. poll.value) found ≡ Some first → first < place
 first-below events place first (Some poll) is value =
     let latest = latest-here (first_poll_at events) place poll is in
-    let same : poll.value ≡ poll.place = poll-place (is_some_and (event_at events poll.place) is_poll) (is_asking events poll.place) poll.place poll.value latest.here in
+    let same : poll.value ≡ poll.place = poll-place (is_some_and (content_event_at events poll.place) is_poll) (is_asking events poll.place) poll.place poll.value latest.here in
     let above : poll.place < place = latest.above in
     let first_is : poll.value ≡ first = cc in
     omega (arith, same, above, first_is)
@@ -46,7 +37,7 @@ clear-below : (events : List LineEvent) (place first : ℕ) (found : Option (Pla
     → option_and_then (λ block. block.value) found ≡ Some first → first < place
 clear-below events place first (Some block) is value =
     let latest = latest-here (cleared_at events) place block is in
-    let same : block.value ≡ first_poll events block.place = cleared-value (is_some_and (event_at events block.place) is_clear_end) (first_poll events block.place) block.value latest.here in
+    let same : block.value ≡ first_poll events block.place = cleared-value (is_some_and (content_event_at events block.place) is_clear_end) (first_poll events block.place) block.value latest.here in
     let above : block.place < place = latest.above in
     let polled : first < block.place = first_poll_below events block.place first (sym same ∙ value) in
     omega (arith, polled, above)
@@ -64,7 +55,7 @@ less-false : (a b : ℕ) → b < a → nat_lt a b ≡ false
 less-false a b below = grind (arith, nat_tests)
 
 -- below a configuration
-configured-quiet : (events : List LineEvent) (place : ℕ) (items : List InputItem) (since : Option ℕ) → event_at events place ≡ Some (Configured items)
+configured-quiet : (events : List LineEvent) (place : ℕ) (items : List InputItem) (since : Option ℕ) → content_event_at events place ≡ Some (Configured items)
     → ((first : ℕ) → since ≡ Some first → first < place) → is_quiet_since events since (suc place) ≡ false
 configured-quiet events place items (Some first) is below = rw (is, less-true first place (below first refl)) refl
 configured-quiet events place items None is below = refl
@@ -73,7 +64,7 @@ configured-quiet events place items None is below = refl
 polled-quiet : (events : List LineEvent) (place : ℕ) (found : Option (Placed (List InputItem))) → latest_said items_configured events place ≡ found
     → not (is_some_and found (λ sent. nat_lt place sent.place)) ≡ true
 polled-quiet events place (Some sent) is =
-    let latest = latest-here (λ above. option_and_then items_configured (event_at events above)) place sent is in
+    let latest = latest-here (λ above. option_and_then items_configured (content_event_at events above)) place sent is in
     let above : sent.place < place = latest.above in
     rw (less-false place sent.place above) refl
 polled-quiet events place None is = refl
@@ -81,7 +72,7 @@ polled-quiet events place None is = refl
 -- ---- one event more
 
 -- at a poll: whether one was sent before it for the same block
-polled-next : (events : List LineEvent) (place : ℕ) (asking : Bool) → is_asking events place ≡ asking → event_at events place ≡ Some Polled
+polled-next : (events : List LineEvent) (place : ℕ) (asking : Bool) → is_asking events place ≡ asking → content_event_at events place ≡ Some Polled
     → is_quiet_since events (first_poll events (suc place)) (suc place)
     ≡ (if asking then is_quiet_since events (first_poll events place) place else true)
 polled-next events place true asking is = rw (is, asking) refl
@@ -99,52 +90,52 @@ unquiet-value events place above (Some entry) is = ap (λ quiet. Some (record { 
 unquiet-value events place above None is = refl
 
 unquiet-next : (events : List LineEvent) (place : ℕ) (items : List InputItem) (input : ℕ) (found : Option (Placed (Option TimedState)))
-    → event_at events place ≡ Some (Configured items) → latest_said (entry_recorded input) events place ≡ found
+    → content_event_at events place ≡ Some (Configured items) → latest_said (entry_recorded input) events place ≡ found
     → option_and_then (latest_of events (suc place)) found ≡ option_map unquiet (option_and_then (latest_of events place) found)
 unquiet-next events place items input None is at = refl
 unquiet-next events place items input (Some found) is at =
-    let latest = latest-here (λ above. option_and_then (entry_recorded input) (event_at events above)) place found at in
+    let latest = latest-here (λ above. option_and_then (entry_recorded input) (content_event_at events above)) place found at in
     let above : found.place < place = latest.above in
     unquiet-value events place found.place found.value
     (configured-quiet events place items (clear_since events found.place) is
     (λ first since. let below : first < found.place = clear_since_below events found.place first since in omega (arith, above, below)))
 
-configured-latest : (events : List LineEvent) (place : ℕ) (items : List InputItem) → event_at events place ≡ Some (Configured items)
+configured-latest : (events : List LineEvent) (place : ℕ) (items : List InputItem) → content_event_at events place ≡ Some (Configured items)
     → (content_at events (suc place)).latest ≡ (λ input. option_map unquiet ((content_at events place).latest input))
 configured-latest events place items is = fun_ext (λ input.
     let same : latest_said (entry_recorded input) events (suc place) ≡ latest_said (entry_recorded input) events place = rw is refl in
     ap (option_and_then (latest_of events (suc place))) same
     ∙ unquiet-next events place items input (latest_said (entry_recorded input) events place) is refl)
 
-same-latest : (events : List LineEvent) (place : ℕ) (event : ContentEvent) → event_at events place ≡ Some event → items_configured event ≡ None
+same-latest : (events : List LineEvent) (place : ℕ) (event : ContentEvent) → content_event_at events place ≡ Some event → items_configured event ≡ None
     → latest_of events (suc place) ≡ latest_of events place
 same-latest events place event is none = fun_ext (λ found. rw (is, none) refl)
 
-recorded-latest : (events : List LineEvent) (place input stamp wide : ℕ) (level : Bool) → event_at events place ≡ Some (Recorded (Entry input level stamp wide))
+recorded-latest : (events : List LineEvent) (place input stamp wide : ℕ) (level : Bool) → content_event_at events place ≡ Some (Recorded (Entry input level stamp wide))
     → (content_at events (suc place)).latest
     ≡ (λ other. if other == input then Some (record { level = level; wide = wide; quiet = (content_at events place).clear_quiet }) else (content_at events place).latest other)
 recorded-latest events place input stamp wide level is = fun_ext (λ other.
     ap (λ latest. option_and_then latest (latest_said (entry_recorded other) events (suc place))) (same-latest events place (Recorded (Entry input level stamp wide)) is refl)
     ∙ rw is (entry-next (other == input) place (record { level = level; wide = wide }) (latest_said (entry_recorded other) events place) (latest_of events place)))
 
-ended-clear : (events : List LineEvent) (place : ℕ) (more : Bool) → event_at events place ≡ Some (Ended more)
+ended-clear : (events : List LineEvent) (place : ℕ) (more : Bool) → content_event_at events place ≡ Some (Ended more)
     → is_quiet_since events (clear_since events (suc place)) (suc place)
     ≡ (if more then is_quiet_since events (clear_since events place) place else is_quiet_since events (first_poll events place) place)
 ended-clear events place true is = rw is refl
 ended-clear events place false is = rw is refl
 
 -- an event that neither configures nor records an entry
-kept-latest : (events : List LineEvent) (place : ℕ) (event : ContentEvent) → event_at events place ≡ Some event → items_configured event ≡ None
+kept-latest : (events : List LineEvent) (place : ℕ) (event : ContentEvent) → content_event_at events place ≡ Some event → items_configured event ≡ None
     → ((input : ℕ) → entry_recorded input event ≡ None) → (content_at events (suc place)).latest ≡ (content_at events place).latest
 kept-latest events place event is none no_entry = fun_ext (λ input.
     ap₂ option_and_then (same-latest events place event is none) (rw (is, no_entry input) refl))
 
 -- an event that configures nothing
-kept-filters : (events : List LineEvent) (place : ℕ) (event : ContentEvent) → event_at events place ≡ Some event → items_configured event ≡ None
+kept-filters : (events : List LineEvent) (place : ℕ) (event : ContentEvent) → content_event_at events place ≡ Some event → items_configured event ≡ None
     → (content_at events (suc place)).filters ≡ (content_at events place).filters
 kept-filters events place event is none = fun_ext (λ input. rw (is, none) refl)
 
-configured-filters : (events : List LineEvent) (place : ℕ) (items : List InputItem) → event_at events place ≡ Some (Configured items)
+configured-filters : (events : List LineEvent) (place : ℕ) (items : List InputItem) → content_event_at events place ≡ Some (Configured items)
     → (content_at events (suc place)).filters ≡ (λ input. option_map filters_of (last_item_of input items))
 configured-filters events place items is = fun_ext (λ input. rw is refl)
 
@@ -153,7 +144,7 @@ with-both : (events : List LineEvent) (place : ℕ) (filters : ℕ → Option Fi
 with-both events place filters latest f l = ap₂ (λ a b. record (content_at events (suc place)) { filters = a; latest = b }) f l
 
 -- the facts with an event more
-content-next : (events : List LineEvent) (place : ℕ) (event : ContentEvent) → event_at events place ≡ Some event
+content-next : (events : List LineEvent) (place : ℕ) (event : ContentEvent) → content_event_at events place ≡ Some event
     → content_at events (suc place) ≡ content_with (content_at events place) event
 content-next events place Polled is =
     let now = content_at events place in
@@ -194,7 +185,7 @@ content-next events place (Ended more) is =
     ∙ rw is refl
 
 -- the event at a place
-event_of : (events : List LineEvent) (place : ℕ) (found : LineEvent) → slice_get events place ≡ Some found → event_at events place ≡ Some found.event
+event_of : (events : List LineEvent) (place : ℕ) (found : LineEvent) → slice_get events place ≡ Some found → content_event_at events place ≡ Some found.event
 event_of events place found here = rw here refl
 
 pub content_next : (events : List LineEvent) (place : ℕ) (found : LineEvent) → slice_get events place ≡ Some found

@@ -1,6 +1,5 @@
 -- A search of the first that passes a test, from a place on.
-use Rattle.std.proofs.Common.{◌≡◌, ◌<◌, ◌∙◌, ◌+◌, ℕ, Bool, false, List, Some, ap, cond, length, drop, get_or}
-use Rattle.std.specs.Prelude.{find}
+use Rattle.fio_check.proofs.Names.{◌≡◌, ◌<◌, ◌∙◌, ◌+◌, ℕ, Bool, false, List, Some, ap, cond, length, drop, get_or, find}
 use Rattle.std.proofs.lemmas.List.{at_drop_more}
 
 -- one that does not pass it

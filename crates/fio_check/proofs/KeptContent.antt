@@ -1,23 +1,11 @@
 -- What the fields of the checker of the rules on content stand for, with one event more.
-use Rattle.std.proofs.Common.{◌≡◌, ◌<◌, ◌≢◌, ◌∙◌, ℕ, zero, suc, inl, inr, Bool, true, false, List, [], ◌∷◌, Option, Some, None, refl, sym, ap, ap₂, length, get_or, set, replicate, get_or-set_same, get_or-set_other}
-use Rattle.std.specs.Prelude.{◌==◌, not, if◌then◌else◌, option_map, ◌+◌, ◌%◌, ◌++◌, map, fold}
-use Rattle.std.specs.Option.{option_or}
+use Rattle.fio_check.proofs.Names.{◌≡◌, ◌<◌, ◌≢◌, ◌∙◌, ℕ, zero, suc, inl, inr, Bool, true, false, List, [], ◌∷◌, Option, Some, None, refl, sym, ap, ap₂, length, get_or, set, replicate, get_or-set_same, get_or-set_other, ◌==◌, not, if◌then◌else◌, option_map, ◌+◌, ◌%◌, ◌++◌, map, fold, option_or, eqb_tells, Block, block_answer, says_lost, says_more, gap_if, item_of, Item, Entry, Gap, ContentFacts, FilterPair, LatestEntry, content_with, filters_of, unquiet, ContentKept, breach_among, breach_found, index_below, kept_below, ContentEvent, Recorded, Ended, events_of_answer, events_of_block, number_with_answer, filters_added, filters_in, is_flagged, latest_added, latest_in, flagged_number}
 use Rattle.std.proofs.Math.Path.{fun_ext}
 use Rattle.std.proofs.lemmas.List.Sums.{fold-append}
-use Rattle.std.proofs.lemmas.Bool.Decides.{eqb_tells}
 use Rattle.fio_message.specs.declared.fields.InputItem.{InputItem}
 use Rattle.fio_input.specs.FilterHistory.{last_item_of}
 use Rattle.fio_message.specs.declared.fields.Entry.{Entry as EntryOf}
 use Rattle.fio_message.specs.declared.answers.Answer.{Answer}
-use Rattle.fio_message.specs.Blocks.{Block, block_answer}
-use Rattle.fio_message.specs.Status.{says_lost, says_more}
-use Rattle.fio_cpu.specs.Record.{gap_if, item_of}
-use Rattle.fio_cpu.specs.declared.record.Item.{Item}
-use Rattle.fio_cpu.specs.declared.record.Item.TheVariants.{Entry, Gap}
-use Rattle.fio_check.specs.ContentAbove.{ContentFacts, FilterPair, LatestEntry, content_with, filters_of, unquiet}
-use Rattle.fio_check.specs.ContentCheckers.{ContentKept, breach_among, breach_found, index_below, kept_below}
-use Rattle.fio_check.specs.ContentEvents.{ContentEvent, Recorded, Ended, events_of_answer, events_of_block, number_with_answer}
-use Rattle.fio_check.specs.ContentKept.{filters_added, filters_in, is_flagged, latest_added, latest_in, number_in}
 use Rattle.fio_check.specs.declared.content.ContentBreach.{ContentBreach}
 
 pub zeros : (n place : ℕ) → ◌≡◌ {A = ℕ} (get_or (replicate n 0) place 0) 0
@@ -135,8 +123,8 @@ block_next facts facts' after number status stamp entries above next =
 same-number : (number : ℕ) → (number == number) ≡ true
 same-number number = elim (eqb_tells number number) as (λ _. (number == number) ≡ true) [ inl same ↦ same.0 | inr other ↦ absurd (other.1 refl) ]
 
-pub number_there : (has number : ℕ) → has ≢ 0 → number_in has number ≡ Some number
-number_there has number there = elim (eqb_tells has 0) as (λ _. number_in has number ≡ Some number) [ inl none ↦ absurd (there none.1) | inr some ↦ rw some.0 refl ]
+pub number_there : (has number : ℕ) → has ≢ 0 → flagged_number has number ≡ Some number
+number_there has number there = elim (eqb_tells has 0) as (λ _. flagged_number has number ≡ Some number) [ inl none ↦ absurd (there none.1) | inr some ↦ rw some.0 refl ]
 
 -- a block with the CPU's number is taken
 pub taken_found : (number : Option ℕ) (facts : ContentFacts) (answer : Answer) (block : Block) (found : Option ContentBreach)

@@ -1,10 +1,5 @@
 -- What is kept line by line is what is above the next line.
-use Rattle.std.proofs.Common.{◌≡◌, ℕ, suc, List, Some, refl}
-use Rattle.std.specs.Prelude.{◌==◌, not, slice_get}
-use Rattle.fio_check.specs.Facts.{facts_at, facts_with, latest_poll}
-use Rattle.fio_check.specs.Laws.{KeepsFacts}
-use Rattle.fio_check.specs.Lines.{TranscriptLine}
-use Rattle.fio_check.specs.Observations.{observation_at, observation_on}
+use Rattle.fio_check.proofs.Names.{◌≡◌, ℕ, suc, List, Some, refl, ◌==◌, not, slice_get, facts_at, facts_with, latest_poll, KeepsFacts, TranscriptLine, observation_at, observation_on}
 use Rattle.fio_check.specs.declared.observation.Observation.{Observation}
 use Rattle.fio_check.specs.declared.observation.Observation.TheVariants.{Unreadable, Poll, Command, Block, Answer}
 use Rattle.fio_check.proofs.Places.{is_some_and-map}

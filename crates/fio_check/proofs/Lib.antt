@@ -1,3 +1,4 @@
+pub mod Names
 pub mod FirstFound
 pub mod Places
 pub mod KeptFacts
@@ -8,4 +9,3 @@ pub mod KeptContent
 pub mod ContentPlaces
 pub mod ContentCourse
 pub mod ContentFound
-mod FrequentFrames

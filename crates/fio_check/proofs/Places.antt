@@ -1,9 +1,5 @@
 -- The latest that lines above a place say.
-use Rattle.std.proofs.Common.{◌≡◌, ◌<◌, ◌⊎◌, inl, inr, ℕ, zero, suc, Bool, Option, Some, None, refl, ap, sym, arith}
-use Rattle.std.specs.Prelude.{option_map}
-use Rattle.std.specs.Option.{option_or}
-use Rattle.fio_check.specs.Laws.{IsLatestAbove, IsTheLatest}
-use Rattle.fio_check.specs.Places.{Placed, is_some_and, latest_above}
+use Rattle.fio_check.proofs.Names.{◌≡◌, ◌<◌, ◌⊎◌, inl, inr, ℕ, zero, suc, Bool, Option, Some, None, refl, ap, sym, arith, option_map, option_or, IsLatestAbove, IsTheLatest, Placed, is_some_and, latest_above}
 use Rattle.fio_check.proofs.Verdicts.{below-or-at}
 
 -- a test of a mapped option tests what is mapped

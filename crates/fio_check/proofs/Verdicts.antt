@@ -1,18 +1,6 @@
 -- The verdict on a transcript as a function, and as the relation that says what it means.
-use Rattle.std.proofs.Common.{◌≡◌, ◌<◌, ◌≤◌, ◌⊎◌, inl, inr, ℕ, zero, suc, true, Option, Some, None, List, refl, ap, ap₂, sym, ◌∙◌, arith, length}
-use Rattle.std.specs.Prelude.{is_some, option_map, option_and_then, slice_get, unwrap_or}
-use Rattle.std.specs.Option.{option_or}
+use Rattle.fio_check.proofs.Names.{◌≡◌, ◌<◌, ◌≤◌, ◌⊎◌, inl, inr, ℕ, zero, suc, true, Option, Some, None, List, refl, ap, ap₂, sym, ◌∙◌, arith, length, is_some, option_map, option_and_then, slice_get, unwrap_or, option_or, eqb_tells, same_Some, slice_get_cases, slice_get_within, TranscriptLine, earliest_above, HasOneVerdict, rule_broken, IsFirstBreach, IsVerdict, KeepsRulesAbove, breach_at, verdict_on, Rule, Verdict, Good, Broken}
 use Rattle.std.proofs.lemmas.Bool.{cases_order}
-use Rattle.std.proofs.lemmas.Bool.Decides.{eqb_tells}
-use Rattle.std.proofs.lemmas.Option.{same_Some, slice_get_cases, slice_get_within}
-use Rattle.fio_check.specs.Lines.{TranscriptLine}
-use Rattle.fio_check.specs.Places.{earliest_above}
-use Rattle.fio_check.specs.Laws.{HasOneVerdict}
-use Rattle.fio_check.specs.Rules.{rule_broken}
-use Rattle.fio_check.specs.Verdicts.{IsFirstBreach, IsVerdict, KeepsRulesAbove, breach_at, verdict_on}
-use Rattle.fio_check.specs.declared.rules.Rule.{Rule}
-use Rattle.fio_check.specs.declared.verdict.Verdict.{Verdict}
-use Rattle.fio_check.specs.declared.verdict.Verdict.TheVariants.{Good, Broken}
 
 -- ---- the earliest above a place
 

@@ -19,9 +19,9 @@ use Rattle.fio_check.specs.declared.verdict.Verdict.TheVariants.{Good, Broken}
 
 -- ---- one line
 
--- what was due, where anything was, and what came
+-- what was due, where anything was, and what the line has
 abbrev pub instead_of : Option ℕ → ℕ → Option Due
-instead_of due came = option_map (λ due. record { due = due; came = came }) due
+instead_of due actual = option_map (λ expected. record { expected = expected; actual = actual }) due
 
 -- what was due by a rule, below lines of which these facts hold: the type of an answer below a
 -- command, the number of a block answer or of a poll

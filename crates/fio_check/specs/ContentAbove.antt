@@ -3,7 +3,7 @@ use Rattle.std.specs.Prelude.{ℕ, ◌==◌, Bool, true, false, List, Option, So
 use Rattle.fio_message.specs.declared.fields.InputItem.{InputItem}
 use Rattle.fio_input.specs.FilterHistory.{last_item_of}
 use Rattle.fio_cpu.specs.declared.record.Item.TheVariants.{Entry, Gap}
-use Rattle.fio_check.specs.ContentEvents.{ContentEvent, LineEvent, Polled, Loaded, Configured, Accepted, Recorded, Ended, event_at}
+use Rattle.fio_check.specs.ContentEvents.{ContentEvent, LineEvent, Polled, Loaded, Configured, Accepted, Recorded, Ended, content_event_at}
 use Rattle.fio_check.specs.Places.{Placed, is_some_and, latest_above}
 
 -- both filters of an input, in samples
@@ -94,7 +94,7 @@ is_poll event = false
 -- the latest above a place that events say, by what one event says
 abbrev pub latest_said : {A : Type 0} → (ContentEvent → Option A) → List LineEvent → ℕ → Option (Placed A)
 latest_said says events place =
-    latest_above (λ above. option_and_then says (event_at events above)) place
+    latest_above (λ above. option_and_then says (content_event_at events above)) place
 
 -- a poll was sent below the latest block that ended
 abbrev pub is_asking : List LineEvent → ℕ → Bool
@@ -103,7 +103,7 @@ is_asking events place = is_some_and (latest_said is_polling events place) (λ t
 -- the place of a poll that is the first one for its block
 abbrev pub first_poll_at : List LineEvent → ℕ → Option ℕ
 first_poll_at events place =
-    if is_some_and (event_at events place) is_poll then (if is_asking events place then None else Some place)
+    if is_some_and (content_event_at events place) is_poll then (if is_asking events place then None else Some place)
     else None
 
 -- the place of the first poll for the block that is asked for, or for the latest block where no poll was sent below it
@@ -113,7 +113,7 @@ first_poll events place = option_map (λ poll. poll.value) (latest_above (first_
 -- of the end of a block without C: the place of the first poll for the block. The block was made at that poll or later.
 abbrev pub cleared_at : List LineEvent → ℕ → Option (Option ℕ)
 cleared_at events place =
-    if is_some_and (event_at events place) is_clear_end then Some (first_poll events place) else None
+    if is_some_and (content_event_at events place) is_clear_end then Some (first_poll events place) else None
 
 -- the place of the first poll for the latest block without C
 abbrev pub clear_since : List LineEvent → ℕ → Option ℕ

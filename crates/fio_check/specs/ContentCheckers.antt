@@ -1,5 +1,5 @@
 -- The checker of the rules on content, one frame at a time: what it finds in a frame, and what it keeps.
-use Rattle.std.specs.Prelude.{ℕ, suc, Bool, List, [], ◌∷◌, Option, Some, None, fold, option_map}
+use Rattle.std.specs.Prelude.{ℕ, suc, Bool, List, [], ◌∷◌, Option, None, fold, option_map}
 use Rattle.std.specs.Option.{option_or}
 use Rattle.fio_cpu.specs.declared.record.Item.TheVariants.{Entry}
 use Rattle.fio_check.specs.ContentAbove.{ContentFacts, content_with, no_content}

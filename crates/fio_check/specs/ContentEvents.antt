@@ -69,26 +69,26 @@ events_of_answer number (answers.Block block entries status stamp) = if is_taken
 events_of_answer number answer = []
 
 -- by the command that a frame sends, or the answer that it has
-abbrev pub number_with : Option ℕ → Option Command → Option Answer → Option ℕ
-number_with number (Some command) heard = number_with_command number command
-number_with number None (Some answer) = number_with_answer number answer
-number_with number None None = number
+abbrev pub number_after : Option ℕ → Option Command → Option Answer → Option ℕ
+number_after number (Some command) heard = number_with_command number command
+number_after number None (Some answer) = number_with_answer number answer
+number_after number None None = number
 
 -- the same of the events
-abbrev pub events_of : Option ℕ → Option Command → Option Answer → List ContentEvent
-events_of number (Some command) heard = events_of_command number command
-events_of number None (Some answer) = events_of_answer number answer
-events_of number None None = []
+abbrev pub content_events : Option ℕ → Option Command → Option Answer → List ContentEvent
+content_events number (Some command) heard = events_of_command number command
+content_events number None (Some answer) = events_of_answer number answer
+content_events number None None = []
 
 -- the number below a frame, by whether the CPU sent it
 abbrev pub number_below : Option ℕ → Bool → List ℕ → Option ℕ
 number_below number from_cpu octets =
-    number_with number (command_from from_cpu octets) (answer_from from_cpu octets)
+    number_after number (command_from from_cpu octets) (answer_from from_cpu octets)
 
 -- the events of the frame
 abbrev pub events_in : Option ℕ → Bool → List ℕ → List ContentEvent
 events_in number from_cpu octets =
-    events_of number (command_from from_cpu octets) (answer_from from_cpu octets)
+    content_events number (command_from from_cpu octets) (answer_from from_cpu octets)
 
 -- ---- all lines
 
@@ -113,8 +113,8 @@ abbrev pub events_of_lines : List TranscriptLine → List LineEvent
 events_of_lines lines = events_below None lines
 
 -- the event at a place, where there is one; the first has place 0
-abbrev pub event_at : List LineEvent → ℕ → Option ContentEvent
-event_at events place = option_map (λ found. found.event) (slice_get events place)
+abbrev pub content_event_at : List LineEvent → ℕ → Option ContentEvent
+content_event_at events place = option_map (λ found. found.event) (slice_get events place)
 
 -- an event's item, if it records one
 abbrev pub item_of_event : ContentEvent → List Item
@@ -122,5 +122,5 @@ item_of_event (Recorded item) = item ∷ []
 item_of_event event = []
 
 -- the items that events record, in order
-abbrev pub items_in : List LineEvent → List Item
-items_in events = flat_map (λ found. item_of_event found.event) events
+abbrev pub recorded_items : List LineEvent → List Item
+recorded_items events = flat_map (λ found. item_of_event found.event) events

@@ -13,8 +13,8 @@ abbrev pub is_flagged : ℕ → Bool
 is_flagged octet = not (octet == 0)
 
 -- a number that there is where a flag says so
-abbrev pub number_in : ℕ → ℕ → Option ℕ
-number_in has number = if has == 0 then None else Some number
+abbrev pub flagged_number : ℕ → ℕ → Option ℕ
+flagged_number has number = if has == 0 then None else Some number
 
 -- the latest entry of an input, by octets: the first is 0 where there is none, 1 where it has state 0, else state 1
 abbrev pub latest_in : ℕ → ℕ → ℕ → Option LatestEntry
@@ -37,7 +37,7 @@ facts_kept above = record {
   accepted = is_flagged above.accepted;
   filters = λ input. filters_in (slice_index_or above.named input 0)
       (slice_index_or above.leading input 0) (slice_index_or above.trailing input 0);
-  before = number_in above.has_before above.before;
+  before = flagged_number above.has_before above.before;
   latest = λ input. latest_in (slice_index_or above.states input 0)
       (slice_index_or above.times input 0) (slice_index_or above.quiet input 0);
 }
@@ -57,7 +57,7 @@ latest_added facts input entry = record facts {
 -- what a checker keeps
 abbrev pub content_kept : ContentChecker → ContentKept
 content_kept checker = record {
-  number = number_in checker.has_number checker.number;
+  number = flagged_number checker.has_number checker.number;
   facts = facts_kept checker.above;
 }
 

@@ -1,5 +1,5 @@
 -- Laws of the rules on content.
-use Rattle.std.specs.Prelude.{◌≡◌, ℕ, suc, List, Option, Some, slice_get}
+use Rattle.std.specs.Prelude.{◌≡◌, ℕ, suc, List, Some, slice_get}
 use Rattle.fio_check.specs.ContentAbove.{content_at, content_with, no_content}
 use Rattle.fio_check.specs.ContentEvents.{LineEvent}
 

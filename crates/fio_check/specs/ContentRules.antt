@@ -1,13 +1,13 @@
 -- The rules on content: what an entry of the record may break, of a transcript that keeps those of `Rules`.
 --
 -- Each rule is stated once, by what is above an entry and what the entry says.
-use Rattle.std.specs.Prelude.{ℕ, ◌+◌, ◌-◌, ◌%◌, ◌^◌, Bool, true, false, ◌&&◌, List, [], ◌∷◌, Option, Some, None, codes, find, length, nat_le, nat_lt, not, option_map, option_and_then, slice_get, take, if◌then◌else◌}
+use Rattle.std.specs.Prelude.{ℕ, ◌+◌, ◌-◌, ◌%◌, ◌^◌, Bool, ◌&&◌, List, [], ◌∷◌, Option, None, codes, find, length, nat_le, nat_lt, not, option_map, option_and_then, slice_get, take, if◌then◌else◌}
 use Rattle.std.specs.Bool.{beq}
 use Rattle.fio_input.specs.FilterRule.{filter_in_force}
 use Rattle.fio_cpu.specs.declared.record.Item.{Item}
 use Rattle.fio_cpu.specs.declared.record.Item.TheVariants.{Entry}
-use Rattle.fio_check.specs.ContentAbove.{ContentFacts, FilterPair, LatestEntry, TimedState, content_at}
-use Rattle.fio_check.specs.ContentEvents.{ContentEvent, LineEvent, Recorded, events_of_lines, items_in}
+use Rattle.fio_check.specs.ContentAbove.{ContentFacts, FilterPair, TimedState, content_at}
+use Rattle.fio_check.specs.ContentEvents.{ContentEvent, LineEvent, Recorded, events_of_lines, recorded_items}
 use Rattle.fio_check.specs.Lines.{TranscriptLine}
 use Rattle.fio_check.specs.Places.{earliest_above, is_some_and}
 use Rattle.fio_check.specs.declared.content_rules.ContentRule.{ContentRule}
@@ -84,7 +84,7 @@ pub record BrokenEntry : Type 0 where
 abbrev pub breach_of_event : List LineEvent → ℕ → ℕ → ContentEvent → Option BrokenEntry
 breach_of_event events place line (Recorded (Entry input level stamp wide)) =
     option_map
-    (λ rule. record { line = line; input = input; rule = rule; above = items_in (take place events) })
+    (λ rule. record { line = line; input = input; rule = rule; above = recorded_items (take place events) })
     (first_content_broken (content_at events place) input (record { level = level; wide = wide }))
 breach_of_event events place line event = None
 

@@ -8,13 +8,13 @@ use crate::observation::Observation;
 use crate::rules::{Rule, rule_broken};
 use fio_message::types::BLOCK_ANSWER;
 
-/// A number or a type that was due, and the one that came.
+/// A number or a type that was due.
 #[derive(Clone, Copy, Debug, PartialEq, Eq, Hash)]
 pub struct Due {
     /// What the frame had to have.
-    pub due: u8,
+    pub expected: u8,
     /// What the frame has.
-    pub came: u8,
+    pub actual: u8,
 }
 
 /// What a checker finds in a frame that breaks a rule.
@@ -37,7 +37,7 @@ pub struct Checker {
 }
 
 impl Checker {
-    /// A checker above the first frame.
+    /// Returns a checker above the first frame.
     pub fn new() -> Checker
         ensures { result ≡ new_checker }
     {
@@ -93,7 +93,7 @@ impl Checker {
     }
 }
 
-/// The breach of a frame that says this, below lines of which these facts hold.
+/// Returns the breach of a frame that says this, below lines of which these facts hold.
 fn breach_of(facts: &Facts, observation: Observation) -> Option<Breach>
     ensures { result ≡ breach_of facts.now observation }
 {
@@ -106,19 +106,17 @@ fn breach_of(facts: &Facts, observation: Observation) -> Option<Breach>
     }
 }
 
-/// What was due by a rule and what came.
+/// Returns what was due by a rule, and what the frame has.
 fn due_in(facts: &Facts, observation: Observation, rule: Rule) -> Option<Due>
     ensures { result ≡ due_in facts.now observation rule }
 {
-    let (due, came) = match (rule, observation) {
+    let (expected, actual) = match (rule, observation) {
         (Rule::Pair, Observation::Answer { code, .. }) => (facts.awaited, code),
         (Rule::Pair, Observation::Block { .. }) => (facts.awaited, BLOCK_ANSWER),
         (Rule::Number, Observation::Block { number, .. }) => (facts.polled, number),
         (Rule::Advance, Observation::Poll { number }) => (facts.number_due(), number),
         _ => (None, 0),
     };
-    match due {
-        Some(due) => Some(Due { due, came }),
-        None => None,
-    }
+    let expected = expected?;
+    Some(Due { expected, actual })
 }

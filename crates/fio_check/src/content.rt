@@ -1,9 +1,8 @@
 //! The checker of the rules on content, one frame at a time.
-ghost use Rattle.std.specs.Prelude.{◌≡◌, [], ℕ, fold, map, true, false};
+ghost use Rattle.std.specs.Prelude.{◌≡◌, ℕ, fold, map, true, false};
 ghost use Rattle.std.specs.Option.{option_or};
 ghost use Rattle.fio_message.specs.Status.{says_lost, says_more};
 ghost use Rattle.fio_message.specs.Views.{answer_of, command_of, entries_of};
-ghost use Rattle.fio_message.specs.declared.answers.Answer.TheVariants as answers;
 ghost use Rattle.fio_message.specs.declared.commands.Command.TheVariants as commands;
 ghost use Rattle.fio_cpu.specs.Record.{gap_if, item_of};
 ghost use Rattle.fio_cpu.specs.declared.record.Item.TheVariants as Item;
@@ -15,7 +14,6 @@ ghost use Rattle.fio_check.specs.ContentKept.{content_at_start, content_kept, fa
 use crate::content_above::ContentAbove;
 use crate::content_rules::ContentRule;
 use fio_input::widen;
-use fio_message::types::{BLOCK_ANSWER, POLL};
 use fio_message::{
     AnswerView, BlockStatus, CommandView, EntriesView, Entry, InputNumber, read_answer,
     read_command, says_error,
@@ -44,12 +42,12 @@ pub struct ContentChecker {
     has_number: u8,
     /// The number that the next block to be taken has.
     number: u8,
-    /// It makes the struct as long as words of 32 bits.
+    /// Padding to a multiple of 4 octets.
     reserved: [u8; 2],
 }
 
 impl ContentChecker {
-    /// A checker above the first frame.
+    /// Returns a checker above the first frame.
     pub fn new() -> ContentChecker
         ensures kept { content_kept result ≡ nothing_kept }
         ensures octets { result ≡ content_at_start }
@@ -66,9 +64,8 @@ impl ContentChecker {
     pub fn sent(&mut self, octets: &[u8])
         ensures { content_kept self.new ≡ kept_with (content_kept self.old) true octets.now }
     {
-        match octets {
-            [POLL, number] => self.send_poll(*number),
-            _ => self.take_sent(octets),
+        if let Ok(command) = read_command(octets) {
+            self.send(&command);
         }
     }
 
@@ -78,27 +75,15 @@ impl ContentChecker {
         ensures found { result ≡ content_found (content_kept self.old) false octets.now }
         ensures next { content_kept self.new ≡ kept_with (content_kept self.old) false octets.now }
     {
-        match octets {
-            [BLOCK_ANSWER, number, 0, status, _, _, _, _] => {
-                self.hear_empty(*number, *status);
-                None
-            }
-            _ => self.take_heard(octets),
+        match read_answer(octets) {
+            Ok(answer) => self.hear(&answer),
+            Err(_) => None,
         }
     }
 
-    /// Takes any frame that was sent. Most are polls, and most of what is heard are blocks without entries: a loop over
-    /// those has more registers where the other frames are read elsewhere.
-    #[inline(never)]
-    fn take_sent(&mut self, octets: &[u8])
-        ensures { content_kept self.new ≡ kept_with (content_kept self.old) true octets.now }
-    {
-        if let Ok(command) = read_command(octets) {
-            self.send(&command);
-        }
-    }
-
-    fn send(&mut self, command: &CommandView<'_>)
+    /// Takes a command that is read already, as `sent` takes its octets.
+    #[inline]
+    pub fn send(&mut self, command: &CommandView<'_>)
         ensures { content_kept self.new ≡ kept_below (content_kept self.old) (number_with_command (content_kept self.old).number (command_of command.now)) (events_of_command (content_kept self.old).number (command_of command.now)) }
     {
         match *command {
@@ -121,33 +106,9 @@ impl ContentChecker {
         }
     }
 
-    /// Takes a block with no entries.
-    fn hear_empty(&mut self, block: u8, status: u8)
-        ensures { (stamp : ℕ) → content_kept self.new ≡ kept_below (content_kept self.old)
-            (number_with_answer (content_kept self.old).number (answers.Block block (record { items = [] }) status stamp))
-            (events_of_answer (content_kept self.old).number (answers.Block block (record { items = [] }) status stamp)) }
-    {
-        if self.has_number == 0 || block != self.number {
-            return;
-        }
-        self.number = block.wrapping_add(1);
-        begin_block(&mut self.above, status);
-        end_block(&mut self.above, status);
-    }
-
-    /// Takes any frame that was heard.
-    #[inline(never)]
-    fn take_heard(&mut self, octets: &[u8]) -> Option<ContentBreach>
-        ensures found { result ≡ content_found (content_kept self.old) false octets.now }
-        ensures next { content_kept self.new ≡ kept_with (content_kept self.old) false octets.now }
-    {
-        match read_answer(octets) {
-            Ok(answer) => self.hear(&answer),
-            Err(_) => None,
-        }
-    }
-
-    fn hear(&mut self, answer: &AnswerView<'_>) -> Option<ContentBreach>
+    /// Takes an answer that is read already, as `heard` takes its octets.
+    #[inline]
+    pub fn hear(&mut self, answer: &AnswerView<'_>) -> Option<ContentBreach>
         ensures found { result ≡ breach_among (content_kept self.old).facts 0 (events_of_answer (content_kept self.old).number (answer_of answer.now)) }
         ensures next { content_kept self.new ≡ kept_below (content_kept self.old) (number_with_answer (content_kept self.old).number (answer_of answer.now)) (events_of_answer (content_kept self.old).number (answer_of answer.now)) }
     {
@@ -248,7 +209,7 @@ fn take_entry(
     found
 }
 
-/// The first breach with this entry more. The rules are tried only where none is found yet.
+/// Returns the first breach with this entry more. The rules are tried only where none is found yet.
 fn breach_with(
     found: Option<ContentBreach>,
     above: &ContentAbove,

@@ -46,7 +46,7 @@ pub struct ContentAbove {
     loaded: u8,
     /// Whether the latest configuration sent was taken.
     accepted: u8,
-    /// It makes the struct as long as words of 32 bits.
+    /// Padding to a multiple of 4 octets.
     reserved: [u8; 2],
 }
 
@@ -171,7 +171,7 @@ impl ContentAbove {
         self.asking = 0;
     }
 
-    /// The first rule that an entry breaks.
+    /// Returns the first rule that an entry breaks.
     pub(crate) fn broken_rule(
         &self,
         input: InputNumber,
@@ -187,7 +187,7 @@ impl ContentAbove {
         self.broken_by_latest(input, level, wide)
     }
 
-    /// The first rule of the two that ask for the latest entry of the same input.
+    /// Returns the first rule of the two that ask for the latest entry of the same input.
     fn broken_by_latest(&self, input: InputNumber, level: bool, wide: u32) -> Option<ContentRule>
         ensures { result ≡ find (breaks_content (facts_kept self.now) input
             (record { level = level; wide = wide })) (ContentRule.Alternate ∷ ContentRule.Apart ∷ []) }
@@ -212,7 +212,8 @@ impl ContentAbove {
         self.loaded == 0 && self.has_before != 0 && wide.wrapping_sub(self.before) >= HALF
     }
 
-    /// Whether an entry is nearer to the latest one of its input than the filter for its state.
+    /// Returns whether an entry is nearer to the latest one of its input than the filter for its
+    /// state.
     fn is_nearer(&self, place: usize, level: bool, wide: u32) -> bool
         requires { place < NUMBERS }
         ensures { result ≡ is_nearer (facts_kept self.now) place

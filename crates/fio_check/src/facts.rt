@@ -6,7 +6,7 @@ use crate::observation::Observation;
 use fio_message::BlockStatus;
 use fio_message::types::BLOCK_ANSWER;
 
-/// What the rules read of the lines above. `default()` is that nothing is above.
+/// What the rules read of the lines above. `default()`: above the first line.
 #[derive(Clone, Copy, Debug, Default, PartialEq, Eq, Hash)]
 pub struct Facts {
     /// The type of the answer to the command directly above, if a command is there.
@@ -43,7 +43,8 @@ impl Facts {
         }
     }
 
-    /// The number that a poll must have below these lines, and `None` where none is polled above.
+    /// Returns the number that a poll must have below these lines, and `None` where none is polled
+    /// above.
     pub fn number_due(&self) -> Option<u8>
         ensures { result ≡ number_due self.now }
     {

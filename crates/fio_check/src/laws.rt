@@ -23,12 +23,14 @@ pub fn latest_is_latest_above()
         → IsTheLatest (λ place. is_answering (observation_at lines place)) }
 {}
 
-/// What is kept line by line while a transcript is checked is what is above the next line.
+/// `Facts::add` computes what is above the next line.
+#[tactic(auto, using(crate::proofs::KeptFacts::facts_are_kept))]
 pub fn facts_are_kept()
     ensures { (lines : List TranscriptLine) → KeepsFacts lines }
 {}
 
 /// A transcript has exactly one verdict, that of `check_trace`.
+#[tactic(auto, using(crate::proofs::Verdicts::one_verdict))]
 pub fn verdicts_are_one()
     ensures { (lines : List TranscriptLine) → HasOneVerdict lines }
 {}
@@ -50,6 +52,7 @@ pub fn content_is_kept()
 {}
 
 /// What a checker of the rules on content finds first is the first entry of the transcript's record that breaks one.
+#[tactic(auto, using(crate::proofs::ContentFound::finds_the_broken_entry))]
 pub fn content_checkers_find_the_broken_entry()
     ensures { (lines : List TranscriptLine)
         → found_first nothing_kept lines ≡ option_map entry_found (broken_entry_in lines) }

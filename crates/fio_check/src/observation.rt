@@ -50,14 +50,14 @@ pub enum Observation {
 }
 
 impl Observation {
-    /// What a line says.
+    /// Returns what a line says.
     pub fn on(line: &Line) -> Observation
         ensures { result ≡ observation_on line.now }
     {
         Observation::of(line.from_cpu, line.octets.as_slice())
     }
 
-    /// What a frame says that the CPU sent or heard.
+    /// Returns what a frame says that the CPU sent or heard.
     pub fn of(from_cpu: bool, octets: &[u8]) -> Observation
         ensures { result ≡ observation_in from_cpu octets.now }
     {
@@ -68,7 +68,7 @@ impl Observation {
         }
     }
 
-    /// What a frame says that the CPU sent.
+    /// Returns what a frame says that the CPU sent.
     fn sent(octets: &[u8]) -> Observation
         ensures { result ≡ observation_of (command_in octets.now) None }
     {
@@ -78,7 +78,8 @@ impl Observation {
         }
     }
 
-    fn of_command(command: &CommandView<'_>) -> Observation
+    /// Returns what a command says that is read already.
+    pub fn of_command(command: &CommandView<'_>) -> Observation
         ensures { result ≡ observation_of_command (command_of command.now) }
     {
         match *command {
@@ -94,7 +95,7 @@ impl Observation {
         }
     }
 
-    /// What a frame says that the CPU heard.
+    /// Returns what a frame says that the CPU heard.
     fn heard(octets: &[u8]) -> Observation
         ensures { result ≡ observation_of None (answer_in octets.now) }
     {
@@ -104,7 +105,8 @@ impl Observation {
         }
     }
 
-    fn of_answer(answer: &AnswerView<'_>) -> Observation
+    /// Returns what an answer says that is read already.
+    pub fn of_answer(answer: &AnswerView<'_>) -> Observation
         ensures { result ≡ observation_of_answer (answer_of answer.now) }
     {
         match *answer {
@@ -131,7 +133,7 @@ impl Observation {
     }
 }
 
-/// Whether an entry names an absent input.
+/// Returns whether an entry names an absent input.
 fn names_absent_entry(entries: &EntriesView<'_>) -> bool
     ensures { result ≡ list_any (λ entry. is_absent entry.input) (entries_of entries.now) }
 {
@@ -143,7 +145,7 @@ fn names_absent_entry(entries: &EntriesView<'_>) -> bool
     false
 }
 
-/// Whether an item names an absent input.
+/// Returns whether an item names an absent input.
 fn names_absent_item(items: &ItemsView<'_>) -> bool
     ensures { result ≡ list_any (λ item. is_absent item.input) (items_of items.now) }
 {
@@ -155,7 +157,7 @@ fn names_absent_item(items: &ItemsView<'_>) -> bool
     false
 }
 
-/// Whether an input is above 63, so that no module of this profile has it.
+/// Returns whether an input is above 63, so that no module of this profile has it.
 fn is_absent(input: InputNumber) -> bool
     ensures { result ≡ is_absent input }
 {

@@ -8,27 +8,30 @@ use fio_message::types::BLOCK_ANSWER;
 use fio_message::{BLOCK_ENTRIES, BlockStatus};
 
 /// What a line of a transcript may break, in the order in which the rules are tried (own profile).
+/// `tools/generate-constants` makes the words of pages and tools of these.
 #[derive(Clone, Copy, Debug, PartialEq, Eq, PartialOrd, Ord, Hash)]
 pub enum Rule {
-    /// The octets are a message of their direction.
+    /// Broken by a line that spells no message of its direction.
     Readable,
-    /// An answer is directly below the command that it answers.
+    /// Broken by a line that is an answer, but not directly below a command whose type is 128 less.
     Pair,
-    /// A block answer has the number of the poll directly above.
+    /// Broken by a line that is a block answer with another number than the poll directly above.
     Number,
-    /// A poll has the next number where a block answer is directly below the earlier poll, else
-    /// the same number again. The next number after 255 is 0.
+    /// Broken by a line that is a poll, not the first, with another number than the one due: that of
+    /// the poll before, plus one modulo 256 if a block answer is directly below that poll.
     Advance,
-    /// A block answer has E only where its poll has the number of the poll before it, or is the
-    /// first poll.
+    /// Broken by a line that is a block answer with E, though the poll before its own had another
+    /// number.
     Same,
-    /// A block answer has G only where it is the first, and then it has no E.
+    /// Broken by a line that is a block answer with G and E, or with G and a block answer before it.
     Sequence,
-    /// A block answer has F only with C, has C only with 255 entries, and names no input above 63.
+    /// Broken by a line that is a block answer with F and without C, or with C and a count other
+    /// than 255, or with an input above 63.
     Limits,
-    /// A block answer below one with C has entries.
+    /// Broken by a line that is a block answer without entries, and the block answer before it has C.
     Rest,
-    /// A configuration that names an input above 63 is refused.
+    /// Broken by a line that is an answer 179 that says done (bit 0 is 0) to a configuration 51 that
+    /// names an input above 63.
     Refusal,
 }
 
@@ -46,7 +49,7 @@ impl Rule {
         Rule::Refusal,
     ];
 
-    /// The name of the rule, in lower case.
+    /// Returns the name of the rule, in lower case.
     pub fn name(self) -> &'static str
         ensures { result.now ≡ rule_name self }
     {
@@ -63,7 +66,8 @@ impl Rule {
         }
     }
 
-    /// The place of the rule among `Rule::ALL`, from 1, by which C and the bindings know it.
+    /// Returns the place of the rule among `Rule::ALL`, from 1, by which C and the bindings know
+    /// it.
     pub fn number(self) -> u8
         ensures { result ≡ rule_number self }
     {
@@ -80,7 +84,9 @@ impl Rule {
         }
     }
 
-    /// Whether a line that says this breaks the rule, below lines of which these facts hold.
+    /// Returns whether a line that says this breaks the rule, below lines of which these facts
+    /// hold.
+    #[inline(always)]
     pub fn is_broken(self, facts: &Facts, observation: Observation) -> bool
         ensures { result ≡ breaks facts.now observation self }
     {
@@ -119,7 +125,9 @@ impl Rule {
     }
 }
 
-/// The first rule that a line breaks which says this, below lines of which these facts hold.
+/// Returns the first rule that a line breaks which says this, below lines of which these facts
+/// hold.
+#[inline(always)]
 pub fn rule_broken(facts: &Facts, observation: Observation) -> Option<Rule>
     ensures { result ≡ first_broken facts.now observation }
 {
@@ -131,7 +139,7 @@ pub fn rule_broken(facts: &Facts, observation: Observation) -> Option<Rule>
     None
 }
 
-/// Whether a block answer has F without C, or C with other than 255 entries.
+/// Returns whether a block answer has F without C, or C with other than 255 entries.
 fn is_overfull(status: u8, entries: usize) -> bool
     ensures { result ≡ is_overfull status entries }
 {

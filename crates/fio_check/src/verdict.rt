@@ -24,8 +24,9 @@ pub enum Verdict {
     },
 }
 
-/// The verdict on a transcript: good if no line breaks a rule, else the number of the first line
-/// that does, and the first rule that it breaks. Goes through the lines once and takes no memory.
+/// Returns the verdict on a transcript: good if no line breaks a rule, else the number of the first
+/// line that does, and the first rule that it breaks. Goes through the lines once and takes no
+/// memory.
 pub fn check_trace(lines: &[Line]) -> Verdict
     ensures { result ≡ verdict_on lines.now }
 {

@@ -7,9 +7,8 @@ use Rattle.fio_message.specs.declared.limits.TheConstants.{BLOCK_ENTRIES}
 use Rattle.fio_message.specs.Answers.{answer_code}
 use Rattle.fio_message.specs.Bits.{bit_of}
 use Rattle.fio_message.specs.Blocks.{Block as BlockOf}
-use Rattle.fio_message.specs.declared.entries.EntriesView.{EntriesView}
 use Rattle.fio_message.specs.Status.{says_lost}
-use Rattle.fio_message.specs.Views.{entries_of}
+use Rattle.fio_message.specs.Views.{EntriesView, entries_of}
 use Rattle.fio_cpu.specs.declared.poller.Heard.{Heard}
 use Rattle.fio_cpu.specs.declared.poller.Heard.TheVariants.{Unreadable, Other, Stale, Block}
 use Rattle.fio_cpu.specs.Poller.{Polling}

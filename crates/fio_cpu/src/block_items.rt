@@ -30,7 +30,7 @@ impl<'a> Model for BlockItems<'a> {
 }
 
 impl<'a> BlockItems<'a> {
-    /// What a block with these entries, this status and this stamp adds.
+    /// Returns what a block with these entries, this status and this stamp adds.
     pub(crate) fn new(entries: EntriesView<'a>, status: u8, stamp: u32) -> BlockItems<'a>
         ensures { result
             ≡ gap_if (says_lost status) ++ map (item_of stamp) (entries_of entries.entry) }
@@ -107,7 +107,7 @@ impl Iterator for RecordItems<'_> {
     }
 }
 
-/// An entry of an answer with this stamp, as an item of the record.
+/// Returns an entry of an answer with this stamp, as an item of the record.
 #[inline]
 fn item_of(stamp: u32, entry: Entry) -> Item
     ensures { result ≡ item_of stamp entry }

@@ -1,8 +1,8 @@
 //! Hearing: what a CPU makes of octets, wherever its record is kept.
 ghost use Rattle.std.specs.Prelude.{◌≡◌, ◌+◌, ◌%◌, [], length, Some, OnOk, OnErr, IfOk, IfErr};
 ghost use Rattle.fio_message.specs.Blocks.{block_answer};
-ghost use Rattle.fio_message.specs.Decoding.{decoded_answer, block_in};
-ghost use Rattle.fio_message.specs.Views.{entries_of};
+ghost use Rattle.fio_message.specs.Decoding.{answered_block, decoded_answer, block_in};
+ghost use Rattle.fio_message.specs.Views.{answer_of, entries_of};
 ghost use Rattle.fio_cpu.specs.declared.poller.Heard.TheVariants as heards;
 ghost use Rattle.fio_cpu.specs.Record.{items_of_block};
 ghost use Rattle.fio_cpu.specs.Hearing.{block_shown, new_items, heard_answer, heard_as, next_number};
@@ -38,21 +38,48 @@ pub fn hear_frame<R: Record>(
         R.LacksRoom items.old (new_items number.old (block_in octets.now)) reason) }
 {
     match read_answer(octets) {
-        Ok(
-            AnswerView::Block {
-                block,
-                entries,
-                status,
-                stamp,
-            },
-        ) => hear_block(number, items, block, entries, status, stamp),
-        Ok(other) => Ok(Heard::Other { code: other.code() }),
+        Ok(answer) => hear_read_answer(number, items, &answer),
         Err(fault) => Ok(Heard::Unreadable(fault)),
     }
 }
 
+/// Hears an answer that is read already, as `hear_frame` hears its octets.
+///
+/// # Errors
+/// Why there is no room in the record for what a block adds. Nothing is appended then, and the number
+/// stays.
+#[inline(always)]
+pub(crate) fn hear_read_answer<R: Record>(
+    number: &mut u8,
+    items: &mut R,
+    answer: &AnswerView<'_>,
+) -> Result<Heard, R::NoRoom>
+    ensures heard { IfOk result (λ heard. heard ≡ heard_answer number.old (answer_of answer.now)) }
+    ensures few { IfOk result HasFewEntries }
+    ensures next { OnOk result (number.new
+        ≡ next_number number.old (answered_block (Some (answer_of answer.now)))) }
+    ensures gained { OnOk result (R.Gains items.old
+        (new_items number.old (answered_block (Some (answer_of answer.now)))) items.new) }
+    ensures kept { OnErr result (number.new ≡ number.old) }
+    ensures unchanged { OnErr result (R.Gains items.old [] items.new) }
+    ensures room { IfErr result (λ reason. R.LacksRoom items.old
+        (new_items number.old (answered_block (Some (answer_of answer.now)))) reason) }
+{
+    match *answer {
+        AnswerView::Block {
+            block,
+            entries,
+            status,
+            stamp,
+        } => hear_block(number, items, block, entries, status, stamp),
+        _ => Ok(Heard::Other {
+            code: answer.code(),
+        }),
+    }
+}
+
 /// Hears a block answer: takes it where it has the CPU's number, and else reports it as stale.
-#[inline]
+#[inline(always)]
 fn hear_block<R: Record>(
     number: &mut u8,
     items: &mut R,

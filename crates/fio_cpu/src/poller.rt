@@ -1,13 +1,14 @@
 //! The poller: the CPU's number and its record.
-ghost use Rattle.std.specs.Prelude.{◌≡◌, [], OnOk, OnErr, IfOk};
+ghost use Rattle.std.specs.Prelude.{◌≡◌, [], OnOk, OnErr, IfOk, Some};
 ghost use Rattle.fio_message.specs.Commands.{SpellsCommand};
-ghost use Rattle.fio_message.specs.Decoding.{decoded_answer, block_in};
+ghost use Rattle.fio_message.specs.Decoding.{answered_block, decoded_answer, block_in};
+ghost use Rattle.fio_message.specs.Views.{answer_of};
 ghost use Rattle.fio_message.specs.declared.commands.Command.TheVariants as commands;
-ghost use Rattle.fio_cpu.specs.Hearing.{heard_as, after_hearing, AddsItems};
+ghost use Rattle.fio_cpu.specs.Hearing.{heard_answer, heard_as, after_hearing, AddsItems};
 
-use crate::hearing::hear_frame;
+use crate::hearing::{hear_frame, hear_read_answer};
 use crate::record::Item;
-use fio_message::{Command, DecodeError, Frame, Memory, encode_command};
+use fio_message::{AnswerView, Command, DecodeError, Frame, Memory, encode_command};
 use std::alloc::Global;
 use std::marker::Model;
 
@@ -52,7 +53,8 @@ impl Model for Poller {
 }
 
 impl Poller {
-    /// A poller whose record is empty and whose first block number is this one. Takes no memory.
+    /// Returns a poller whose record is empty and whose first block number is this one. Takes no
+    /// memory.
     pub fn new(alloc: Global, first: u8) -> Poller
         ensures { result ≡ record { number = first; items = [] } }
     {
@@ -62,23 +64,23 @@ impl Poller {
         }
     }
 
-    /// The block number of the next poll, from 0 to 255. It rises by one modulo 256 with each block
-    /// that is taken, and with nothing else (own profile).
+    /// Returns the block number of the next poll, from 0 to 255. It rises by one modulo 256 with
+    /// each block that is taken, and with nothing else (own profile).
     pub fn number(&self) -> u8
         ensures { result ≡ self.now.number }
     {
         self.number
     }
 
-    /// A poll with the present block number (TEES 2009, command 54). Nothing changes: until an
-    /// answer with this number is taken each poll carries the same one (own profile).
+    /// Returns a poll with the present block number (TEES 2009, command 54). Nothing changes: until
+    /// an answer with this number is taken each poll carries the same one (own profile).
     pub fn poll(&self) -> Frame
         ensures { SpellsCommand (commands.Poll self.now.number) result.items }
     {
         encode_command(&Command::Poll { block: self.number })
     }
 
-    /// The record: all that was taken, in order.
+    /// Returns the record: all that was taken, in order.
     pub fn items(&self) -> &[Item]
         ensures { result.now ≡ self.now.items }
     {
@@ -103,5 +105,22 @@ impl Poller {
         ensures memory { OnErr result (AddsItems self.old (block_in octets.now)) }
     {
         hear_frame(&mut self.number, &mut self.items, octets)
+    }
+
+    /// Hears an answer that is read already, as `hear` hears its octets.
+    ///
+    /// # Errors
+    /// `Memory` where `hear` returns it.
+    #[inline(always)]
+    pub fn hear_answer(&mut self, answer: &AnswerView<'_>) -> Result<Heard, Memory>
+        ensures heard { IfOk result (λ heard.
+            heard ≡ heard_answer self.old.number (answer_of answer.now)) }
+        ensures taken { OnOk result
+            (self.new ≡ after_hearing self.old (answered_block (Some (answer_of answer.now)))) }
+        ensures unchanged { OnErr result (self.new ≡ self.old) }
+        ensures memory { OnErr result
+            (AddsItems self.old (answered_block (Some (answer_of answer.now)))) }
+    {
+        hear_read_answer(&mut self.number, &mut self.items, answer)
     }
 }

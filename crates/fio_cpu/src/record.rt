@@ -64,6 +64,9 @@ impl Record for Vec<Item> {
     /// Asks for room for all of the items once, before any is appended, and for none where there are
     /// no items.
     fn append(&mut self, items: &BlockItems<'_>) -> Result<(), Memory> {
+        if items.is_empty() {
+            return Ok(());
+        }
         self.reserve(items.len())?;
         let empty = Vec::new(*self.allocator());
         *self = extended(mem::replace(self, empty), items);
@@ -71,8 +74,9 @@ impl Record for Vec<Item> {
     }
 }
 
-/// A list with items appended, for which there is room. It is moved here for the loop: of a list behind
-/// a reference, each push would write the length to memory and read the place of the items again.
+/// Returns a list with items appended, for which there is room. It is moved here for the loop: of a
+/// list behind a reference, each push would write the length to memory and read the place of the
+/// items again.
 fn extended(mut kept: Vec<Item>, items: &BlockItems<'_>) -> Vec<Item>
     requires { vec_len kept + length items.now ≤ vec_capacity kept }
     ensures { result.items ≡ kept.items ++ items.now }

@@ -1,22 +1,7 @@
 -- The entries of a block alternate with the latest ones of their inputs above it.
-use Rattle.std.proofs.Common.{◌≡◌, ◌≢◌, ◌∙◌, ◌+◌, ◌<◌, ◌≤◌, ◌&&◌, inl, inr, ℕ, suc, Bool, true, false, not, List, [], ◌∷◌, ◌++◌, length, map, Option, Some, None, slice_get, refl, ap, sym, subst, arith, if◌then◌else◌}
-use Rattle.std.specs.Prelude.{fold}
-use Rattle.std.specs.Bool.{beq}
-use Rattle.std.proofs.lemmas.Bool.Decides.{eqb_tells}
-use Rattle.std.proofs.lemmas.Option.{same_Some}
-use Rattle.fio_module.specs.Life.{Life}
-use Rattle.fio_module.specs.Log.{Transition, entry_of, log_of}
+use Rattle.fio_ends.proofs.Names.{◌≡◌, ◌≢◌, ◌∙◌, ◌+◌, ◌<◌, ◌≤◌, ◌&&◌, inl, inr, ℕ, suc, Bool, true, false, not, List, [], ◌∷◌, ◌++◌, length, map, Option, Some, None, slice_get, refl, ap, sym, subst, arith, if◌then◌else◌, fold, beq, eqb_tells, same_Some, Life, Transition, entry_of, log_of, Item, Entry, Gap, item_of, ContentFacts, LatestEntry, content_with, ContentEvent, Recorded, breaks_content, is_some_and, Alternate, SentFrame}
 use Rattle.fio_module.specs.Alternation.{Alternates}
 use Rattle.fio_module.proofs.Alternation.{transitions_alternate}
-use Rattle.fio_cpu.specs.declared.record.Item.{Item}
-use Rattle.fio_cpu.specs.declared.record.Item.TheVariants.{Entry, Gap}
-use Rattle.fio_cpu.specs.Record.{item_of}
-use Rattle.fio_check.specs.ContentAbove.{ContentFacts, LatestEntry, content_with}
-use Rattle.fio_check.specs.ContentEvents.{ContentEvent, Recorded}
-use Rattle.fio_check.specs.ContentRules.{breaks_content}
-use Rattle.fio_check.specs.Places.{is_some_and}
-use Rattle.fio_check.specs.declared.content_rules.ContentRule.TheVariants.{Alternate}
-use Rattle.fio_world.specs.Link.{SentFrame}
 use Rattle.fio_ends.proofs.ContentLines.{EntriesKeep}
 use Rattle.fio_ends.proofs.QuietSince.{IsQuietSince, quiet-further}
 

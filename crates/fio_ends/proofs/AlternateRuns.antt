@@ -1,39 +1,11 @@
 -- Along a prompt run each entry alternates with the latest one of its input: the rule never accuses.
-use Rattle.std.proofs.Common.{◌≡◌, ◌∙◌, ◌+◌, ◌<◌, ◌≤◌, ℕ, Bool, true, false, List, [], ◌∷◌, ◌++◌, length, map, take, Option, Some, None, slice_get, refl, ap, sym, subst, arith, append-nil, if◌then◌else◌}
-use Rattle.std.specs.Prelude.{fold, option_map}
-use Rattle.std.proofs.lemmas.Option.{same_Some}
-use Rattle.fio_message.specs.declared.commands.Command.{Command}
+use Rattle.fio_ends.proofs.Names.{◌≡◌, ◌∙◌, ◌+◌, ◌<◌, ◌≤◌, ℕ, Bool, true, false, List, [], ◌∷◌, ◌++◌, length, map, take, Option, Some, None, slice_get, refl, ap, sym, subst, arith, append-nil, if◌then◌else◌, fold, option_map, same_Some, Command, InputItem, Block, command_octets, IsCommand, command_in, poll_in, polled_number, says_lost, NoneIsApplied, Settings, AreInRange, Life, Occurrence, Scanned, LineSynced, Raised, filter_events, life_after_command, life_of, Transition, entry_of, log_of, MadeBlock, newest_poll, blocks_of, end_of_blocks, log_of-with_command, get_in_front, Gap, item_of, ContentFacts, LatestEntry, content_with, no_content, unquiet, Configured, ContentEvent, Ended, Polled, Recorded, events_of_block, events_of_command, Alternate, SentFrame, Machine, start, number_of, sending_refusal, after_sending, after_module_event, after_delivery_to_module, HasPoll, next_round, after_taken, IsKept, get_before_push, number_of-fits, none_more, ContentNeverAccuses}
 use Rattle.fio_message.specs.declared.commands.Command.TheVariants as commands
-use Rattle.fio_message.specs.declared.fields.InputItem.{InputItem}
-use Rattle.fio_message.specs.Blocks.{Block}
-use Rattle.fio_message.specs.Commands.{command_octets, IsCommand}
-use Rattle.fio_message.specs.Decoding.{command_in, poll_in, polled_number}
-use Rattle.fio_message.specs.Status.{says_lost}
-use Rattle.fio_input.specs.Delivery.{NoneIsApplied}
-use Rattle.fio_module.specs.Settings.{Settings, AreInRange}
-use Rattle.fio_module.specs.Life.{Life, Occurrence, Scanned, LineSynced, Raised, filter_events, life_after_command, life_of}
 use Rattle.fio_module.specs.Life as module_events
-use Rattle.fio_module.specs.Log.{Transition, entry_of, log_of}
-use Rattle.fio_module.specs.Blocks.{MadeBlock, latest_poll, blocks_of, end_of_blocks}
 use Rattle.fio_module.proofs.BlockLaws.{blocks_without_more_take_all}
-use Rattle.fio_module.proofs.LifeLaws.{log_of-with_command}
-use Rattle.fio_module.proofs.ListParts.{get_in_front}
 use Rattle.fio_module.proofs.NewLevels.{later_log}
-use Rattle.fio_cpu.specs.declared.record.Item.TheVariants.{Gap}
-use Rattle.fio_cpu.specs.Record.{gap_if, item_of}
-use Rattle.fio_check.specs.ContentAbove.{ContentFacts, LatestEntry, content_with, no_content, unquiet}
-use Rattle.fio_check.specs.ContentEvents.{Configured, ContentEvent, Ended, Polled, Recorded, events_of_block, events_of_command}
-use Rattle.fio_check.specs.declared.content_rules.ContentRule.TheVariants.{Alternate}
-use Rattle.fio_world.specs.Link.{SentFrame, Machine, start, number_of, sending_refusal, after_sending, after_module_event, after_delivery_to_module}
-use Rattle.fio_world.specs.Frames.{HasPoll}
-use Rattle.fio_world.specs.Rounds.{next_round}
-use Rattle.fio_world.proofs.HeardRows.{after_taken}
-use Rattle.fio_world.proofs.OneLife.{Continues, poll_continues}
-use Rattle.fio_world.proofs.OneLifeRows.{IsKept}
-use Rattle.fio_world.proofs.Places.{get_before_push}
-use Rattle.fio_world.proofs.RoundNumbers.{number_of-fits}
-use Rattle.fio_world.proofs.SentMessages.{none_more}
-use Rattle.fio_ends.specs.ContentRuns.{ContentNeverAccuses}
+use Rattle.fio_cpu.specs.Record.{gap_if}
+use Rattle.fio_link.proofs.OneLife.{Continues, poll_continues}
 use Rattle.fio_ends.proofs.AlternateBlocks.{HasContent, HasLatest, Leaves, content_gap, entries_leave}
 use Rattle.fio_ends.proofs.BlockPlaces.{IsNext, end_at, ends_within, is_next}
 use Rattle.fio_ends.proofs.ContentRuns.{content_never_accuses}
@@ -306,16 +278,16 @@ module _ (settings : Settings) (first : ℕ) where
     of_next : IsKept settings first machine → (place : ℕ) (frame : SentFrame) → machine.last_to_module ≤ place + 1
         → slice_get machine.to_module place ≡ Some frame → IsOfNext settings life_now frame
     of_next k place frame le at number is new =
-        let p = poll_continues settings first machine k.always (latest_poll life_now) k.one_life.in_life.polled place number frame
+        let p = poll_continues settings first machine k.always (newest_poll life_now) k.one_life.polled place number frame
         le at (ap polled_number is) in
-        (subst (λ b. Continues b frame.round machine.polls) new p.met).0 ∙ k.one_life.in_life.made
+        (subst (λ b. Continues b frame.round machine.polls) new p.met).0 ∙ k.one_life.made
 
     receives-frame : IsKept settings first machine → (place : ℕ) (frame : SentFrame) → machine.last_to_module < place + 1
         → slice_get machine.to_module place ≡ Some frame
         → AlternateHolds settings first (after_delivery_to_module settings machine (place + 1) (Some frame)) facts
     receives-frame k place frame new at =
         let upto : machine.round ≤ next_round machine.polls = k.always.answers.behind in
-        let made : next_round machine.polls ≡ length (blocks_of settings life_now) = k.one_life.in_life.made in
+        let made : next_round machine.polls ≡ length (blocks_of settings life_now) = k.one_life.made in
         holds-received settings life_now machine.to_module machine.last_to_module machine.round facts p place frame (omega arith) at
         (of_next k place frame (omega arith) at) (omega arith)
 
@@ -327,7 +299,7 @@ module _ (settings : Settings) (first : ℕ) where
         → Takes settings machine place answer block → facts.asking ≡ true
         → Leaves (HoldsBelow place answer) facts (events_of_block answer)
     takes-block k place answer block t asking =
-        let made : next_round machine.polls ≡ length (blocks_of settings life_now) = k.one_life.in_life.made in
+        let made : next_round machine.polls ≡ length (blocks_of settings life_now) = k.one_life.made in
         let high : next_round machine.polls ≤ machine.round + 1 = k.always.at_most in
         let same : map Recorded (gap_if block.lost ++ map (item_of answer.stamp) (map entry_of block.transitions)) ++ (Ended block.more ∷ [])
         ≡ events_of_block answer =

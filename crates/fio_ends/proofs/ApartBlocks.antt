@@ -1,33 +1,12 @@
 -- The entries of a block are as far from the latest ones of their inputs as the filters in force ask for.
-use Rattle.std.proofs.Common.{◌≡◌, ◌∙◌, ◌+◌, ◌-◌, ◌%◌, ◌^◌, ◌<◌, ◌≤◌, ◌&&◌, inl, inr, ℕ, zero, suc, Bool, true, false, not, List, [], ◌∷◌, ◌++◌, length, map, Option, Some, None, slice_get, refl, ap, sym, subst, arith, append-nil, append_assoc}
-use Rattle.std.specs.Prelude.{fold, nat_lt}
-use Rattle.std.specs.Bool.{beq}
-use Rattle.std.specs.List.{AllZip}
+use Rattle.fio_ends.proofs.Names.{◌≡◌, ◌∙◌, ◌+◌, ◌-◌, ◌%◌, ◌^◌, ◌<◌, ◌≤◌, ◌&&◌, inl, inr, ℕ, zero, suc, Bool, true, false, not, List, [], ◌∷◌, ◌++◌, length, map, Option, Some, None, slice_get, refl, ap, sym, subst, arith, append-nil, append_assoc, fold, nat_lt, beq, AllZip, nat_tests, slice_get_within, input_setting, MadeBlock, Life, filter_events, Transition, entry_of, log_of, filter_events-append, get_in_front, Item, Entry, item_of, ContentFacts, FilterPair, LatestEntry, content_with, Recorded, breaks_content, is_nearer, is_some_and, Apart, Source, From, SentFrame, IsOfAnother, NextOfInputIsNear}
 use Rattle.std.proofs.lemmas.Bool.{cases_lt}
-use Rattle.std.proofs.lemmas.Bool.Decides.{nat_tests}
-use Rattle.std.proofs.lemmas.Option.{slice_get_within}
 use Rattle.fio_input.specs.Delivery.{filter_to}
-use Rattle.fio_input.specs.FilterHistory.{input_setting}
 use Rattle.fio_input.specs.FilterRule.{Setting, filter_in_force}
 use Rattle.fio_input.specs.Widening.{wide_time_of}
 use Rattle.fio_input.proofs.Apart.{carried}
 use Rattle.fio_input.proofs.FewReports.{leaves_each}
-use Rattle.fio_module.specs.Blocks.{MadeBlock}
-use Rattle.fio_module.specs.Life.{Life, filter_events}
-use Rattle.fio_module.specs.Log.{Transition, entry_of, log_of}
-use Rattle.fio_module.proofs.Growth.{filter_events-append}
-use Rattle.fio_module.proofs.ListParts.{get_in_front}
-use Rattle.fio_cpu.specs.declared.record.Item.{Item}
-use Rattle.fio_cpu.specs.declared.record.Item.TheVariants.{Entry}
-use Rattle.fio_cpu.specs.Record.{item_of}
-use Rattle.fio_check.specs.ContentAbove.{ContentFacts, FilterPair, LatestEntry, content_with}
-use Rattle.fio_check.specs.ContentEvents.{Recorded}
-use Rattle.fio_check.specs.ContentRules.{breaks_content, filter_towards, is_nearer, is_too_near, milliseconds_between}
-use Rattle.fio_check.specs.Places.{is_some_and}
-use Rattle.fio_check.specs.declared.content_rules.ContentRule.TheVariants.{Apart}
-use Rattle.fio_world.specs.Claims.{Source, From}
-use Rattle.fio_world.specs.Link.{SentFrame}
-use Rattle.fio_ends.specs.ContentRuns.{IsOfAnother, NextOfInputIsNear}
+use Rattle.fio_check.specs.ContentRules.{filter_towards, is_too_near, milliseconds_between}
 use Rattle.fio_ends.proofs.AlternateBlocks.{HasContent, HasLatest, alternate_since, content_entry}
 use Rattle.fio_ends.proofs.Clocks.{IsClocked}
 use Rattle.fio_ends.proofs.ContentLines.{EntriesKeep}

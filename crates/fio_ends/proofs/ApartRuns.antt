@@ -1,38 +1,8 @@
 -- The rule `apart` never accuses.
-use Rattle.std.proofs.Common.{◌≡◌, ◌∙◌, ◌+◌, ◌<◌, ◌≤◌, ◌&&◌, ℕ, Bool, true, false, not, List, [], ◌∷◌, ◌++◌, length, map, take, Some, None, refl, ap, sym, subst, arith, append-nil, append_assoc, if◌then◌else◌}
-use Rattle.std.specs.Prelude.{fold}
-use Rattle.std.specs.Bool.{beq}
-use Rattle.std.specs.List.{AllByRecursion, AllZip, flat_map}
-use Rattle.std.proofs.lemmas.Grind.{fold-append}
-use Rattle.fio_message.specs.declared.commands.Command.{Command}
+use Rattle.fio_ends.proofs.Names.{◌≡◌, ◌∙◌, ◌+◌, ◌<◌, ◌≤◌, ◌&&◌, ℕ, Bool, true, false, not, List, [], ◌∷◌, ◌++◌, length, map, take, Some, None, refl, ap, sym, subst, arith, append-nil, append_assoc, if◌then◌else◌, fold, beq, AllByRecursion, AllZip, flat_map, fold-append, Command, Block, command_octets, command_in, says_more, Settings, AreInRange, Life, life_after_command, life_of, Transition, entry_of, log_of, MadeBlock, blocks_of, end_of_blocks, log_of-with_command, each-back, Item, Entry, Gap, item_of, items_of_block, ContentFacts, content_with, no_content, Ended, Polled, Recorded, events_of_block, events_of_command, is_nearer, is_some_and, Apart, SentFrame, Machine, after_module_event, number_of, after_delivery_to_module, after_sending, Source, Loss, From, blocks_in, sources_of, after_taken, each-at, items_of_block-carried, recorded_of, IsKept, number_of-fits, ContentNeverAccuses, HaveTimesFor, NextOfInputIsNear, WaitsBriefly, sources_taken}
 use Rattle.fio_message.specs.declared.commands.Command.TheVariants as commands
-use Rattle.fio_message.specs.Blocks.{Block}
-use Rattle.fio_message.specs.Commands.{command_octets}
-use Rattle.fio_message.specs.Decoding.{command_in}
-use Rattle.fio_message.specs.Status.{says_more}
-use Rattle.fio_module.specs.Settings.{Settings, AreInRange}
-use Rattle.fio_module.specs.Life.{Life, life_after_command, life_of}
 use Rattle.fio_module.specs.Life as module_events
-use Rattle.fio_module.specs.Log.{Transition, entry_of, log_of, transitions_below}
-use Rattle.fio_module.specs.Blocks.{MadeBlock, blocks_of, end_of_blocks}
-use Rattle.fio_module.proofs.LifeLaws.{log_of-with_command}
-use Rattle.fio_module.proofs.ListParts.{each-back}
-use Rattle.fio_cpu.specs.declared.record.Item.{Item}
-use Rattle.fio_cpu.specs.declared.record.Item.TheVariants.{Entry, Gap}
-use Rattle.fio_cpu.specs.Record.{item_of, items_of_block}
-use Rattle.fio_check.specs.ContentAbove.{ContentFacts, content_with, no_content}
-use Rattle.fio_check.specs.ContentEvents.{Ended, Polled, Recorded, events_of_block, events_of_command}
-use Rattle.fio_check.specs.ContentRules.{is_nearer}
-use Rattle.fio_check.specs.Places.{is_some_and}
-use Rattle.fio_check.specs.declared.content_rules.ContentRule.TheVariants.{Apart}
-use Rattle.fio_world.specs.Link.{SentFrame, Machine, after_module_event, number_of, after_delivery_to_module, after_sending}
-use Rattle.fio_world.specs.Claims.{Source, Loss, From, blocks_in, sources_of}
-use Rattle.fio_world.proofs.HeardRows.{after_taken}
-use Rattle.fio_world.proofs.MadeBlocks.{each-at}
-use Rattle.fio_world.proofs.OneLife.{items_of_block-carried, recorded_of}
-use Rattle.fio_world.proofs.OneLifeRows.{IsKept}
-use Rattle.fio_world.proofs.RoundNumbers.{number_of-fits}
-use Rattle.fio_ends.specs.ContentRuns.{ContentNeverAccuses, HaveTimesFor, NextOfInputIsNear, WaitsBriefly, sources_taken}
+use Rattle.fio_module.specs.Log.{transitions_below}
 use Rattle.fio_ends.proofs.AlternateBlocks.{HasContent, content_gap}
 use Rattle.fio_ends.proofs.AlternateRuns.{AlternateHolds, alternate_is_invariant}
 use Rattle.fio_ends.proofs.ApartBlocks.{LeavesTimes, apart_entries}
@@ -101,7 +71,7 @@ module _ (settings : Settings) (range : AreInRange settings) (first : ℕ) where
   latest-received machine facts place frame k l is =
       let life = life_of machine.history in
       let command = command_in frame.octets in
-      let few : machine.round ≤ length (blocks_in settings machine) = omega (arith, k.always.answers.behind, k.one_life.in_life.made) in
+      let few : machine.round ≤ length (blocks_in settings machine) = omega (arith, k.always.answers.behind, k.one_life.made) in
       let blocks = blocks_grow settings life command machine.round few in
       let then_taken : List MadeBlock = take machine.round (blocks_of settings (life_after_command command life)) in
       subst (λ log. KnowsLatest log (end_of_blocks then_taken) (flat_map sources_of then_taken) facts) (sym (log_of-with_command command life))

@@ -1,19 +1,8 @@
 -- What the rules ask of blocks: how many entries each has, and that the one after a block with C has some.
-use Rattle.std.proofs.Common.{◌≡◌, ◌∙◌, ◌+◌, ◌-◌, ◌<◌, ◌≤◌, inl, inr, min, ℕ, Bool, true, false, List, [], ◌∷◌, ◌++◌, length, drop, Option, Some, None, ap, sym, subst, arith, length-take, length-drop, length-append, if◌then◌else◌}
-use Rattle.std.specs.Prelude.{nat_lt, slice_get}
-use Rattle.std.specs.List.{AllByRecursion}
-use Rattle.std.proofs.lemmas.Bool.Decides.{nat_tests}
-use Rattle.std.proofs.lemmas.Option.{slice_get_within}
-use Rattle.fio_message.specs.declared.commands.Command.{Command}
-use Rattle.fio_message.specs.declared.commands.Command.TheVariants.{Poll}
-use Rattle.fio_module.specs.Settings.{Settings}
-use Rattle.fio_module.specs.Life.{Life, Scanned, Commanded, life_after_command}
-use Rattle.fio_module.specs.Log.{log_of, transitions_below}
-use Rattle.fio_module.specs.Blocks.{MadeBlock, latest_poll, is_new, blocks_of, end_of_blocks, newest_end, next_block, start_after, count_from}
+use Rattle.fio_ends.proofs.Names.{◌≡◌, ◌∙◌, ◌+◌, ◌-◌, ◌<◌, ◌≤◌, inl, inr, ℕ, Bool, true, false, List, [], ◌∷◌, ◌++◌, length, drop, Option, Some, None, ap, sym, subst, arith, length-take, length-drop, length-append, if◌then◌else◌, nat_lt, slice_get, AllByRecursion, nat_tests, slice_get_within, Command, Poll, Settings, Life, Scanned, Commanded, life_after_command, log_of, MadeBlock, newest_poll, is_new, blocks_of, end_of_blocks, newest_end, next_block, start_after, count_from, last_end-append, get_after_push, get_before_push, HasInput, each_block, next_fits}
+use Rattle.std.proofs.Common.{min}
+use Rattle.fio_module.specs.Log.{transitions_below}
 use Rattle.fio_module.proofs.BlockLaws.{losses_leave_more}
-use Rattle.fio_module.proofs.Ends.{last_end-append}
-use Rattle.fio_world.proofs.Places.{get_after_push, get_before_push}
-use Rattle.fio_world.proofs.MadeBlocks.{HasInput, each_block, next_fits}
 
 -- a block that keeps the limits: F implies C, C implies that it is full, and all its inputs are there
 pub record KeepsLimits (per_block : ℕ) (block : MadeBlock) : Type 0 where
@@ -119,7 +108,7 @@ pub blocks_leave : (settings : Settings) → 1 ≤ settings.per_block → 1 ≤ 
 blocks_leave settings some room [] =
     record { next = λ k block later at after more. absurd (cc at); newest = λ k block at last more. absurd (cc at) }
 blocks_leave settings some room (Commanded (Poll number) ∷ life) =
-    leaves_if settings some room life (blocks_leave settings some room life) (is_new (latest_poll life) number)
+    leaves_if settings some room life (blocks_leave settings some room life) (is_new (newest_poll life) number)
 blocks_leave settings some room (Scanned raw ∷ life) =
     let longer : length (log_of life) ≤ length (log_of life ++ transitions_below 64 raw life) =
     omega (arith, length-append (log_of life) (transitions_below 64 raw life)) in
@@ -140,5 +129,5 @@ pub blocks_stay : (settings : Settings) (life : Life) (command : Option Command)
     → slice_get (blocks_of settings (life_after_command command life)) k ≡ Some block
 blocks_stay settings life None k block at = at
 blocks_stay settings life (Some (Poll number)) k block at =
-    made_stays (is_new (latest_poll life) number) (blocks_of settings life) (next_block settings life) block k at
+    made_stays (is_new (newest_poll life) number) (blocks_of settings life) (next_block settings life) block k at
 blocks_stay settings life (Some other) k block at = at

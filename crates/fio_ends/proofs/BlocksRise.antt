@@ -1,18 +1,11 @@
 -- The scans never fall along the transitions of the blocks of a life.
-use Rattle.std.proofs.Common.{◌≡◌, ◌∙◌, ◌+◌, ◌-◌, ◌≤◌, ℕ, zero, suc, Bool, true, false, List, [], ◌∷◌, ◌++◌, drop, take, refl, ap, sym, subst, arith, append-nil, append_assoc, if◌then◌else◌}
-use Rattle.std.specs.List.{AllByRecursion, flat_map}
+use Rattle.fio_ends.proofs.Names.{◌≡◌, ◌∙◌, ◌+◌, ◌-◌, ◌≤◌, ℕ, zero, suc, Bool, true, false, List, [], ◌∷◌, ◌++◌, drop, take, refl, ap, sym, subst, arith, append-nil, append_assoc, if◌then◌else◌, AllByRecursion, flat_map, flat_map-append, take-append-drop, LoadCounter, Poll, Settings, Life, Scanned, LineSynced, Raised, Commanded, filter_events, scans_of, Transition, log_of, MadeBlock, newest_poll, is_new, blocks_of, end_of_blocks, newest_end, next_block, start_after, count_from, last_end-append, each-append, each-map}
 use Rattle.std.proofs.Math.Seq.{drop-nil}
-use Rattle.std.proofs.lemmas.Grind.{flat_map-append}
-use Rattle.std.proofs.lemmas.List.{drop-append-le, take-append-drop}
-use Rattle.fio_message.specs.declared.commands.Command.TheVariants.{LoadCounter, Poll}
+use Rattle.std.proofs.lemmas.List.{drop-append-le}
 use Rattle.fio_input.specs.FilterHistory.{is_reported}
-use Rattle.fio_module.specs.Settings.{Settings}
-use Rattle.fio_module.specs.Life.{Life, Scanned, LineSynced, Raised, Commanded, filter_events, scans_of}
-use Rattle.fio_module.specs.Log.{Transition, log_of, transition_at, transitions_below}
-use Rattle.fio_module.specs.Blocks.{MadeBlock, latest_poll, is_new, blocks_of, end_of_blocks, newest_end, next_block, start_after, count_from}
+use Rattle.fio_module.specs.Log.{transition_at, transitions_below}
 use Rattle.fio_module.proofs.BlockLaws.{blocks_end_within}
-use Rattle.fio_module.proofs.Ends.{last_end-append}
-use Rattle.fio_world.proofs.MadeBlocks.{each-append, each-drop, each-map}
+use Rattle.fio_link.proofs.MadeBlocks.{each-drop}
 
 drop-add : {A : Type 0} (n m : ℕ) (xs : List A) → drop m (drop n xs) ≡ drop (n + m) xs
 drop-add zero m xs = let same : m ≡ 0 + m = omega arith in ap (λ k. drop k xs) same
@@ -155,7 +148,7 @@ all_told settings [] = record { rise = tt; upto = tt }
 all_told settings (Scanned raw ∷ life) = told-scan settings raw life (all_told settings life)
 all_told settings (LineSynced ∷ life) = all_told settings life
 all_told settings (Raised mask ∷ life) = all_told settings life
-all_told settings (Commanded (Poll number) ∷ life) = told-poll settings life (is_new (latest_poll life) number) (all_told settings life)
+all_told settings (Commanded (Poll number) ∷ life) = told-poll settings life (is_new (newest_poll life) number) (all_told settings life)
 all_told settings (Commanded (LoadCounter load) ∷ life) = all_told settings life
 all_told settings (Commanded other ∷ life) = all_told settings life
 

@@ -1,20 +1,10 @@
 -- Where no counter was loaded, the wide times of the record are the scans of its transitions.
-use Rattle.std.proofs.Common.{◌≡◌, ◌∙◌, ◌+◌, ◌-◌, ◌%◌, ◌^◌, ◌<◌, ◌≤◌, ℕ, Bool, true, false, List, [], ◌∷◌, ◌++◌, map, Option, Some, None, refl, ap, subst, arith, if◌then◌else◌}
+use Rattle.fio_ends.proofs.Names.{◌≡◌, ◌∙◌, ◌+◌, ◌-◌, ◌%◌, ◌^◌, ◌<◌, ◌≤◌, ℕ, Bool, true, false, List, [], ◌∷◌, ◌++◌, map, Option, Some, None, refl, ap, subst, arith, if◌then◌else◌, AllByRecursion, AllZip, flat_map, LoadCounter, Poll, asked_number, one_more_if_loaded, Settings, Life, Scanned, LineSynced, Raised, Commanded, counter_events, loads_of, scans_of, Transition, MadeBlock, newest_poll, is_new, blocks_of, next_block, Item, Entry, Gap, Source, Loss, From, sources_of, each-append, each-map, each_block, recorded_of, WaitsBriefly}
 use Rattle.std.specs.Prelude.{unwrap_or}
-use Rattle.std.specs.List.{AllByRecursion, AllZip, flat_map}
-use Rattle.fio_message.specs.declared.commands.Command.TheVariants.{LoadCounter, Poll}
-use Rattle.fio_input.specs.Counter.{CounterEvent, Tick, AskLoad, LineSync, asked_number, loaded_number, loads_in, one_more_if_loaded, ticks_after_load, ticks_in, ticks_unless_loaded}
-use Rattle.fio_module.specs.Settings.{Settings}
-use Rattle.fio_module.specs.Life.{Life, Scanned, LineSynced, Raised, Commanded, counter_events, counter_of, loads_of, scans_of}
-use Rattle.fio_module.specs.Log.{Transition}
-use Rattle.fio_module.specs.Blocks.{MadeBlock, latest_poll, is_new, blocks_of, next_block}
-use Rattle.fio_cpu.specs.declared.record.Item.{Item}
-use Rattle.fio_cpu.specs.declared.record.Item.TheVariants.{Entry, Gap}
-use Rattle.fio_world.specs.Claims.{Source, Loss, From, IsTimed, sources_of}
-use Rattle.fio_world.proofs.MadeBlocks.{each-append, each-map, each_block}
-use Rattle.fio_world.proofs.OneLife.{recorded_of}
-use Rattle.fio_world.proofs.Times.{BlockTimely, IsTimely, blocks_timed, blocks_timely}
-use Rattle.fio_ends.specs.ContentRuns.{WaitsBriefly}
+use Rattle.fio_input.specs.Counter.{CounterEvent, Tick, AskLoad, LineSync, loaded_number, loads_in, ticks_after_load, ticks_in, ticks_unless_loaded}
+use Rattle.fio_module.specs.Life.{counter_of}
+use Rattle.fio_link.specs.Claims.{IsTimed}
+use Rattle.fio_link.proofs.Times.{BlockTimely, IsTimely, blocks_timed, blocks_timely}
 
 -- ---- the counter
 
@@ -69,7 +59,7 @@ loads_upto settings (LineSynced ∷ life) =
     (blocks_of settings life) (loads_upto settings life)
 loads_upto settings (Raised mask ∷ life) = loads_upto settings life
 loads_upto settings (Commanded (Poll number) ∷ life) =
-    poll-loads (is_new (latest_poll life) number) (loads_of life) (blocks_of settings life) (next_block settings life) refl (loads_upto settings life)
+    poll-loads (is_new (newest_poll life) number) (loads_of life) (blocks_of settings life) (next_block settings life) refl (loads_upto settings life)
 loads_upto settings (Commanded (LoadCounter load) ∷ life) = loads_upto settings life
 loads_upto settings (Commanded other ∷ life) = loads_upto settings life
 

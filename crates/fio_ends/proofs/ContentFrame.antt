@@ -1,27 +1,10 @@
 -- An invariant of content holds along each prompt run: so its rule never accuses.
-use Rattle.std.proofs.Common.{◌≡◌, ◌∙◌, ◌+◌, ◌%◌, ◌⊎◌, inl, inr, ℕ, true, List, [], ◌∷◌, length, Option, Some, None, refl, ap, sym, subst, arith, length-append, if◌then◌else◌}
-use Rattle.std.specs.Prelude.{◌==◌, fold, not}
-use Rattle.std.proofs.lemmas.Bool.Decides.{nat_tests}
-use Rattle.std.proofs.lemmas.Option.{same_Some}
-use Rattle.fio_message.specs.declared.answers.Answer.{Answer}
+use Rattle.fio_ends.proofs.Names.{◌≡◌, ◌∙◌, ◌+◌, ◌%◌, ◌⊎◌, inl, inr, ℕ, true, List, [], ◌∷◌, length, Option, Some, None, refl, ap, sym, subst, arith, length-append, if◌then◌else◌, ◌==◌, fold, not, nat_tests, same_Some, Answer, Command, command_octets, answered_block, command_in, ContentFacts, content_with, ContentKept, nothing_kept, ContentEvent, Polled, events_in, content_events, events_of_block, events_of_command, number_after, facts_with, no_facts, answer_type_to, names_absent, ContentRule, Facts, Observation, SentFrame, Machine, start, number_of, sending_refusal, after_sending, get_push, CpuFrame}
 use Rattle.fio_message.specs.declared.answers.Answer.TheVariants as answers
-use Rattle.fio_message.specs.declared.commands.Command.{Command}
 use Rattle.fio_message.specs.declared.commands.Command.TheVariants as commands
 use Rattle.fio_message.specs.declared.commands.OtherCommand.TheVariants as other_commands
 use Rattle.fio_message.specs.Blocks.{Block as BlockOf}
-use Rattle.fio_message.specs.Commands.{command_octets}
-use Rattle.fio_message.specs.Decoding.{answered_block, command_in}
-use Rattle.fio_check.specs.ContentAbove.{ContentFacts, content_with}
-use Rattle.fio_check.specs.ContentCheckers.{ContentKept, nothing_kept}
-use Rattle.fio_check.specs.ContentEvents.{ContentEvent, Polled, events_in, events_of, events_of_block, events_of_command, number_below, number_with, number_with_command}
-use Rattle.fio_check.specs.Facts.{facts_with, no_facts}
-use Rattle.fio_check.specs.Observations.{answer_type_to, names_absent}
-use Rattle.fio_check.specs.declared.content_rules.ContentRule.{ContentRule}
-use Rattle.fio_check.specs.declared.facts.Facts.{Facts}
-use Rattle.fio_check.specs.declared.observation.Observation.{Observation}
-use Rattle.fio_world.specs.Link.{SentFrame, Machine, start, number_of, sending_refusal, after_sending}
-use Rattle.fio_world.proofs.Places.{get_push}
-use Rattle.fio_ends.specs.Transcripts.{CpuFrame}
+use Rattle.fio_check.specs.ContentEvents.{number_below, number_with_command}
 use Rattle.fio_ends.proofs.GoodLines.{said_by}
 use Rattle.fio_ends.proofs.Following.{facts_below}
 use Rattle.fio_ends.proofs.ContentLines.{EntriesKeep, FramesKeep, content_below}
@@ -156,7 +139,7 @@ now_sent machine command reads =
 
 -- a block answer with the number
 pub block_events : (number : ℕ) (answer : Option Answer) (block : BlockOf) → answered_block answer ≡ Some block → block.number ≡ number
-    → (events_of (Some number) None answer ≡ events_of_block block) × (number_with (Some number) None answer ≡ Some ((number + 1) % 256))
+    → (content_events (Some number) None answer ≡ events_of_block block) × (number_after (Some number) None answer ≡ Some ((number + 1) % 256))
 block_events number None block is same = absurd (cc is)
 block_events number (Some (answers.Block n entries status stamp)) block is same =
     let b : block ≡ (record { number = n; entries = entries.items; status = status; stamp = stamp }) = sym (same_Some _ _ is) in

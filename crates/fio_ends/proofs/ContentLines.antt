@@ -1,20 +1,10 @@
 -- Entries that break no rule on content, frame by frame, are those of a transcript in which none does.
-use Rattle.std.proofs.Common.{◌≡◌, ◌∙◌, ◌-◌, ◌≤◌, inl, inr, ℕ, suc, false, List, [], ◌∷◌, ◌++◌, drop, length, map, Option, Some, None, refl, ap, sym, subst, arith}
-use Rattle.std.specs.Prelude.{fold, option_map, slice_get}
-use Rattle.std.proofs.lemmas.Bool.Decides.{eqb_tells}
-use Rattle.std.proofs.lemmas.List.{length-drop}
-use Rattle.std.proofs.lemmas.Option.{same_Some, slice_get_within}
-use Rattle.fio_cpu.specs.declared.record.Item.TheVariants.{Entry}
-use Rattle.fio_check.specs.ContentAbove.{ContentFacts, content_at, content_with}
-use Rattle.fio_check.specs.ContentCheckers.{ContentKept, kept_with, nothing_kept}
-use Rattle.fio_check.specs.ContentEvents.{ContentEvent, LineEvent, Recorded, event_at, events_below, events_in, events_of_lines}
-use Rattle.fio_check.specs.ContentRules.{breaks_content}
-use Rattle.fio_check.specs.Lines.{TranscriptLine}
-use Rattle.fio_check.specs.declared.content_rules.ContentRule.{ContentRule}
+use Rattle.fio_ends.proofs.Names.{◌≡◌, ◌∙◌, ◌-◌, ◌≤◌, inl, inr, ℕ, suc, false, List, [], ◌∷◌, ◌++◌, drop, length, map, Option, Some, None, refl, ap, sym, subst, arith, fold, option_map, slice_get, eqb_tells, length-drop, same_Some, slice_get_within, Entry, ContentFacts, content_with, ContentKept, nothing_kept, ContentEvent, LineEvent, Recorded, content_event_at, events_in, events_of_lines, breaks_content, TranscriptLine, ContentRule, CpuFrame, frame_on, NoneBreaks}
+use Rattle.fio_check.specs.ContentAbove.{content_at}
+use Rattle.fio_check.specs.ContentCheckers.{kept_with}
+use Rattle.fio_check.specs.ContentEvents.{events_below}
 use Rattle.fio_check.proofs.ContentCourse.{dropped_first}
 use Rattle.fio_check.proofs.ContentPlaces.{content_next}
-use Rattle.fio_ends.specs.Transcripts.{CpuFrame, frame_on}
-use Rattle.fio_ends.specs.ContentRuns.{NoneBreaks}
 
 -- the entry that an event records keeps a rule, if it records one
 abbrev pub EntryKeeps : ContentRule → ContentFacts → ContentEvent → Type 0
@@ -81,7 +71,7 @@ event_here all place event (Some there) is at = (there, is, same_Some _ _ at)
 -- at each place from one on, where what is left keeps the rule
 at_places : (rule : ContentRule) (all rest : List LineEvent) (place : ℕ) → drop place all ≡ rest
     → EntriesKeep rule (content_at all place) (map event_of rest)
-    → (above : ℕ) (event : ContentEvent) → place ≤ above → event_at all above ≡ Some event
+    → (above : ℕ) (event : ContentEvent) → place ≤ above → content_event_at all above ≡ Some event
     → EntryKeeps rule (content_at all above) event
 at_places rule all [] place left keep above event low at =
     let there = event_here all above event (slice_get all above) refl at in

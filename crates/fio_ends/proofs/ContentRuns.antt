@@ -1,44 +1,11 @@
 -- Along a prompt run an invariant of content holds, so its rule never accuses.
-use Rattle.std.proofs.Common.{◌≡◌, ◌∙◌, ◌+◌, ◌%◌, ◌<◌, ◌≤◌, ◌&&◌, ◌||◌, ◌⊎◌, inl, inr, ℕ, Bool, true, false, List, [], ◌∷◌, length, Option, Some, None, refl, ap, ap₂, sym, subst, arith, if◌then◌else◌}
-use Rattle.std.specs.Prelude.{◌==◌, nat_le, nat_lt, not, slice_get}
-use Rattle.std.specs.List.{AllByRecursion, list_any}
-use Rattle.std.proofs.lemmas.Bool.Decides.{nat_tests}
-use Rattle.std.proofs.lemmas.Option.{same_Some}
-use Rattle.arrayvec.specs.ArrayVec.{ArrayVec}
-use Rattle.fio_message.specs.declared.answers.Answer.{Answer}
+use Rattle.fio_ends.proofs.Names.{◌≡◌, ◌∙◌, ◌+◌, ◌%◌, ◌<◌, ◌≤◌, ◌&&◌, ◌||◌, ◌⊎◌, inl, inr, ℕ, Bool, true, false, List, [], ◌∷◌, length, Option, Some, None, refl, ap, ap₂, sym, subst, arith, if◌then◌else◌, ◌==◌, nat_le, nat_lt, not, slice_get, AllByRecursion, list_any, nat_tests, same_Some, ArrayVec, Answer, Command, InputItem, command_octets, IsCommand, answer_in, block_in, says_error, all_present, Settings, AreInRange, ContentFacts, ContentKept, nothing_kept, Accepted, Polled, content_events, events_of_block, events_of_command, number_after, no_facts, answer_type_to, is_absent, names_absent, observation_of, ContentRule, Facts, Event, SentFrame, Machine, start, number_of, sending_refusal, after_sending, after_module_event, after_delivery_to_module, after_delivered_block, after_delivery_to_cpu, refusal, after, Leads, HasBlock, IsNotRestart, HaveNoRestart, blocks_in, CarriesBlockOf, number_of-fits, number_of-next, after_taken, same_round, after_delivery, IsKept, carries_own, kept_all, kept, frame_heard, frames_at, frames_from, due_after, IsPrompt, ArePrompt, IsWithinRanges, ContentNeverAccuses, HaveTimesFor, sources_taken}
 use Rattle.fio_message.specs.declared.answers.Answer.TheVariants as answers
-use Rattle.fio_message.specs.declared.commands.Command.{Command}
 use Rattle.fio_message.specs.declared.commands.Command.TheVariants as commands
 use Rattle.fio_message.specs.declared.commands.OtherCommand.TheVariants as other_commands
-use Rattle.fio_message.specs.declared.fields.InputItem.{InputItem}
-use Rattle.fio_message.specs.Commands.{command_octets, IsCommand}
-use Rattle.fio_message.specs.Decoding.{answer_in, block_in}
-use Rattle.fio_message.specs.Status.{says_error}
-use Rattle.fio_input.specs.FilterHistory.{all_present}
-use Rattle.fio_module.specs.Settings.{Settings, AreInRange}
 use Rattle.fio_module.specs.Life as module_events
-use Rattle.fio_check.specs.ContentAbove.{ContentFacts}
-use Rattle.fio_check.specs.ContentCheckers.{ContentKept, nothing_kept}
-use Rattle.fio_check.specs.ContentEvents.{Accepted, Polled, events_of, events_of_block, events_of_command, number_with}
-use Rattle.fio_check.specs.Facts.{no_facts}
-use Rattle.fio_check.specs.Observations.{answer_type_to, is_absent, names_absent, observation_of}
-use Rattle.fio_check.specs.declared.content_rules.ContentRule.{ContentRule}
-use Rattle.fio_check.specs.declared.facts.Facts.{Facts}
 use Rattle.fio_check.specs.declared.observation.Observation.TheVariants as seen
-use Rattle.fio_world.specs.declared.event.Event.{Event}
-use Rattle.fio_world.specs.declared.event.Event.TheVariants as events
-use Rattle.fio_world.specs.Link.{SentFrame, Machine, start, number_of, sending_refusal, after_sending, after_module_event, after_delivery_to_module, after_delivered_block, after_delivery_to_cpu, refusal, after, Leads}
-use Rattle.fio_world.specs.Frames.{HasBlock}
-use Rattle.fio_world.specs.Headline.{IsNotRestart, HaveNoRestart}
-use Rattle.fio_world.specs.Claims.{blocks_in}
-use Rattle.fio_world.specs.Rounds.{CarriesBlockOf}
-use Rattle.fio_world.proofs.RoundNumbers.{number_of-fits, number_of-next}
-use Rattle.fio_world.proofs.HeardRows.{after_taken, same_round}
-use Rattle.fio_world.proofs.Rows.{after_delivery}
-use Rattle.fio_world.proofs.OneLifeRows.{IsKept, carries_own, kept_all, kept}
-use Rattle.fio_ends.specs.Transcripts.{frame_heard, frames_at, frames_from}
-use Rattle.fio_ends.specs.PromptRuns.{due_after, IsPrompt, ArePrompt, IsWithinRanges}
-use Rattle.fio_ends.specs.ContentRuns.{ContentNeverAccuses, HaveTimesFor, sources_taken}
+use Rattle.fio_link.specs.declared.event.Event.TheVariants as events
 use Rattle.fio_ends.proofs.Heard.{IsHeardAs}
 use Rattle.fio_ends.proofs.Following.{Answers, Follows, IsBlockFor, IsReceived, Stage, facts_below, follows-start}
 use Rattle.fio_ends.proofs.Sends.{other_said, read_back, said_of}
@@ -53,8 +20,8 @@ use Rattle.fio_ends.proofs.ContentFrame.{Agrees, KeepsContent, agrees-below, agr
 
 -- it has no event, or it is heard that a configuration was taken
 heard_events : (number : Option ℕ) (answer : Option Answer) (type : ℕ) (accepted : Bool) → observation_of None answer ≡ seen.Answer type accepted
-    → (number_with number None answer ≡ number)
-    × ((events_of number None answer ≡ []) ⊎ ((events_of number None answer ≡ Accepted ∷ []) × (type ≡ 179) × (accepted ≡ true)))
+    → (number_after number None answer ≡ number)
+    × ((content_events number None answer ≡ []) ⊎ ((content_events number None answer ≡ Accepted ∷ []) × (type ≡ 179) × (accepted ≡ true)))
 heard_events number None type accepted is = absurd (cc is)
 heard_events number (Some (answers.Block n entries status stamp)) type accepted is = absurd (cc is)
 heard_events number (Some (answers.ConfigureInputs status)) type accepted is = (refl, by_status (says_error status) refl)
@@ -115,8 +82,8 @@ module _ (settings : Settings) (range : AreInRange settings) (first : ℕ) (rule
         let own = own_poll kept.number number (numbered facts.polled refl) in
         one_frame rule P first facts kept (record { from_cpu = true; octets = command_octets command }) (after_sending machine command)
         (seen.Poll number) (Some number) (Polled ∷ []) (said_of command fits)
-        (ap (λ read. number_with kept.number read None) reads ∙ own.1)
-        (ap (λ read. events_of kept.number read None) reads ∙ own.0)
+        (ap (λ read. number_after kept.number read None) reads ∙ own.1)
+        (ap (λ read. content_events kept.number read None) reads ∙ own.0)
         (tt, tt) (i.polls machine kept.facts k p)
         (record {
           number = λ polled is. refl;
@@ -133,8 +100,8 @@ module _ (settings : Settings) (range : AreInRange settings) (first : ℕ) (rule
         one_frame rule P first facts kept (record { from_cpu = true; octets = command_octets command }) (after_sending machine command)
         (seen.Command (answer_type_to command) (names_absent command)) kept.number (events_of_command None command)
         (said_of command within ∙ other_said command fine)
-        (ap (λ read. number_with kept.number read None) reads ∙ o.number)
-        (ap (λ read. events_of kept.number read None) reads ∙ o.events)
+        (ap (λ read. number_after kept.number read None) reads ∙ o.number)
+        (ap (λ read. content_events kept.number read None) reads ∙ o.events)
         o.keep (i.sends machine kept.facts command k fine within p)
         (record {
           number = a.number;
@@ -202,8 +169,8 @@ module _ (settings : Settings) (range : AreInRange settings) (first : ℕ) (rule
         one_frame rule P first facts kept (record { from_cpu = false; octets = frame.octets }) (after_taken machine place b)
         (seen.Block b.number b.status (length b.entries) (list_any (λ entry. is_absent entry.input) b.entries))
         (Some ((own + 1) % 256)) (events_of_block b) (block_said (answer_in frame.octets) b h.spells)
-        (ap (λ n. number_with n None (answer_in frame.octets)) known ∙ found.1)
-        (ap (λ n. events_of n None (answer_in frame.octets)) known ∙ found.0)
+        (ap (λ n. number_after n None (answer_in frame.octets)) known ∙ found.1)
+        (ap (λ n. content_events n None (answer_in frame.octets)) known ∙ found.0)
         takes.0 takes.1
         (record {
           number = λ polled is. ap Some (sym (number_of-next first machine.round));
@@ -264,7 +231,7 @@ module _ (settings : Settings) (range : AreInRange settings) (first : ℕ) (rule
       let next = after settings first machine event in
       let here = keeps-event settings range first machine due facts k f event leads.0 none.0 within.0 prompt.0 in
       let now : IsKept settings first next = kept_all settings range first (event ∷ []) machine next (none.0, tt) (leads.0, refl) k in
-      let more = adds settings range first events next last now none.1 leads.1 in
+      let more = adds settings range first next events last now none.1 leads.1 in
       let in_time = front_has_times rule (sources_taken settings next) more.0 (subst (HaveTimesFor rule) more.1 times) in
       let content = content-event machine due facts kept k f a p event leads.0 none.0 within.0 prompt.0 in_time in
       frames_keep rule kept frames (frames_from settings first next events) content.keep

@@ -1,27 +1,8 @@
 -- What is to be shown of an invariant, event by event, so that a rule on content never accuses.
-use Rattle.std.proofs.Common.{◌≡◌, ◌+◌, ◌<◌, ℕ, true, List, ◌++◌, length, Some, None}
-use Rattle.std.specs.Prelude.{fold, slice_get}
-use Rattle.arrayvec.specs.ArrayVec.{ArrayVec}
-use Rattle.fio_message.specs.declared.commands.Command.{Command}
+use Rattle.fio_ends.proofs.Names.{◌≡◌, ◌+◌, ◌<◌, ℕ, true, List, ◌++◌, length, Some, None, fold, slice_get, ArrayVec, Command, InputItem, Block, IsCommand, command_in, all_present, Settings, MadeBlock, ContentFacts, content_with, no_content, Accepted, Polled, events_of_block, events_of_command, ContentRule, SentFrame, Machine, start, number_of, after_module_event, sending_refusal, after_sending, after_delivery_to_module, HasBlock, blocks_in, sources_of, after_taken, IsKept, HaveTimesFor, sources_taken}
 use Rattle.fio_message.specs.declared.commands.Command.TheVariants as commands
-use Rattle.fio_message.specs.declared.fields.InputItem.{InputItem}
-use Rattle.fio_message.specs.Blocks.{Block}
-use Rattle.fio_message.specs.Commands.{IsCommand}
-use Rattle.fio_message.specs.Decoding.{command_in}
-use Rattle.fio_input.specs.FilterHistory.{all_present}
-use Rattle.fio_module.specs.Settings.{Settings}
-use Rattle.fio_module.specs.Blocks.{MadeBlock}
 use Rattle.fio_module.specs.Life as module_events
-use Rattle.fio_check.specs.ContentAbove.{ContentFacts, content_with, no_content}
-use Rattle.fio_check.specs.ContentEvents.{Accepted, Polled, events_of_block, events_of_command}
-use Rattle.fio_check.specs.declared.content_rules.ContentRule.{ContentRule}
-use Rattle.fio_world.specs.Link.{SentFrame, Machine, start, number_of, after_module_event, sending_refusal, after_sending, after_delivery_to_module}
-use Rattle.fio_world.specs.Frames.{HasBlock}
-use Rattle.fio_world.specs.Claims.{blocks_in, sources_of}
-use Rattle.fio_world.specs.Rounds.{CarriesBlock}
-use Rattle.fio_world.proofs.HeardRows.{after_taken}
-use Rattle.fio_world.proofs.OneLifeRows.{IsKept}
-use Rattle.fio_ends.specs.ContentRuns.{HaveTimesFor, sources_taken}
+use Rattle.fio_link.specs.Rounds.{CarriesBlock}
 use Rattle.fio_ends.proofs.ContentLines.{EntriesKeep}
 
 -- an event that reaches the module past the bus, and is no restart

@@ -1,17 +1,13 @@
 -- Worked runs and their transcripts, by computation.
-use Rattle.std.proofs.Common.{◌≡◌, ◌+◌, ℕ, true, false, List, [], ◌∷◌, refl, arith}
+use Rattle.fio_ends.proofs.Names.{◌≡◌, ◌+◌, ℕ, true, false, List, [], ◌∷◌, refl, arith, TranscriptLine, verdict_on, Event, ToModule, ToCpu, Machine, start, after, CpuFrame}
 use Rattle.fio_message.specs.declared.commands.Command.TheVariants as commands
 use Rattle.fio_message.specs.Bits.{is_set}
 use Rattle.fio_message.specs.Decoding.{message_in}
 use Rattle.fio_module.specs.Settings.{standard_settings}
-use Rattle.fio_check.specs.Lines.{TranscriptLine}
-use Rattle.fio_check.specs.Verdicts.{verdict_on}
 use Rattle.fio_check.specs.declared.rules.Rule.TheVariants.{Pair, Same}
 use Rattle.fio_check.specs.declared.verdict.Verdict.TheVariants.{Broken}
-use Rattle.fio_world.specs.declared.event.Event.{Event}
-use Rattle.fio_world.specs.declared.event.Event.TheVariants.{Poll, Send, ToModule, ToCpu}
-use Rattle.fio_world.specs.Link.{Machine, start, after}
-use Rattle.fio_ends.specs.Transcripts.{CpuFrame, transcript_of}
+use Rattle.fio_link.specs.declared.event.Event.TheVariants.{Poll, Send}
+use Rattle.fio_ends.specs.Transcripts.{transcript_of}
 use Rattle.fio_ends.specs.PromptRuns.{IsPromptRun}
 
 -- the machine after these events

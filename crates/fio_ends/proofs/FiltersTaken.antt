@@ -1,25 +1,9 @@
 -- Below the answer that the latest configuration was taken, its filters are those in force.
-use Rattle.std.proofs.Common.{◌≡◌, ◌∙◌, ◌+◌, ◌≤◌, inl, inr, ℕ, Bool, true, false, List, [], ◌∷◌, ◌++◌, length, map, Option, Some, None, slice_get, refl, ap, sym, subst, arith, length-append, if◌then◌else◌}
-use Rattle.std.specs.Prelude.{fold, option_map}
-use Rattle.std.proofs.lemmas.Grind.{fold-append}
-use Rattle.std.proofs.lemmas.Option.{same_Some, slice_get_within}
-use Rattle.arrayvec.specs.ArrayVec.{ArrayVec}
-use Rattle.fio_message.specs.declared.commands.Command.{Command}
+use Rattle.fio_ends.proofs.Names.{◌≡◌, ◌∙◌, ◌+◌, ◌≤◌, inl, inr, ℕ, Bool, true, false, List, [], ◌∷◌, ◌++◌, length, map, Option, Some, None, slice_get, refl, ap, sym, subst, arith, length-append, if◌then◌else◌, fold, option_map, fold-append, same_Some, slice_get_within, ArrayVec, Command, InputItem, Block, command_in, says_more, all_present, input_setting, Life, Commanded, filter_events, life_of, life_after_command, Item, Entry, Gap, items_of_block, ContentFacts, FilterPair, content_with, Accepted, Ended, Recorded, events_of_block, events_of_command, SentFrame, Machine, get_after_push, get_push}
 use Rattle.fio_message.specs.declared.commands.Command.TheVariants as commands
-use Rattle.fio_message.specs.declared.fields.InputItem.{InputItem}
-use Rattle.fio_message.specs.Blocks.{Block}
-use Rattle.fio_message.specs.Decoding.{command_in}
-use Rattle.fio_message.specs.Status.{says_more}
-use Rattle.fio_input.specs.FilterHistory.{all_present, input_setting, last_item_of, setting_by}
-use Rattle.fio_module.specs.Life.{Life, Commanded, filter_events, life_of, life_after_command}
+use Rattle.fio_input.specs.FilterHistory.{last_item_of, setting_by}
 use Rattle.fio_module.specs.Life as module_events
-use Rattle.fio_cpu.specs.declared.record.Item.{Item}
-use Rattle.fio_cpu.specs.declared.record.Item.TheVariants.{Entry, Gap}
-use Rattle.fio_cpu.specs.Record.{items_of_block}
-use Rattle.fio_check.specs.ContentAbove.{ContentFacts, FilterPair, content_with, filters_of}
-use Rattle.fio_check.specs.ContentEvents.{Accepted, Ended, Recorded, events_of_block, events_of_command}
-use Rattle.fio_world.specs.Link.{SentFrame, Machine}
-use Rattle.fio_world.proofs.Places.{get_after_push, get_push}
+use Rattle.fio_check.specs.ContentAbove.{filters_of}
 use Rattle.fio_ends.proofs.ContentSteps.{HasTaken, IsPastBus, IsSentLast}
 use Rattle.fio_ends.proofs.QuietSince.{IsNoConfiguration, NoneConfigures}
 

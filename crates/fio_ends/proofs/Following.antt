@@ -1,21 +1,8 @@
 -- What a prompt run keeps of its transcript and its machine.
-use Rattle.std.proofs.Common.{◌≡◌, ◌+◌, ◌<◌, ◌≤◌, ◌⊎◌, inl, inr, ℕ, Bool, true, false, List, [], ◌∷◌, length, Some, refl, sym, subst, arith}
-use Rattle.std.specs.Prelude.{slice_get}
-use Rattle.fio_message.specs.declared.commands.Command.{Command}
+use Rattle.fio_ends.proofs.Names.{◌≡◌, ◌+◌, ◌<◌, ◌≤◌, ◌⊎◌, inl, inr, ℕ, Bool, true, false, List, [], ◌∷◌, length, Some, refl, sym, subst, arith, slice_get, Command, block_in, command_in, says_again, Settings, life_of, MadeBlock, blocks_of, facts_with, no_facts, number_due, answer_type_to, names_absent, Facts, SentFrame, Machine, start, number_of, HasPoll, next_round, CpuFrame}
 use Rattle.fio_message.specs.declared.commands.Command.TheVariants as commands
 use Rattle.fio_message.specs.Blocks.{Block as BlockOf}
-use Rattle.fio_message.specs.Decoding.{block_in, command_in}
-use Rattle.fio_message.specs.Status.{says_again}
-use Rattle.fio_module.specs.Settings.{Settings}
-use Rattle.fio_module.specs.Life.{History, life_of}
-use Rattle.fio_module.specs.Blocks.{MadeBlock, blocks_of}
-use Rattle.fio_check.specs.Facts.{facts_with, no_facts, number_due}
-use Rattle.fio_check.specs.Observations.{answer_type_to, names_absent}
-use Rattle.fio_check.specs.declared.facts.Facts.{Facts}
-use Rattle.fio_world.specs.Link.{SentFrame, Machine, start, number_of}
-use Rattle.fio_world.specs.Frames.{HasPoll}
-use Rattle.fio_world.specs.Rounds.{next_round}
-use Rattle.fio_ends.specs.Transcripts.{CpuFrame}
+use Rattle.fio_module.specs.Life.{History}
 use Rattle.fio_ends.proofs.GoodLines.{KeepRules, said_by}
 use Rattle.fio_ends.proofs.Heard.{IsHeardAs}
 

@@ -1,18 +1,6 @@
 -- Frames that break no rule, one after the other, make a good transcript.
-use Rattle.std.proofs.Common.{◌≡◌, ◌∙◌, ◌+◌, ◌<◌, ◌≤◌, inl, inr, ℕ, suc, List, [], ◌∷◌, ◌++◌, length, map, Some, None, refl, ap, sym, subst, arith, length-append, append_assoc}
-use Rattle.std.specs.Prelude.{slice_get}
-use Rattle.std.proofs.lemmas.Bool.Decides.{eqb_tells}
-use Rattle.fio_check.specs.Facts.{facts_at, facts_with, no_facts}
-use Rattle.fio_check.specs.Lines.{TranscriptLine}
-use Rattle.fio_check.specs.Observations.{observation_in, observation_on}
-use Rattle.fio_check.specs.Rules.{first_broken, rule_broken}
-use Rattle.fio_check.specs.Verdicts.{verdict_on}
-use Rattle.fio_check.specs.declared.facts.Facts.{Facts}
-use Rattle.fio_check.specs.declared.observation.Observation.{Observation}
-use Rattle.fio_check.specs.declared.verdict.Verdict.TheVariants.{Good}
-use Rattle.fio_check.proofs.KeptFacts.{facts_next, seen_at}
+use Rattle.fio_ends.proofs.Names.{◌≡◌, ◌∙◌, ◌+◌, ◌<◌, ◌≤◌, inl, inr, ℕ, suc, List, [], ◌∷◌, ◌++◌, length, map, Some, None, refl, ap, sym, subst, arith, length-append, append_assoc, slice_get, eqb_tells, facts_at, facts_with, no_facts, TranscriptLine, observation_in, observation_on, first_broken, rule_broken, verdict_on, Facts, Observation, Good, facts_next, seen_at, CpuFrame, frame_on}
 use Rattle.fio_check.proofs.Verdicts.{one_verdict}
-use Rattle.fio_ends.specs.Transcripts.{CpuFrame, frame_on}
 
 -- what a frame says to the rules
 abbrev pub said_by : CpuFrame → Observation

@@ -1,22 +1,10 @@
 -- What the CPU hears of the answer to a command that is no poll.
-use Rattle.std.proofs.Common.{◌≡◌, ◌∙◌, ◌&&◌, ◌||◌, ℕ, Bool, true, false, List, [], ◌∷◌, Some, None, refl, ap, subst, arith}
-use Rattle.std.specs.Prelude.{not, nat_le, nat_lt}
-use Rattle.std.specs.List.{list_all, list_any}
-use Rattle.std.proofs.lemmas.Option.{same_Some}
-use Rattle.std.proofs.lemmas.Bool.Decides.{nat_tests}
-use Rattle.fio_message.specs.declared.answers.Answer.{Answer}
-use Rattle.fio_message.specs.declared.commands.Command.{Command}
+use Rattle.fio_ends.proofs.Names.{◌≡◌, ◌∙◌, ◌&&◌, ◌||◌, ℕ, Bool, true, false, List, [], ◌∷◌, Some, None, refl, ap, subst, arith, not, nat_le, nat_lt, list_any, same_Some, nat_tests, Answer, Command, InputItem, answer_octets, polled_number, says_error, all_present, Settings, Life, answer_to, answer_type_to, is_absent, names_absent, observation_in}
+use Rattle.std.specs.List.{list_all}
 use Rattle.fio_message.specs.declared.commands.Command.TheVariants as commands
-use Rattle.fio_message.specs.declared.fields.InputItem.{InputItem}
-use Rattle.fio_message.specs.Answers.{answer_octets}
-use Rattle.fio_message.specs.Decoding.{message_in, polled_number}
-use Rattle.fio_message.specs.Status.{says_error, error_status}
+use Rattle.fio_message.specs.Decoding.{message_in}
+use Rattle.fio_message.specs.Status.{error_status}
 use Rattle.fio_message.proofs.StatusBits.{error_back}
-use Rattle.fio_input.specs.FilterHistory.{all_present}
-use Rattle.fio_module.specs.Settings.{Settings}
-use Rattle.fio_module.specs.Life.{Life}
-use Rattle.fio_module.specs.Replies.{answer_to}
-use Rattle.fio_check.specs.Observations.{answer_type_to, is_absent, names_absent, observation_in}
 use Rattle.fio_check.specs.declared.observation.Observation.TheVariants as seen
 
 -- the octets are heard as an answer of the command's type, which does not say that a configuration was

@@ -1,38 +1,13 @@
 -- The CPU hears the answer that is due: its line breaks no rule.
-use Rattle.std.proofs.Common.{◌≡◌, ◌∙◌, ◌+◌, ◌%◌, ◌<◌, ◌≤◌, ◌&&◌, ◌||◌, inl, inr, ℕ, Bool, true, false, List, [], ◌∷◌, length, map, Option, Some, None, refl, ap, sym, subst, arith, if◌then◌else◌}
-use Rattle.std.specs.Prelude.{◌==◌, is_some, not, nat_le, option_map, slice_get}
-use Rattle.std.specs.List.{AllByRecursion, list_any}
-use Rattle.std.specs.Option.{option_map_or}
-use Rattle.std.proofs.lemmas.Bool.Decides.{nat_tests}
+use Rattle.fio_ends.proofs.Names.{◌≡◌, ◌∙◌, ◌+◌, ◌%◌, ◌<◌, ◌≤◌, ◌&&◌, ◌||◌, inl, inr, ℕ, Bool, true, false, List, [], ◌∷◌, length, map, Option, Some, None, refl, ap, sym, subst, arith, if◌then◌else◌, ◌==◌, not, nat_le, option_map, slice_get, AllByRecursion, list_any, option_map_or, nat_tests, same_Some, Answer, Command, answer_in, answered_block, block_in, says_again, says_lost, says_more, Settings, AreInRange, Life, life_of, Transition, entry_of, MadeBlock, blocks_of, facts_with, answer_type_to, is_absent, observation_in, observation_of, first_broken, Facts, ToCpu, SentFrame, Machine, number_of, after_delivered_block, after_delivery_to_cpu, refusal, after, item_numbered, HasBlock, next_round, CarriesBlockOf, number_of-next, HasInput, each-at, after_taken, same_round, after_delivery, IsKept, carries_own, frame_heard}
+use Rattle.std.specs.Prelude.{is_some}
 use Rattle.std.proofs.lemmas.List.{length-map}
-use Rattle.std.proofs.lemmas.Option.{same_Some}
-use Rattle.fio_message.specs.declared.answers.Answer.{Answer}
 use Rattle.fio_message.specs.declared.answers.Answer.TheVariants as answers
-use Rattle.fio_message.specs.declared.commands.Command.{Command}
 use Rattle.fio_message.specs.declared.commands.Command.TheVariants as commands
 use Rattle.fio_message.specs.Blocks.{Block as BlockOf}
-use Rattle.fio_message.specs.Decoding.{answer_in, answered_block, block_in}
-use Rattle.fio_message.specs.Status.{says_again, says_lost, says_more}
-use Rattle.fio_module.specs.Settings.{Settings, AreInRange}
-use Rattle.fio_module.specs.Life.{Life, life_of}
-use Rattle.fio_module.specs.Log.{Transition, entry_of}
-use Rattle.fio_module.specs.Blocks.{MadeBlock, blocks_of}
-use Rattle.fio_check.specs.Facts.{facts_with}
-use Rattle.fio_check.specs.Observations.{answer_type_to, is_absent, observation_in, observation_of}
-use Rattle.fio_check.specs.Rules.{first_broken, is_overfull}
+use Rattle.fio_check.specs.Rules.{is_overfull}
 use Rattle.fio_check.specs.declared.rules.Rule.TheVariants as tried
-use Rattle.fio_check.specs.declared.facts.Facts.{Facts}
 use Rattle.fio_check.specs.declared.observation.Observation.TheVariants as seen
-use Rattle.fio_world.specs.declared.event.Event.TheVariants.{ToCpu}
-use Rattle.fio_world.specs.Link.{SentFrame, Machine, number_of, after_delivered_block, after_delivery_to_cpu, refusal, after, item_numbered}
-use Rattle.fio_world.specs.Frames.{HasBlock}
-use Rattle.fio_world.specs.Rounds.{next_round, CarriesBlockOf}
-use Rattle.fio_world.proofs.RoundNumbers.{number_of-next}
-use Rattle.fio_world.proofs.MadeBlocks.{HasInput, each-at}
-use Rattle.fio_world.proofs.HeardRows.{after_taken, same_round}
-use Rattle.fio_world.proofs.Rows.{after_delivery}
-use Rattle.fio_world.proofs.OneLifeRows.{IsKept, carries_own}
-use Rattle.fio_ends.specs.Transcripts.{frame_heard}
 use Rattle.fio_ends.proofs.Rules.{KeepsRules, no_rule_broken}
 use Rattle.fio_ends.proofs.BlocksOfLives.{KeepsLimits, blocks_keep, blocks_leave}
 use Rattle.fio_ends.proofs.Heard.{IsHeardAs}

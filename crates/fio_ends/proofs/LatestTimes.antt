@@ -1,17 +1,5 @@
 -- The latest entry of each input, as it is in the log and among the sources of the record, with its time.
-use Rattle.std.proofs.Common.{◌≡◌, ◌≢◌, ◌∙◌, ◌+◌, ◌%◌, ◌^◌, ◌<◌, ◌≤◌, inl, inr, ℕ, List, [], ◌∷◌, ◌++◌, length, Option, Some, None, slice_get, refl, ap, sym, subst, arith, length-append, if◌then◌else◌}
-use Rattle.std.specs.Prelude.{option_map}
-use Rattle.std.proofs.lemmas.Bool.Decides.{eqb_tells}
-use Rattle.std.proofs.lemmas.Option.{same_Some, slice_get_within}
-use Rattle.fio_module.specs.Log.{Transition}
-use Rattle.fio_module.specs.Blocks.{MadeBlock}
-use Rattle.fio_module.proofs.ListParts.{get_in_front}
-use Rattle.fio_cpu.specs.declared.record.Item.TheVariants.{Entry}
-use Rattle.fio_check.specs.ContentAbove.{ContentFacts, LatestEntry, content_with, unquiet}
-use Rattle.fio_check.specs.ContentEvents.{Recorded}
-use Rattle.fio_world.specs.Claims.{Source, From}
-use Rattle.fio_world.proofs.Places.{get_after_push, get_before_push, get_push}
-use Rattle.fio_ends.specs.ContentRuns.{IsOfAnother}
+use Rattle.fio_ends.proofs.Names.{◌≡◌, ◌≢◌, ◌∙◌, ◌+◌, ◌%◌, ◌^◌, ◌<◌, ◌≤◌, inl, inr, ℕ, List, [], ◌∷◌, ◌++◌, length, Option, Some, None, slice_get, refl, ap, sym, subst, arith, length-append, if◌then◌else◌, option_map, eqb_tells, same_Some, slice_get_within, Transition, MadeBlock, get_in_front, Entry, ContentFacts, LatestEntry, content_with, unquiet, Recorded, Source, From, get_after_push, get_before_push, get_push, IsOfAnother}
 
 -- The latest entry of an input has this wide time, in a record that has come to a place of the log and is from these
 -- sources.

@@ -1,3 +1,4 @@
+pub mod Names
 pub mod Rules
 pub mod Pollers
 pub mod GoodLines
@@ -29,3 +30,4 @@ pub mod LatestTimes
 pub mod ApartBlocks
 pub mod ApartRuns
 pub mod NoEntryBroken
+pub mod Calls

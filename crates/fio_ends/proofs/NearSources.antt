@@ -1,15 +1,5 @@
 -- Sources that follow one another are near, in the order of the record.
-use Rattle.std.proofs.Common.{◌≡◌, ◌∙◌, ◌+◌, ◌^◌, ◌<◌, ◌≤◌, ℕ, suc, Bool, true, false, List, [], ◌∷◌, ◌++◌, drop, map, take, Option, Some, None, refl, ap, sym, subst, arith, if◌then◌else◌}
-use Rattle.std.specs.Prelude.{slice_get}
-use Rattle.std.specs.List.{flat_map}
-use Rattle.std.proofs.lemmas.Grind.{flat_map-append}
-use Rattle.std.proofs.lemmas.List.{take-append-drop}
-use Rattle.fio_module.specs.Settings.{Settings}
-use Rattle.fio_module.specs.Life.{Life}
-use Rattle.fio_module.specs.Log.{Transition}
-use Rattle.fio_module.specs.Blocks.{MadeBlock, blocks_of}
-use Rattle.fio_world.specs.Claims.{Source, Loss, From, sources_of}
-use Rattle.fio_ends.specs.ContentRuns.{NextIsNear}
+use Rattle.fio_ends.proofs.Names.{◌≡◌, ◌∙◌, ◌+◌, ◌^◌, ◌<◌, ◌≤◌, ℕ, suc, Bool, true, false, List, [], ◌∷◌, ◌++◌, drop, map, take, Option, Some, None, refl, ap, sym, subst, arith, if◌then◌else◌, slice_get, flat_map, flat_map-append, take-append-drop, Settings, Life, Transition, MadeBlock, blocks_of, Source, Loss, From, sources_of, NextIsNear}
 use Rattle.fio_ends.proofs.BlocksRise.{Rise, blocks_rise, rise-front, transitions_in}
 
 -- the scans of the entry before, and none below a loss

@@ -1,15 +1,11 @@
 -- Where each rule on content is kept, no entry is broken.
-use Rattle.std.proofs.Common.{◌≡◌, ℕ, zero, suc, List, Option, Some, None, refl, ap, ap₂}
-use Rattle.std.specs.Prelude.{option_and_then, option_map, slice_get, length}
+use Rattle.fio_ends.proofs.Names.{◌≡◌, ℕ, zero, suc, List, Option, Some, None, refl, ap, ap₂, option_map, slice_get, length, Entry, Gap, ContentEvent, LineEvent, Polled, Configured, Accepted, Recorded, Ended, content_event_at, events_of_lines, TranscriptLine, ContentRule, Order, Alternate, Apart, ContentNeverAccuses, NoneBreaks}
+use Rattle.std.specs.Prelude.{option_and_then}
 use Rattle.std.specs.Option.{option_or}
-use Rattle.fio_cpu.specs.declared.record.Item.TheVariants.{Entry, Gap}
-use Rattle.fio_check.specs.ContentEvents.{ContentEvent, LineEvent, Polled, Loaded, Configured, Accepted, Recorded, Ended, event_at, events_of_lines}
+use Rattle.fio_check.specs.ContentEvents.{Loaded}
 use Rattle.fio_check.specs.ContentRules.{breach_of_event, content_breach_at}
-use Rattle.fio_check.specs.Lines.{TranscriptLine}
 use Rattle.fio_check.specs.Places.{earliest_above}
-use Rattle.fio_check.specs.declared.content_rules.ContentRule.{ContentRule}
-use Rattle.fio_check.specs.declared.content_rules.ContentRule.TheVariants.{Order, Alternate, Apart}
-use Rattle.fio_ends.specs.ContentRuns.{ContentNeverAccuses, NoEntryIsBroken, NoneBreaks}
+use Rattle.fio_ends.specs.ContentRuns.{NoEntryIsBroken}
 use Rattle.fio_ends.proofs.AlternateRuns.{alternate_never_accuses}
 use Rattle.fio_ends.proofs.ApartRuns.{apart_never_accuses}
 use Rattle.fio_ends.proofs.OrderKept.{order_never_accuses}
@@ -23,7 +19,7 @@ module _ (lines : List TranscriptLine) (kept : (rule : ContentRule) → NoneBrea
   abbrev all : List LineEvent
   all = events_of_lines lines
 
-  of_event : (place line : ℕ) (event : ContentEvent) → event_at all place ≡ Some event → breach_of_event all place line event ≡ None
+  of_event : (place line : ℕ) (event : ContentEvent) → content_event_at all place ≡ Some event → breach_of_event all place line event ≡ None
   of_event place line (Recorded (Entry input level stamp wide)) is =
       let order = kept Order place input stamp wide level is in
       let alternate = kept Alternate place input stamp wide level is in

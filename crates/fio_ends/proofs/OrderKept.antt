@@ -1,29 +1,9 @@
 -- The rule `order` never accuses.
-use Rattle.std.proofs.Common.{◌≡◌, ◌∙◌, ◌+◌, ◌-◌, ◌%◌, ◌^◌, ◌<◌, ◌≤◌, ◌&&◌, ℕ, Bool, true, false, List, [], ◌∷◌, ◌++◌, map, take, Option, Some, None, refl, ap, sym, subst, arith, append-nil}
-use Rattle.std.specs.Prelude.{fold, not, option_map}
-use Rattle.std.specs.List.{AllByRecursion, AllZip}
-use Rattle.std.specs.Option.{option_map_or}
-use Rattle.std.proofs.lemmas.Bool.Decides.{nat_tests}
-use Rattle.std.proofs.lemmas.Grind.{fold-append}
-use Rattle.fio_message.specs.Blocks.{Block}
-use Rattle.fio_message.specs.Status.{says_more}
-use Rattle.fio_module.specs.Settings.{Settings, AreInRange}
-use Rattle.fio_module.specs.Life.{life_of}
-use Rattle.fio_module.specs.Blocks.{MadeBlock}
-use Rattle.fio_module.proofs.ListParts.{each-back, each-front}
-use Rattle.fio_cpu.specs.declared.record.Item.{Item}
-use Rattle.fio_cpu.specs.declared.record.Item.TheVariants.{Entry, Gap}
-use Rattle.fio_cpu.specs.Record.{items_of_block}
-use Rattle.fio_check.specs.ContentAbove.{ContentFacts, content_with, no_content}
-use Rattle.fio_check.specs.ContentEvents.{Ended, Recorded, events_of_block}
+use Rattle.fio_ends.proofs.Names.{◌≡◌, ◌∙◌, ◌+◌, ◌-◌, ◌%◌, ◌^◌, ◌<◌, ◌≤◌, ◌&&◌, ℕ, Bool, true, false, List, [], ◌∷◌, ◌++◌, map, take, Option, Some, None, refl, ap, sym, subst, arith, append-nil, fold, not, option_map, AllByRecursion, AllZip, option_map_or, nat_tests, fold-append, Block, says_more, Settings, AreInRange, life_of, MadeBlock, each-back, Item, Entry, Gap, items_of_block, ContentFacts, content_with, no_content, Ended, Recorded, events_of_block, Order, Machine, Source, Loss, From, blocks_in, sources_of, each-at, items_of_block-carried, recorded_of, IsKept, ContentNeverAccuses, HaveTimesFor, NextIsNear, WaitsBriefly, sources_taken}
+use Rattle.fio_module.proofs.ListParts.{each-front}
 use Rattle.fio_check.specs.ContentRules.{is_before}
-use Rattle.fio_check.specs.declared.content_rules.ContentRule.TheVariants.{Order}
-use Rattle.fio_world.specs.Link.{Machine}
-use Rattle.fio_world.specs.Claims.{Source, Loss, From, blocks_in, sources_of}
-use Rattle.fio_world.proofs.MadeBlocks.{each-at, each-take}
-use Rattle.fio_world.proofs.OneLife.{record_of, items_of_block-carried, recorded_of}
-use Rattle.fio_world.proofs.OneLifeRows.{IsKept}
-use Rattle.fio_ends.specs.ContentRuns.{ContentNeverAccuses, HaveTimesFor, NextIsNear, WaitsBriefly, sources_taken}
+use Rattle.fio_link.proofs.MadeBlocks.{each-take}
+use Rattle.fio_link.proofs.OneLife.{record_of}
 use Rattle.fio_ends.proofs.SourcesTaken.{sources_with}
 use Rattle.fio_ends.proofs.Unloaded.{NoneIsLoaded, sends_no_load, unloaded-past, unloaded-polls, unloaded-receives, unloaded-sends, unloaded-start}
 use Rattle.fio_ends.proofs.Clocks.{IsClocked, blocks_clocked, blocks_keep_clock}
@@ -156,7 +136,7 @@ module _ (settings : Settings) (range : AreInRange settings) (first : ℕ) where
       let u = p.unloaded loaded in
       let clocks = blocks_keep_clock settings life u.none_loaded in
       let before_zip = blocks_clocked (take machine.round blocks) (each-take _ machine.round blocks clocks) (each-front WaitsBriefly taken own times.0) in
-      let items : machine.items ≡ record_of machine.round blocks = k.one_life.in_life.kept in
+      let items : machine.items ≡ record_of machine.round blocks = k.one_life.kept in
       let before : facts.before ≡ option_map clock (last_scans None taken) =
       p.before ∙ ap (before_below None) items ∙ below-clock None None (record_of machine.round blocks) taken refl before_zip in
       let brief = subst (AllByRecursion WaitsBriefly) (sym (append-nil own)) (each-back WaitsBriefly taken own times.0) in

@@ -1,35 +1,18 @@
 -- A good transcript is that of its poller.
-use Rattle.std.proofs.Common.{◌≡◌, ◌∙◌, ◌+◌, ◌%◌, ◌<◌, ◌≤◌, ℕ, zero, suc, Bool, true, false, List, [], ◌∷◌, ◌++◌, length, take, Option, Some, None, refl, ap, sym, subst, arith, if◌then◌else◌}
-use Rattle.std.specs.Prelude.{◌==◌, not, option_map, slice_get}
-use Rattle.std.specs.Option.{option_map_or}
-use Rattle.std.proofs.lemmas.Bool.Decides.{nat_tests}
-use Rattle.std.proofs.lemmas.Grind.{fold-append}
-use Rattle.std.proofs.lemmas.Option.{same_Some, slice_get_within}
-use Rattle.fio_message.specs.declared.answers.Answer.{Answer}
+use Rattle.fio_ends.proofs.Names.{◌≡◌, ◌∙◌, ◌+◌, ◌%◌, ◌<◌, ◌≤◌, ℕ, zero, suc, Bool, true, false, List, [], ◌∷◌, ◌++◌, length, take, Option, Some, None, refl, ap, sym, subst, arith, if◌then◌else◌, ◌==◌, not, option_map, slice_get, option_map_or, nat_tests, fold-append, same_Some, slice_get_within, Answer, Command, answer_in, answered_block, block_in, command_in, after_hearing, Polling, items_of_block, facts_at, facts_with, number_due, number_polled, TranscriptLine, observation_in, observation_of, observation_on, first_broken, rule_broken, Facts, Observation, Good, facts_next, seen_at, take_one_more, block_on, poller_with, poller_of}
 use Rattle.fio_message.specs.declared.answers.Answer.TheVariants as answers
-use Rattle.fio_message.specs.declared.commands.Command.{Command}
 use Rattle.fio_message.specs.declared.commands.Command.TheVariants as commands
 use Rattle.fio_message.specs.declared.commands.OtherCommand.TheVariants as other_commands
 use Rattle.fio_message.specs.Blocks.{Block as BlockOf}
-use Rattle.fio_message.specs.Decoding.{answer_in, answered_block, block_in, command_in, decoded_answer}
+use Rattle.fio_message.specs.Decoding.{decoded_answer}
 use Rattle.fio_cpu.specs.declared.poller.Heard.TheVariants.{Stale}
-use Rattle.fio_cpu.specs.Hearing.{after_hearing, heard_as}
-use Rattle.fio_cpu.specs.Poller.{Polling}
-use Rattle.fio_cpu.specs.Record.{items_of_block}
-use Rattle.fio_check.specs.Facts.{facts_at, facts_with, number_due, number_polled}
-use Rattle.fio_check.specs.Lines.{TranscriptLine}
-use Rattle.fio_check.specs.Observations.{observation_in, observation_of, observation_on}
-use Rattle.fio_check.specs.Rules.{first_broken, rule_broken}
+use Rattle.fio_cpu.specs.Hearing.{heard_as}
+use Rattle.fio_check.specs.Lines.{answer_from}
 use Rattle.fio_check.specs.declared.rules.Rule.TheVariants as tried
 use Rattle.fio_check.specs.Verdicts.{IsVerdict, KeepsRulesAbove}
-use Rattle.fio_check.specs.declared.facts.Facts.{Facts}
-use Rattle.fio_check.specs.declared.observation.Observation.{Observation}
 use Rattle.fio_check.specs.declared.observation.Observation.TheVariants.{Poll, Command as CommandSeen, Block}
-use Rattle.fio_check.specs.declared.verdict.Verdict.TheVariants.{Good}
-use Rattle.fio_check.proofs.KeptFacts.{facts_next, seen_at}
 use Rattle.fio_check.proofs.Verdicts.{verdict_is}
-use Rattle.fio_world.proofs.Places.{some_block, take_one_more}
-use Rattle.fio_check.specs.Pollers.{block_on, poller_with, poller_of}
+use Rattle.fio_link.proofs.Places.{some_block}
 use Rattle.fio_ends.specs.Pollers.{poller_at, IsTaken, IsOfPoller, GoodIsOfPoller}
 use Rattle.fio_ends.proofs.Rules.{KeepsRules, rules_kept}
 
@@ -185,8 +168,8 @@ module _ (facts : Facts) (poller : Option Polling) (agrees : Agrees facts poller
 
   -- a line of the transcript, by whether the CPU sent it
   goes-frame : (from_cpu : Bool) (octets : List ℕ) → KeepsRules facts (observation_in from_cpu octets)
-      → Goes (observation_in from_cpu octets) (if from_cpu then None else block_in octets) facts poller
-      (poller_by poller (number_polled (observation_in from_cpu octets)) (if from_cpu then None else block_in octets))
+      → Goes (observation_in from_cpu octets) (answered_block (answer_from from_cpu octets)) facts poller
+      (poller_by poller (number_polled (observation_in from_cpu octets)) (answered_block (answer_from from_cpu octets)))
   goes-frame true octets k = goes-sent (command_in octets) k
   goes-frame false octets k = goes-heard (answer_in octets) k
 
@@ -257,7 +240,7 @@ module _ (lines : List TranscriptLine) (kept : KeepsRulesAbove lines (length lin
         blocks = λ place line block here is. (at_line place line here).blocks block is;
         none_stale = λ place number line poller here heard there stale.
             not_stale poller line.octets (answer_in line.octets) refl
-            (λ b is. (let taken = (at_line place line here).blocks b (ap (λ sent. if sent then None else block_in line.octets) heard ∙ is) in
+            (λ b is. (let taken = (at_line place line here).blocks b (ap (λ sent. answered_block (answer_from sent line.octets)) heard ∙ is) in
             let poller_is : taken.poller ≡ poller = same_Some _ _ (sym taken.there ∙ there) in
             taken.same_number ∙ ap (λ q. q.number) poller_is))
             number stale;

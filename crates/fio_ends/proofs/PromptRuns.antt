@@ -1,17 +1,8 @@
 -- The transcript of a prompt run is good.
-use Rattle.std.proofs.Common.{◌≡◌, arith, ℕ, List, [], ◌∷◌, ◌++◌, None, refl, sym, subst}
-use Rattle.std.specs.List.{AllByRecursion}
-use Rattle.fio_module.specs.Settings.{Settings, AreInRange}
+use Rattle.fio_ends.proofs.Names.{◌≡◌, arith, ℕ, List, [], ◌∷◌, ◌++◌, None, refl, sym, subst, AllByRecursion, Settings, AreInRange, facts_with, no_facts, Facts, Event, Machine, start, refusal, after, Leads, IsNotRestart, HaveNoRestart, IsKept, kept_all, kept, CpuFrame, frames_at, frames_from, due_after, IsPrompt, ArePrompt, IsWithinRanges}
 use Rattle.fio_module.specs.Life as module_events
-use Rattle.fio_check.specs.Facts.{facts_with, no_facts}
-use Rattle.fio_check.specs.declared.facts.Facts.{Facts}
-use Rattle.fio_world.specs.declared.event.Event.{Event}
-use Rattle.fio_world.specs.declared.event.Event.TheVariants as events
-use Rattle.fio_world.specs.Link.{Machine, start, refusal, after, Leads}
-use Rattle.fio_world.specs.Headline.{IsNotRestart, HaveNoRestart}
-use Rattle.fio_world.proofs.OneLifeRows.{IsKept, kept_all, kept}
-use Rattle.fio_ends.specs.Transcripts.{CpuFrame, frames_at, frames_from}
-use Rattle.fio_ends.specs.PromptRuns.{due_after, IsPrompt, ArePrompt, IsWithinRanges, NeverAccuses}
+use Rattle.fio_link.specs.declared.event.Event.TheVariants as events
+use Rattle.fio_ends.specs.PromptRuns.{NeverAccuses}
 use Rattle.fio_ends.proofs.GoodLines.{KeepRules, lines_are_good, said_by}
 use Rattle.fio_ends.proofs.Following.{Follows, Keeps, facts_below, follows-history, follows-start}
 use Rattle.fio_ends.proofs.Sends.{sends-poll, sends-other}

@@ -1,21 +1,7 @@
 -- Times since which no configuration was applied, and none is on its way.
-use Rattle.std.proofs.Common.{◌≡◌, ◌∙◌, ◌+◌, ◌<◌, ◌≤◌, ◌⊎◌, inl, inr, ℕ, Bool, true, false, List, [], ◌∷◌, ◌++◌, length, Option, Some, None, slice_get, refl, ap, sym, subst, arith, length-append, if◌then◌else◌}
-use Rattle.std.proofs.lemmas.Option.{slice_get_within}
-use Rattle.arrayvec.specs.ArrayVec.{ArrayVec}
-use Rattle.fio_message.specs.declared.commands.Command.{Command}
+use Rattle.fio_ends.proofs.Names.{◌≡◌, ◌∙◌, ◌+◌, ◌<◌, ◌≤◌, ◌⊎◌, inl, inr, ℕ, Bool, true, false, List, [], ◌∷◌, ◌++◌, length, Option, Some, None, slice_get, refl, ap, sym, subst, arith, length-append, if◌then◌else◌, slice_get_within, ArrayVec, Command, InputItem, command_in, polled_number, NoneIsApplied, Settings, Life, Occurrence, Commanded, filter_events, life_after_command, log_of, MadeBlock, newest_poll, is_new, blocks_of, next_block, filter_events-append, SentFrame, HasPoll, each-append, get_after_push}
 use Rattle.fio_message.specs.declared.commands.Command.TheVariants as commands
-use Rattle.fio_message.specs.declared.fields.InputItem.{InputItem}
-use Rattle.fio_message.specs.Decoding.{command_in, polled_number}
-use Rattle.fio_input.specs.Delivery.{IsNotApplied, NoneIsApplied}
-use Rattle.fio_module.specs.Settings.{Settings}
-use Rattle.fio_module.specs.Life.{Life, Occurrence, Commanded, filter_events, life_after_command}
-use Rattle.fio_module.specs.Log.{log_of}
-use Rattle.fio_module.specs.Blocks.{MadeBlock, latest_poll, is_new, blocks_of, next_block}
-use Rattle.fio_module.proofs.Growth.{filter_events-append}
-use Rattle.fio_world.specs.Link.{SentFrame}
-use Rattle.fio_world.specs.Frames.{HasPoll}
-use Rattle.fio_world.proofs.MadeBlocks.{each-append}
-use Rattle.fio_world.proofs.Places.{get_after_push}
+use Rattle.fio_input.specs.Delivery.{IsNotApplied}
 
 -- a frame is no configuration
 abbrev pub IsNoConfiguration : SentFrame → Type 0
@@ -202,7 +188,7 @@ since-received earlier life command not_one n =
 record IsMadeNow (settings : Settings) (life : Life) (command : Option Command) (k : ℕ) (block : MadeBlock) : Type 0 where
   pub number : ℕ
   pub polled : command ≡ Some (commands.Poll number)
-  pub new : is_new (latest_poll life) number ≡ true
+  pub new : is_new (newest_poll life) number ≡ true
   pub last : k ≡ length (blocks_of settings life)
   pub is : block ≡ next_block settings life
 
@@ -211,9 +197,9 @@ made_or_now : (settings : Settings) (life : Life) (command : Option Command) (k 
     → slice_get (blocks_of settings (life_after_command command life)) k ≡ Some block
     → (slice_get (blocks_of settings life) k ≡ Some block) ⊎ IsMadeNow settings life command k block
 made_or_now settings life None k block at = inl at
-made_or_now settings life (Some (commands.Poll number)) k block at = by_new (is_new (latest_poll life) number) refl at
+made_or_now settings life (Some (commands.Poll number)) k block at = by_new (is_new (newest_poll life) number) refl at
   where
-    by_new : (new : Bool) → is_new (latest_poll life) number ≡ new
+    by_new : (new : Bool) → is_new (newest_poll life) number ≡ new
         → slice_get (if new then blocks_of settings life ++ next_block settings life ∷ [] else blocks_of settings life) k ≡ Some block
         → (slice_get (blocks_of settings life) k ≡ Some block) ⊎ IsMadeNow settings life (Some (commands.Poll number)) k block
     by_new false is at = inl at
@@ -228,7 +214,7 @@ made_or_now settings life (Some other) k block at = inl at
 -- a new poll is of the round after the blocks that were made
 abbrev pub IsOfNext : Settings → Life → SentFrame → Type 0
 IsOfNext settings life frame = (number : ℕ) → command_in frame.octets ≡ Some (commands.Poll number)
-    → is_new (latest_poll life) number ≡ true → frame.round ≡ length (blocks_of settings life)
+    → is_new (newest_poll life) number ≡ true → frame.round ≡ length (blocks_of settings life)
 
 module _ (settings : Settings) (life : Life) (frames : List SentFrame) (last place : ℕ) (frame : SentFrame)
     (new : last ≤ place) (there : slice_get frames place ≡ Some frame) where
@@ -289,13 +275,13 @@ module _ (settings : Settings) (life : Life) (frames : List SentFrame) (last pla
       }
 
   few_made : (round : ℕ) (read : Option Command) → length (blocks_of settings life) ≤ round
-      → ((number : ℕ) → read ≡ Some (commands.Poll number) → is_new (latest_poll life) number ≡ true
+      → ((number : ℕ) → read ≡ Some (commands.Poll number) → is_new (newest_poll life) number ≡ true
       → length (blocks_of settings life) < round)
       → length (blocks_of settings (life_after_command read life)) ≤ round
   few_made round None few fewer = few
-  few_made round (Some (commands.Poll number)) few fewer = by_new (is_new (latest_poll life) number) refl
+  few_made round (Some (commands.Poll number)) few fewer = by_new (is_new (newest_poll life) number) refl
     where
-      by_new : (added : Bool) → is_new (latest_poll life) number ≡ added
+      by_new : (added : Bool) → is_new (newest_poll life) number ≡ added
           → length (if added then blocks_of settings life ++ next_block settings life ∷ [] else blocks_of settings life) ≤ round
       by_new false is = few
       by_new true is = omega (arith, fewer number refl is, length-append (blocks_of settings life) (next_block settings life ∷ []))

@@ -1,32 +1,13 @@
 -- The module receives a frame, and may answer it.
-use Rattle.std.proofs.Common.{◌≡◌, ◌∙◌, ◌+◌, ◌<◌, ◌≤◌, inl, inr, ℕ, Bool, true, false, List, ◌++◌, length, Option, Some, None, refl, ap, sym, subst, arith, append-nil, if◌then◌else◌}
-use Rattle.std.specs.Prelude.{◌==◌, option_map, slice_get}
-use Rattle.std.proofs.lemmas.Bool.Decides.{nat_tests, eqb_tells}
-use Rattle.std.proofs.lemmas.Option.{same_Some, slice_get_within}
-use Rattle.fio_message.specs.declared.answers.Answer.{Answer}
-use Rattle.fio_message.specs.declared.commands.Command.{Command}
+use Rattle.fio_ends.proofs.Names.{◌≡◌, ◌∙◌, ◌+◌, ◌<◌, ◌≤◌, inl, inr, ℕ, Bool, true, false, List, ◌++◌, length, Option, Some, None, refl, ap, sym, subst, arith, append-nil, if◌then◌else◌, ◌==◌, option_map, slice_get, nat_tests, eqb_tells, same_Some, slice_get_within, Answer, Command, answer_octets, command_in, poll_in, Settings, AreInRange, Life, life_of, newest_poll, is_new, answer_to, Facts, ToModule, SentFrame, Machine, number_of, after_delivery_to_module, refusal, after, next_round, get_push, number_of-fits, next_fits, after_delivery, IsKept, due_after}
 use Rattle.fio_message.specs.declared.commands.Command.TheVariants as commands
-use Rattle.fio_message.specs.Answers.{answer_octets}
-use Rattle.fio_message.specs.Decoding.{command_in, poll_in}
-use Rattle.fio_module.specs.Settings.{Settings, AreInRange}
-use Rattle.fio_module.specs.Life.{Life, life_of}
-use Rattle.fio_module.specs.Blocks.{latest_poll, is_new}
-use Rattle.fio_module.specs.Sendings.{Sending, answer_of, first_sending, repeat_of}
-use Rattle.fio_module.specs.Replies.{answer_to, answer_if, reply_to}
-use Rattle.fio_check.specs.declared.facts.Facts.{Facts}
-use Rattle.fio_world.specs.declared.event.Event.TheVariants.{ToModule}
-use Rattle.fio_world.specs.Link.{SentFrame, Machine, number_of, answer_frames, polls_with, after_delivery_to_module, refusal, after}
-use Rattle.fio_world.specs.Rounds.{next_round}
-use Rattle.fio_world.proofs.Places.{get_push}
-use Rattle.fio_world.proofs.RoundNumbers.{number_of-fits}
-use Rattle.fio_world.proofs.Spelled.{said}
-use Rattle.fio_world.proofs.MadeBlocks.{next_fits}
-use Rattle.fio_world.proofs.Received.{same_number, first_carries, again_carries, carried_back, said_again, latest_sent, newest_fits}
-use Rattle.fio_world.proofs.Kept.{sending_if}
-use Rattle.fio_world.proofs.Rows.{after_delivery}
-use Rattle.fio_world.proofs.OneLife.{continues}
-use Rattle.fio_world.proofs.OneLifeRows.{IsKept}
-use Rattle.fio_ends.specs.PromptRuns.{due_after}
+use Rattle.fio_module.specs.Sendings.{Sending, answer_of_sending, first_sending, repeat_of}
+use Rattle.fio_module.specs.Replies.{answer_if, reply_to}
+use Rattle.fio_link.specs.Link.{answer_frames, polls_with}
+use Rattle.fio_link.proofs.Spelled.{said}
+use Rattle.fio_link.proofs.Received.{same_number, first_carries, again_carries, carried_back, said_again, latest_sent, newest_fits}
+use Rattle.fio_link.proofs.Kept.{sending_if}
+use Rattle.fio_link.proofs.OneLife.{continues}
 use Rattle.fio_ends.proofs.BlocksOfLives.{blocks_stay}
 use Rattle.fio_ends.proofs.Heard.{heard_as}
 use Rattle.fio_ends.proofs.Following.{AreBefore, IsBlockFor, Answers, Stage, Follows}
@@ -60,10 +41,10 @@ module _ (settings : Settings) (range : AreInRange settings) (first : ℕ) (mach
   life = life_of machine.history
 
   -- the answer to the poll sent last
-  block_for : (number : ℕ) (place : ℕ) (new : Bool) (answer : Answer) → is_new (latest_poll life) number ≡ new
+  block_for : (number : ℕ) (place : ℕ) (new : Bool) (answer : Answer) → is_new (newest_poll life) number ≡ new
       → number ≡ number_of first machine.round
       → (facts.advanced ≡ true → AreBefore machine.to_module machine.polls machine.round place)
-      → option_map answer_of (sending_if settings life number new) ≡ Some answer
+      → option_map answer_of_sending (sending_if settings life number new) ≡ Some answer
       → IsBlockFor facts number (answer_octets answer)
   block_for number place true answer is named before spelled =
       let sending = first_sending settings life number in
@@ -76,7 +57,7 @@ module _ (settings : Settings) (range : AreInRange settings) (first : ℕ) (mach
         again = λ advanced. said_again sending;
       })
   block_for number place false answer is named before spelled =
-      let found = latest_sent settings life number (same_number (latest_poll life) number is) in
+      let found = latest_sent settings life number (same_number (newest_poll life) number is) in
       let l = found.1 in
       let again = repeat_of found.0 in
       let sent_number : again.number ≡ number = l.number in
@@ -84,9 +65,9 @@ module _ (settings : Settings) (range : AreInRange settings) (first : ℕ) (mach
       let upto : machine.round ≤ next_round machine.polls = k.always.answers.behind in
       let high : next_round machine.polls ≤ machine.round + 1 = k.always.at_most in
       let met = continues first machine.round number machine.polls false named upto high
-      (ap (λ latest. is_new latest number) (sym k.one_life.in_life.polled) ∙ is) in
-      let spells : Some (answer_of again) ≡ Some answer =
-      ap (λ (latest : Option Sending). option_map answer_of (option_map repeat_of latest)) (sym l.is) ∙ spelled in
+      (ap (λ latest. is_new latest number) (sym k.one_life.polled) ∙ is) in
+      let spells : Some (answer_of_sending again) ≡ Some answer =
+      ap (λ (latest : Option Sending). option_map answer_of_sending (option_map repeat_of latest)) (sym l.is) ∙ spelled in
       subst (λ a. IsBlockFor facts number (answer_octets a)) (same_Some _ _ spells)
       (record {
         block = said again;
@@ -104,7 +85,7 @@ module _ (settings : Settings) (range : AreInRange settings) (first : ℕ) (mach
       → Answers facts command (answer_octets answer)
   answer_for (commands.Poll number) place answer polled is =
       let known = polled number refl in
-      block_for number place (is_new (latest_poll life) number) answer refl known.0 known.1 is
+      block_for number place (is_new (newest_poll life) number) answer refl known.0 known.1 is
   answer_for other place answer polled is = heard_as settings life other answer refl is
 
   module _ (due : ℕ) (f : Follows settings first machine due facts) where

@@ -1,13 +1,9 @@
 -- No first rule is broken exactly if none is.
-use Rattle.std.proofs.Common.{◌≡◌, ◌∙◌, ◌-◌, slice_get, Bool, true, false, List, [], ◌∷◌, Some, None, refl, ap, if◌then◌else◌}
+use Rattle.fio_ends.proofs.Names.{◌≡◌, ◌∙◌, ◌-◌, slice_get, Bool, true, false, List, [], ◌∷◌, Some, None, refl, ap, if◌then◌else◌, AllByRecursion, first_broken, Facts, Observation, each-at}
 use Rattle.std.specs.Prelude.{find}
-use Rattle.std.specs.List.{AllByRecursion}
-use Rattle.fio_check.specs.Rules.{breaks, first_broken, rule_number, rules}
-use Rattle.fio_check.specs.declared.facts.Facts.{Facts}
-use Rattle.fio_check.specs.declared.observation.Observation.{Observation}
+use Rattle.fio_check.specs.Rules.{breaks, rule_number, rules}
 use Rattle.fio_check.specs.declared.rules.Rule.{Rule}
 use Rattle.fio_check.specs.declared.rules.Rule.TheVariants.{Readable}
-use Rattle.fio_world.proofs.MadeBlocks.{each-at}
 
 -- none of these rules is broken
 abbrev KeepsEachOf : (Rule → Bool) → List Rule → Type 0

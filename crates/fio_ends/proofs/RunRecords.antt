@@ -1,34 +1,12 @@
 -- The poller of a prompt run's transcript is the run's own.
-use Rattle.std.proofs.Common.{◌≡◌, ◌∙◌, ◌+◌, ◌%◌, ◌<◌, ◌⊎◌, inl, inr, ℕ, Bool, true, false, List, [], ◌∷◌, ◌++◌, map, Option, Some, None, refl, ap, sym, subst, arith, if◌then◌else◌}
-use Rattle.std.specs.Prelude.{◌==◌, fold, slice_get}
-use Rattle.std.specs.List.{AllByRecursion}
-use Rattle.std.proofs.lemmas.Option.{same_Some}
-use Rattle.fio_message.specs.declared.commands.Command.{Command}
+use Rattle.fio_ends.proofs.Names.{◌≡◌, ◌∙◌, ◌+◌, ◌%◌, ◌<◌, ◌⊎◌, inl, inr, ℕ, Bool, true, false, List, [], ◌∷◌, ◌++◌, map, Option, Some, None, refl, ap, sym, subst, arith, if◌then◌else◌, ◌==◌, fold, slice_get, AllByRecursion, same_Some, Command, command_octets, IsCommand, answer_in, block_in, Settings, AreInRange, after_hearing, Polling, items_of_block, facts_with, no_facts, number_polled, TranscriptLine, answer_type_to, names_absent, observation_in, observation_on, Facts, Observation, Event, Machine, SentFrame, start, number_of, item_numbered, after_delivered_block, after_delivery_to_cpu, after_delivery_to_module, refusal, sending_refusal, after_sending, after, Leads, IsNotRestart, HaveNoRestart, number_of-fits, number_of-next, after_delivery, IsKept, kept_all, kept, block_on, poller_with, poller_of, CpuFrame, frame_heard, frame_on, frames_at, frames_from, due_after, IsPrompt, ArePrompt, IsWithinRanges}
 use Rattle.fio_message.specs.declared.commands.Command.TheVariants as commands
 use Rattle.fio_message.specs.Blocks.{Block as BlockOf}
-use Rattle.fio_message.specs.Commands.{command_octets, IsCommand}
-use Rattle.fio_message.specs.Decoding.{answer_in, block_in}
-use Rattle.fio_module.specs.Settings.{Settings, AreInRange}
-use Rattle.fio_cpu.specs.Hearing.{after_hearing}
-use Rattle.fio_cpu.specs.Poller.{Polling}
-use Rattle.fio_cpu.specs.Record.{items_of_block}
-use Rattle.fio_check.specs.Facts.{facts_with, no_facts, number_polled}
-use Rattle.fio_check.specs.Lines.{TranscriptLine}
-use Rattle.fio_check.specs.Observations.{answer_type_to, names_absent, observation_in, observation_on}
-use Rattle.fio_check.specs.declared.facts.Facts.{Facts}
-use Rattle.fio_check.specs.declared.observation.Observation.{Observation}
+use Rattle.fio_message.specs.Decoding.{answered_block}
+use Rattle.fio_check.specs.Lines.{answer_from}
 use Rattle.fio_check.specs.declared.observation.Observation.TheVariants as seen
-use Rattle.fio_world.specs.declared.event.Event.{Event}
-use Rattle.fio_world.specs.declared.event.Event.TheVariants as events
-use Rattle.fio_world.specs.Link.{Machine, SentFrame, start, number_of, item_numbered, after_delivered_block, after_delivery_to_cpu, after_delivery_to_module, refusal, sending_refusal, after_sending, after, Leads}
-use Rattle.fio_world.specs.Headline.{IsNotRestart, HaveNoRestart}
-use Rattle.fio_world.specs.Worlds.{polling_of}
-use Rattle.fio_world.proofs.RoundNumbers.{number_of-fits, number_of-next}
-use Rattle.fio_world.proofs.Rows.{after_delivery}
-use Rattle.fio_world.proofs.OneLifeRows.{IsKept, kept_all, kept}
-use Rattle.fio_check.specs.Pollers.{block_on, poller_with, poller_of}
-use Rattle.fio_ends.specs.Transcripts.{CpuFrame, frame_heard, frame_on, frames_at, frames_from}
-use Rattle.fio_ends.specs.PromptRuns.{due_after, IsPrompt, ArePrompt, IsWithinRanges}
+use Rattle.fio_link.specs.declared.event.Event.TheVariants as events
+use Rattle.fio_link.specs.Link.{polling_of}
 use Rattle.fio_ends.specs.RunRecords.{HasRunsPoller, KeepsRecord}
 use Rattle.fio_ends.proofs.Pollers.{poller_by, poller_by-is}
 use Rattle.fio_ends.proofs.GoodLines.{said_by}
@@ -42,7 +20,7 @@ use Rattle.fio_ends.proofs.PromptRuns.{keeps-event}
 
 -- the block in a frame that the CPU hears
 abbrev block_by : CpuFrame → Option BlockOf
-block_by frame = if frame.from_cpu then None else block_in frame.octets
+block_by frame = answered_block (answer_from frame.from_cpu frame.octets)
 
 -- the poller below frames
 abbrev poller_by_frames : Option Polling → List CpuFrame → Option Polling

@@ -1,28 +1,11 @@
 -- The CPU's end sends a command: its line breaks no rule.
-use Rattle.std.proofs.Common.{◌≡◌, ◌∙◌, ◌+◌, ◌%◌, ◌<◌, inl, inr, ℕ, Bool, true, false, List, [], ◌∷◌, ◌++◌, length, Option, Some, None, refl, ap, sym, subst, arith, length-append, if◌then◌else◌}
-use Rattle.std.specs.Prelude.{◌==◌, not, option_map}
-use Rattle.std.specs.Option.{option_map_or}
-use Rattle.std.proofs.lemmas.Bool.Decides.{nat_tests}
-use Rattle.std.proofs.lemmas.Option.{same_Some, slice_get_within}
-use Rattle.fio_message.specs.declared.commands.Command.{Command}
+use Rattle.fio_ends.proofs.Names.{◌≡◌, ◌∙◌, ◌+◌, ◌%◌, ◌<◌, inl, inr, ℕ, Bool, true, false, List, [], ◌∷◌, ◌++◌, length, Option, Some, None, refl, ap, sym, subst, arith, length-append, if◌then◌else◌, ◌==◌, not, option_map, option_map_or, nat_tests, same_Some, slice_get_within, Command, command_octets, IsCommand, command_in, poll_in, Settings, facts_with, number_due, answer_type_to, names_absent, observation_in, observation_of, first_broken, Facts, Observation, SentFrame, Machine, number_of, sending_refusal, after_sending, get_after_push, get_push, number_of-fits, none_more, CpuFrame}
 use Rattle.fio_message.specs.declared.commands.Command.TheVariants as commands
-use Rattle.fio_message.specs.Commands.{command_octets, IsCommand}
-use Rattle.fio_message.specs.Decoding.{command_in, poll_in}
 use Rattle.fio_message.proofs.MessageLaws.{command_back}
-use Rattle.fio_module.specs.Settings.{Settings}
-use Rattle.fio_check.specs.Facts.{facts_with, number_due}
-use Rattle.fio_check.specs.Observations.{answer_type_to, names_absent, observation_in, observation_of, observation_of_command}
-use Rattle.fio_check.specs.Rules.{first_broken}
+use Rattle.fio_check.specs.Observations.{observation_of_command}
 use Rattle.fio_check.specs.declared.rules.Rule.TheVariants as tried
-use Rattle.fio_check.specs.declared.facts.Facts.{Facts}
-use Rattle.fio_check.specs.declared.observation.Observation.{Observation}
 use Rattle.fio_check.specs.declared.observation.Observation.TheVariants as seen
-use Rattle.fio_world.specs.Link.{SentFrame, Machine, number_of, sending_refusal, after_sending}
-use Rattle.fio_world.proofs.Places.{get_after_push, get_push}
-use Rattle.fio_world.proofs.RoundNumbers.{number_of-fits}
-use Rattle.fio_world.proofs.SentMessages.{none_more}
-use Rattle.fio_world.proofs.Spelled.{no_poll_in}
-use Rattle.fio_ends.specs.Transcripts.{CpuFrame}
+use Rattle.fio_link.proofs.Spelled.{no_poll_in}
 use Rattle.fio_ends.proofs.Rules.{KeepsRules, no_rule_broken}
 use Rattle.fio_ends.proofs.Following.{AreBefore, IsAsked, Stage, Follows, Keeps, last_is_sent}
 

@@ -1,19 +1,7 @@
 -- Where no load of the counter is known of, none was sent, and none has taken effect.
-use Rattle.std.proofs.Common.{◌≡◌, ◌<◌, inl, inr, ℕ, false, List, [], ◌∷◌, ◌++◌, Option, Some, None, refl, ap, sym, subst, ◌∙◌, ◌+◌, arith}
-use Rattle.std.specs.Prelude.{fold, slice_get}
-use Rattle.fio_message.specs.declared.commands.Command.{Command}
+use Rattle.fio_ends.proofs.Names.{◌≡◌, ◌<◌, inl, inr, ℕ, false, List, [], ◌∷◌, ◌++◌, Option, Some, None, refl, ap, sym, subst, ◌∙◌, ◌+◌, arith, fold, slice_get, Command, command_octets, IsCommand, command_in, asked_number, one_more_if_loaded, Settings, Life, life_of, life_after_command, counter_events, loads_of, ContentFacts, content_with, Polled, events_of_command, SentFrame, Machine, start, after_module_event, number_of, after_delivery_to_module, after_sending, get_after_push, number_of-fits}
 use Rattle.fio_message.specs.declared.commands.Command.TheVariants as commands
-use Rattle.fio_message.specs.Commands.{command_octets, IsCommand}
-use Rattle.fio_message.specs.Decoding.{command_in}
-use Rattle.fio_input.specs.Counter.{asked_number, one_more_if_loaded}
-use Rattle.fio_module.specs.Settings.{Settings}
-use Rattle.fio_module.specs.Life.{Life, life_of, life_after_command, counter_events, loads_of}
 use Rattle.fio_module.specs.Life as module_events
-use Rattle.fio_check.specs.ContentAbove.{ContentFacts, content_with}
-use Rattle.fio_check.specs.ContentEvents.{Polled, events_of_command}
-use Rattle.fio_world.specs.Link.{SentFrame, Machine, start, after_module_event, number_of, after_delivery_to_module, after_sending}
-use Rattle.fio_world.proofs.Places.{get_after_push}
-use Rattle.fio_world.proofs.RoundNumbers.{number_of-fits}
 use Rattle.fio_ends.proofs.Sends.{read_back}
 use Rattle.fio_ends.proofs.ContentSteps.{IsPastBus}
 

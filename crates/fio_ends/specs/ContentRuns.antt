@@ -6,14 +6,14 @@ use Rattle.fio_module.specs.Log.{Transition}
 use Rattle.fio_module.specs.Blocks.{MadeBlock}
 use Rattle.fio_cpu.specs.declared.record.Item.TheVariants.{Entry}
 use Rattle.fio_check.specs.ContentAbove.{content_at}
-use Rattle.fio_check.specs.ContentEvents.{Recorded, event_at, events_of_lines}
+use Rattle.fio_check.specs.ContentEvents.{Recorded, content_event_at, events_of_lines}
 use Rattle.fio_check.specs.ContentRules.{breaks_content, broken_entry_in}
 use Rattle.fio_check.specs.Lines.{TranscriptLine}
 use Rattle.fio_check.specs.declared.content_rules.ContentRule.{ContentRule}
 use Rattle.fio_check.specs.declared.content_rules.ContentRule.TheVariants.{Order, Alternate, Apart}
-use Rattle.fio_world.specs.declared.event.Event.{Event}
-use Rattle.fio_world.specs.Link.{Machine}
-use Rattle.fio_world.specs.Claims.{Source, Loss, From, blocks_in, sources_of}
+use Rattle.fio_link.specs.declared.event.Event.{Event}
+use Rattle.fio_link.specs.Link.{Machine}
+use Rattle.fio_link.specs.Claims.{Source, Loss, From, blocks_in, sources_of}
 use Rattle.fio_ends.specs.PromptRuns.{IsPromptRun}
 use Rattle.fio_ends.specs.Transcripts.{HaveFrames, transcript_of}
 
@@ -62,7 +62,7 @@ abbrev pub NoneBreaks : List TranscriptLine → ContentRule → Type 0
 NoneBreaks lines rule =
     let events = events_of_lines lines in
     (place input stamp wide : ℕ) (level : Bool) →
-    event_at events place ≡ Some (Recorded (Entry input level stamp wide)) →
+    content_event_at events place ≡ Some (Recorded (Entry input level stamp wide)) →
     breaks_content (content_at events place) input (record { level = level; wide = wide }) rule ≡ false
 
 -- A rule never accuses: it is kept in the transcript of each prompt run whose times can be told apart.

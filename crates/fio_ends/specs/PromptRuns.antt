@@ -6,10 +6,10 @@ use Rattle.fio_module.specs.Settings.{Settings, AreInRange}
 use Rattle.fio_check.specs.Lines.{TranscriptLine}
 use Rattle.fio_check.specs.Verdicts.{verdict_on}
 use Rattle.fio_check.specs.declared.verdict.Verdict.TheVariants.{Good}
-use Rattle.fio_world.specs.declared.event.Event.{Event}
-use Rattle.fio_world.specs.declared.event.Event.TheVariants.{Poll, Send, ToModule, ToCpu}
-use Rattle.fio_world.specs.Link.{Machine, start, after, IsRun}
-use Rattle.fio_world.specs.Headline.{HaveNoRestart}
+use Rattle.fio_link.specs.declared.event.Event.{Event}
+use Rattle.fio_link.specs.declared.event.Event.TheVariants.{Poll, Send, ToModule, ToCpu}
+use Rattle.fio_link.specs.Link.{Machine, start, after, IsRun}
+use Rattle.fio_link.specs.Headline.{HaveNoRestart}
 use Rattle.fio_ends.specs.Transcripts.{HaveFrames, transcript_of}
 
 -- After an event, the number that the answer to the command sent last has among the frames to the CPU, if

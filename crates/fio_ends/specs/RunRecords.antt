@@ -3,9 +3,8 @@ use Rattle.std.specs.Prelude.{◌≡◌, ℕ, List, [], Some, None}
 use Rattle.fio_module.specs.Settings.{Settings, AreInRange}
 use Rattle.fio_cpu.specs.Poller.{Polling}
 use Rattle.fio_check.specs.Lines.{TranscriptLine}
-use Rattle.fio_world.specs.declared.event.Event.{Event}
-use Rattle.fio_world.specs.Link.{Machine}
-use Rattle.fio_world.specs.Worlds.{polling_of}
+use Rattle.fio_link.specs.declared.event.Event.{Event}
+use Rattle.fio_link.specs.Link.{Machine, polling_of}
 use Rattle.fio_check.specs.Pollers.{poller_of}
 use Rattle.fio_ends.specs.PromptRuns.{IsPromptRun}
 use Rattle.fio_ends.specs.Transcripts.{HaveFrames, transcript_of}

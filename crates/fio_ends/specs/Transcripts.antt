@@ -4,9 +4,9 @@ use Rattle.fio_message.specs.declared.commands.Command.TheVariants as commands
 use Rattle.fio_message.specs.Commands.{command_octets}
 use Rattle.fio_module.specs.Settings.{Settings}
 use Rattle.fio_check.specs.Lines.{TranscriptLine}
-use Rattle.fio_world.specs.declared.event.Event.{Event}
-use Rattle.fio_world.specs.declared.event.Event.TheVariants.{Poll, Send, ToCpu}
-use Rattle.fio_world.specs.Link.{Machine, SentFrame, start, number_of, item_numbered, after}
+use Rattle.fio_link.specs.declared.event.Event.{Event}
+use Rattle.fio_link.specs.declared.event.Event.TheVariants.{Poll, Send, ToCpu}
+use Rattle.fio_link.specs.Link.{Machine, SentFrame, start, number_of, item_numbered, after}
 
 -- a frame that the CPU's end sends or hears
 pub record CpuFrame : Type 0 where

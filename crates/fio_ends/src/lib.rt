@@ -1,9 +1,10 @@
-//! Laws of what the CPU's end of a link logs: the transcript of a run of the link, and the poller of a
-//! transcript. Nothing here runs.
+//! Laws of several crates: the transcript of a run of the link is good, the poller of a transcript, and
+//! calls of both ends in C are a run of the link. Nothing here runs.
 //!
 //! The definitions are in `specs/`, in this order: the poller of a transcript (`Pollers`), the
 //! transcript of a run (`Transcripts`), runs in which an answer comes directly after its command or never
-//! (`PromptRuns`), and the record in their transcripts (`RunRecords`). The laws are the contracts of the
+//! (`PromptRuns`), the record in their transcripts (`RunRecords`), their rules on content (`ContentRuns`),
+//! and what a caller in C does with one module and one poller (`Calls`). The laws are the contracts of the
 //! module `laws`.
 #![tactic(auto)]
 

@@ -1,13 +1,6 @@
 -- A configuration, one item after another.
-use Rattle.std.proofs.Common.{◌≡◌, ◌≢◌, ℕ, ◌<◌, ◌≤◌, true, List, [], ◌∷◌, ◌++◌, length, if◌then◌else◌, Option, Some, is_some, ◌⊎◌, inl, inr, sym, ap, ◌∙◌, subst, arith, get_or-set_same, get_or-set_other}
-use Rattle.std.specs.Prelude.{slice_set}
-use Rattle.std.proofs.lemmas.Bool.{cases_eq}
-use Rattle.fio_message.specs.Bits.{is_set}
-use Rattle.fio_message.specs.declared.fields.InputItem.{InputItem}
+use Rattle.fio_input.proofs.Names.{◌≡◌, ◌≢◌, ℕ, ◌<◌, ◌≤◌, true, List, [], ◌∷◌, ◌++◌, length, if◌then◌else◌, Option, Some, is_some, ◌⊎◌, inl, inr, sym, ap, ◌∙◌, subst, arith, get_or-set_same, get_or-set_other, slice_set, cases_eq, is_set, InputItem, filtered_state, FilterEvent, Configure, all_present, applied_items, last_item_of, setting_by, input_setting, input_samples, state_at_configuration, KeepsInput, AreFiltersAfter}
 use Rattle.fio_input.specs.declared.filters.Filters.{Filters}
-use Rattle.fio_input.specs.FilterRule.{filtered_state}
-use Rattle.fio_input.specs.FilterHistory.{FilterEvent, Configure, all_present, applied_items, last_item_of, setting_by, input_setting, input_samples, state_at_configuration}
-use Rattle.fio_input.specs.Filters.{KeepsInput, AreFiltersAfter}
 use Rattle.fio_input.proofs.History.{state_by}
 use Rattle.fio_input.proofs.LastItem.{last_item_of-push_same, last_item_of-push_other}
 use Rattle.fio_input.proofs.Present.{all_present-push, applied_items-all}

@@ -1,12 +1,5 @@
 -- What scans report of all inputs is little, whatever configurations come between.
-use Rattle.std.proofs.Common.{◌≡◌, ℕ, zero, suc, ◌+◌, ◌-◌, ◌*◌, ◌/◌, ◌<◌, ◌≤◌, ◌⊎◌, Bool, true, false, not, ◌&&◌, List, [], ◌∷◌, ◌++◌, refl, ap, sym, subst, ◌∙◌, arith, inl, inr, append_assoc}
-use Rattle.std.proofs.Math.Nat.{mul-le-mul_left, mul-le-mul_right, div-mul-le_self, div-lt_iff_lt-mul}
-use Rattle.std.proofs.lemmas.Bool.{cases_lt}
-use Rattle.fio_message.specs.Bits.{bit_of}
-use Rattle.fio_message.specs.declared.fields.InputItem.{InputItem}
-use Rattle.fio_input.specs.FilterRule.{Setting}
-use Rattle.fio_input.specs.FilterHistory.{FilterEvent, Configure, Scan, all_present, applies_to, input_setting, input_state, is_reported}
-use Rattle.fio_input.specs.Delivery.{is_changed, NoneIsAppliedTo, scans_in, changes_in, HasFiltersOf, reports_in, all_reports_in, open_inputs, OpenHaveFiltersOf, NoneIsApplied, AtEachScan, HasFewOpen, FewStayOpen, OpenKeepFiltersOf, AfterEachApplied, ReportsAreFew, ConfigurationsLeaveFewOpen}
+use Rattle.fio_input.proofs.Names.{◌≡◌, ℕ, zero, suc, ◌+◌, ◌-◌, ◌*◌, ◌/◌, ◌<◌, ◌≤◌, ◌⊎◌, Bool, true, false, not, ◌&&◌, List, [], ◌∷◌, ◌++◌, refl, ap, sym, subst, ◌∙◌, arith, inl, inr, append_assoc, mul-le-mul_left, mul-le-mul_right, div-mul-le_self, div-lt_iff_lt-mul, cases_lt, bit_of, InputItem, Setting, FilterEvent, Configure, Scan, all_present, applies_to, input_setting, input_state, is_reported, is_changed, NoneIsAppliedTo, scans_in, changes_in, HasFiltersOf, reports_in, all_reports_in, open_inputs, OpenHaveFiltersOf, NoneIsApplied, AtEachScan, HasFewOpen, FewStayOpen, OpenKeepFiltersOf, AfterEachApplied, ReportsAreFew, ConfigurationsLeaveFewOpen, not-true}
 use Rattle.fio_input.proofs.Apart.{both, carried, changes_follow_configurations}
 use Rattle.fio_input.proofs.FewChanges.{least_filter, changes_times_filter}
 use Rattle.fio_input.proofs.FewReports.{sum-plus, sum-bound, sum-same, sum-none, reports_are_changes, open_inputs-few, open_inputs-carried, open_filters-carried}
@@ -34,7 +27,7 @@ at_each_scan-map P Q follows (Scan raw ∷ events) history each =
 at_each_scan-map P Q follows (Configure items ∷ events) history each = at_each_scan-map P Q follows events history each
 
 -- scans among two lists of events, and what they report
-scans-append : (later events : List FilterEvent) → scans_in (later ++ events) ≡ scans_in later + scans_in events
+pub scans-append : (later events : List FilterEvent) → scans_in (later ++ events) ≡ scans_in later + scans_in events
 scans-append [] events = omega arith
 scans-append (Scan raw ∷ later) events = let rest = scans-append later events in omega arith
 scans-append (Configure items ∷ later) events = scans-append later events
@@ -107,10 +100,6 @@ and_a_scan : (input raw : ℕ) (events : List FilterEvent) → NoneIsAppliedTo i
 and_a_scan input raw [] none = (tt, tt)
 and_a_scan input raw (event ∷ events) none = (none.0, and_a_scan input raw events none.1)
 
-not_true : (b : Bool) → not b ≡ true → b ≡ false
-not_true false is = refl
-not_true true is = absurd (cc is)
-
 bit-and_left : (a b : Bool) → bit_of (a && b) ≤ bit_of a
 bit-and_left true true = omega arith
 bit-and_left true false = omega arith
@@ -148,7 +137,7 @@ reported_once opened least raw input (Scan newest ∷ later) history low some st
         let rest = later ++ Scan raw ∷ [] in
         let now = input_setting input (rest ++ history) in
         let changed = both (not now.ignore) (is_changed input newest (rest ++ history)) is in
-        let opened_now = not_true now.ignore changed.0 in
+        let opened_now = not-true now.ignore changed.0 in
         let filters = stay.0.filters input low opened_now in
         let counts = scans-append later (Scan raw ∷ []) in
         elim (none_or_configured input later) as (λ _. reports_in input (Scan newest ∷ rest) history ≤ bit_of (not (input_setting input history).ignore)) [

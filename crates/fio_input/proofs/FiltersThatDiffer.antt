@@ -1,10 +1,5 @@
 -- What scans report is little, each input with its own filters.
-use Rattle.std.proofs.Common.{◌≡◌, ℕ, zero, suc, ◌+◌, ◌-◌, ◌*◌, ◌/◌, ◌≤◌, not, List, ◌++◌, refl, ap, arith}
-use Rattle.std.proofs.Math.Nat.{mul-le-mul_left, div-mul-le_self, le-div_iff_mul-le}
-use Rattle.fio_message.specs.Bits.{bit_of}
-use Rattle.fio_input.specs.FilterRule.{Setting}
-use Rattle.fio_input.specs.FilterHistory.{FilterEvent, input_setting}
-use Rattle.fio_input.specs.Delivery.{HasFiltersOf, reports_in, sum_below, NoneIsApplied}
+use Rattle.fio_input.proofs.Names.{◌≡◌, ℕ, zero, suc, ◌+◌, ◌-◌, ◌*◌, ◌/◌, ◌≤◌, not, List, ◌++◌, refl, ap, arith, mul-le-mul_left, div-mul-le_self, le-div_iff_mul-le, bit_of, Setting, FilterEvent, input_setting, HasFiltersOf, reports_in, sum_below, NoneIsApplied}
 use Rattle.fio_input.specs.FiltersThatDiffer.{least_filter, most_reports, ReportsAreFewOfEach}
 use Rattle.fio_input.proofs.Apart.{carried}
 use Rattle.fio_input.proofs.FewReports.{leaves_each, one_by_division, sum-same}

@@ -1,9 +1,5 @@
 -- Histories of configurations and scans.
-use Rattle.std.proofs.Common.{◌≡◌, ℕ, Bool, true, false, if◌then◌else◌, List, [], ◌∷◌, Option, Some, None, is_some, refl}
-use Rattle.fio_message.specs.Bits.{is_set}
-use Rattle.fio_message.specs.declared.fields.InputItem.{InputItem}
-use Rattle.fio_input.specs.FilterRule.{Setting, filtered_state}
-use Rattle.fio_input.specs.FilterHistory.{FilterEvent, Configure, Scan, applied_items, last_item_of, setting_by, applies_to, input_setting, input_samples, state_at_configuration, input_state, raw_levels}
+use Rattle.fio_input.proofs.Names.{◌≡◌, ℕ, Bool, true, false, if◌then◌else◌, List, [], ◌∷◌, Option, Some, None, is_some, refl, is_set, InputItem, Setting, filtered_state, FilterEvent, Configure, Scan, applied_items, last_item_of, setting_by, applies_to, input_setting, input_samples, state_at_configuration, input_state, raw_levels}
 use Rattle.fio_input.proofs.RunLengths.{LatestIs}
 
 latest_if : (fresh level : Bool) (older : List Bool) → LatestIs level older → LatestIs level (if fresh then [] else older)

@@ -1,9 +1,6 @@
 -- The last item of a configuration that names an input.
-use Rattle.std.proofs.Common.{◌≡◌, ◌≢◌, ℕ, ◌==◌, List, [], ◌∷◌, ◌++◌, Bool, if◌then◌else◌, Option, Some, None, refl, ap, ◌∙◌}
+use Rattle.fio_input.proofs.Names.{◌≡◌, ◌≢◌, ℕ, ◌==◌, List, [], ◌∷◌, ◌++◌, Bool, if◌then◌else◌, Option, Some, None, refl, ap, ◌∙◌, eq-eqb, ne_eqb, InputItem, last_item_of}
 use Rattle.std.specs.Option.{option_or}
-use Rattle.std.proofs.lemmas.Bool.{eq-eqb, ne_eqb}
-use Rattle.fio_message.specs.declared.fields.InputItem.{InputItem}
-use Rattle.fio_input.specs.FilterHistory.{last_item_of}
 
 -- the item, if it names the input
 abbrev naming : ℕ → InputItem → Option InputItem

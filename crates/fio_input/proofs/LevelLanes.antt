@@ -1,11 +1,5 @@
 -- The levels of 16 inputs as lanes of 0 and 1.
-use Rattle.std.proofs.Common.{◌≡◌, ℕ, ◌+◌, ◌/◌, ◌^◌, ◌<◌, ◌==◌, min, Bool, true, false, cond, eqb, leb, if◌then◌else◌, refl, ap, ap₂, ◌∙◌}
-use Rattle.std.specs.Int.Bits.{bit_and}
-use Rattle.fio_message.specs.Bits.{is_set, bit_of}
-use Rattle.fio_message.proofs.Bits.{is_set_masked, is_set-low, is_set-shr}
-use Rattle.fio_input.specs.FilterRule.{filter_in_force}
-use Rattle.fio_input.specs.Runs.{next_length, meets_filter}
-use lib.Lanes.{top}
+use Rattle.fio_input.proofs.Names.{◌≡◌, ℕ, ◌+◌, ◌/◌, ◌^◌, ◌<◌, ◌==◌, min, Bool, true, false, cond, eqb, leb, if◌then◌else◌, refl, ap, ap₂, ◌∙◌, bit_and, is_set, bit_of, is_set_masked, is_set-low, is_set-shr, filter_in_force, next_length, meets_filter, top}
 
 -- the lane that a compare gives, made 1 or 0
 abbrev compared_bit : Bool → ℕ

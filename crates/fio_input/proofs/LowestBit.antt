@@ -1,10 +1,8 @@
 -- The lowest set bit of a word, and the word with that bit clear.
-use Rattle.std.proofs.Common.{◌≡◌, ◌≢◌, ℕ, ◌*◌, ◌%◌, ◌^◌, ◌<◌, ◌==◌, true, false, ap, arith, bit_and}
-use Rattle.std.specs.Int.{w64, bit_not, trailing_zeros}
+use Rattle.fio_input.proofs.Names.{◌≡◌, ◌≢◌, ℕ, ◌*◌, ◌%◌, ◌^◌, ◌<◌, ◌==◌, true, false, ap, arith, w64, bit_not, trailing_zeros, is_set, is_set-clear_same, is_set-clear_other}
+use Rattle.std.proofs.Common.{bit_and}
 use Rattle.std.proofs.lemmas.Nat.{and_le_l}
 use Rattle.std.proofs.lemmas.Nat.Bits.{bit_at-trailing_zeros}
-use Rattle.fio_message.specs.Bits.{is_set}
-use Rattle.fio_message.proofs.Bits.{is_set-clear_same, is_set-clear_other}
 
 -- a word without one of its bits
 abbrev pub without : ℕ → ℕ → ℕ

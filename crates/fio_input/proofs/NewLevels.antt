@@ -1,12 +1,5 @@
 -- New levels are reported.
-use Rattle.std.proofs.Common.{◌≡◌, ℕ, zero, suc, ◌+◌, ◌≤◌, ◌⊎◌, Bool, true, false, not, ◌&&◌, ◌||◌, List, [], ◌∷◌, ◌++◌, if◌then◌else◌, refl, ap, sym, subst, ◌∙◌, arith, inl, inr}
-use Rattle.std.specs.Bool.{beq}
-use Rattle.std.specs.List.{AllByRecursion}
-use Rattle.std.proofs.Math.Bool.{or-true}
-use Rattle.fio_message.specs.Bits.{is_set}
-use Rattle.fio_input.specs.FilterRule.{Setting, filter_in_force, latest_are, ends_run, filtered_state}
-use Rattle.fio_input.specs.FilterHistory.{FilterEvent, Configure, Scan, input_setting, input_samples, state_at_configuration, input_state}
-use Rattle.fio_input.specs.Delivery.{NoneIsAppliedTo, scans_in, filter_to}
+use Rattle.fio_input.proofs.Names.{◌||◌, ◌≡◌, ℕ, zero, suc, ◌+◌, ◌≤◌, ◌⊎◌, Bool, true, false, not, ◌&&◌, List, [], ◌∷◌, ◌++◌, if◌then◌else◌, refl, ap, sym, subst, ◌∙◌, arith, inl, inr, beq, AllByRecursion, or-true, is_set, Setting, filter_in_force, latest_are, ends_run, filtered_state, FilterEvent, Configure, Scan, input_setting, input_samples, state_at_configuration, input_state, NoneIsAppliedTo, scans_in, filter_to}
 use Rattle.fio_input.specs.NewLevels.{HasLevel, HasNewLevel, IsReportedIn, NewLevelsAreReported}
 use Rattle.fio_input.proofs.Apart.{levels, carried, same_level, both}
 use Rattle.fio_input.proofs.History.{state-configure}

@@ -1,13 +1,7 @@
 -- Items that all name an input of the module, and the first that does not.
-use Rattle.std.proofs.Common.{◌≡◌, ℕ, suc, ◌+◌, ◌<◌, ◌≤◌, Bool, true, false, not, cond, ◌&&◌, List, [], ◌∷◌, ◌++◌, take, drop, get_or, length, ltb, leb, if◌then◌else◌, Some, None, refl, sym, ap, ap₂, ◌∙◌, arith}
-use Rattle.std.specs.List.{list_all, position, prefix_len}
-use Rattle.std.proofs.lemmas.Bool.{ltb-true, ltb-false}
-use Rattle.std.proofs.lemmas.Bool.Decides.{nat_tests}
-use Rattle.std.proofs.lemmas.List.{take-append-drop}
+use Rattle.fio_input.proofs.Names.{◌≡◌, ℕ, suc, ◌+◌, ◌<◌, ◌≤◌, Bool, true, false, not, cond, ◌&&◌, List, [], ◌∷◌, ◌++◌, take, drop, get_or, length, ltb, leb, if◌then◌else◌, Some, None, refl, sym, ap, ap₂, ◌∙◌, arith, list_all, position, prefix_len, ltb-true, ltb-false, nat_tests, take-append-drop, InputItem, all_present, applied_items}
 use Rattle.std.proofs.lemmas.List.Folds.{list_all-append}
 use Rattle.std.proofs.lemmas.List.Sums.{AllPass-from_list_all, prefix_len_passes, prefix_len_stops}
-use Rattle.fio_message.specs.declared.fields.InputItem.{InputItem}
-use Rattle.fio_input.specs.FilterHistory.{all_present, applied_items}
 
 abbrev above : InputItem → Bool
 above item = leb 64 item.input
@@ -88,33 +82,32 @@ not_less n m h = grind (arith, nat_tests)
 less : (n m : ℕ) → n < m → ltb n m ≡ true
 less n m h = grind (arith, nat_tests)
 
--- an item below 64 behind others lengthens the front
-pub front-more : (items : List InputItem) (place : ℕ) (item : InputItem) → place < length items
-    → item ≡ get_or items place item → item.input < 64 → place ≤ front items → place + 1 ≤ front items
-front-more items place item lt is below le = step (ltb place (front items)) refl
+-- at a place up to the end of the front, the front goes on exactly if the item there is not above 63
+front_at : (items : List InputItem) (place : ℕ) (item : InputItem) → place < length items
+    → item ≡ get_or items place item → place ≤ front items → ltb place (front items) ≡ not (above item)
+front_at items place item lt is le = step (ltb place (front items)) refl
   where
-    step : (b : Bool) → ltb place (front items) ≡ b → place + 1 ≤ front items
-    step true h = omega (arith, ltb-true place (front items) h)
+    step : (b : Bool) → ltb place (front items) ≡ b → b ≡ not (above item)
+    step true h =
+        sym (ap (λ i. not (above i)) is ∙ prefix_len_passes (λ item. not (above item)) items place item (ltb-true place (front items) h))
     step false h =
         let same : front items ≡ place = omega (arith, ltb-false place (front items) h, le) in
         let stops = prefix_len_stops (λ item. not (above item)) items item (omega (arith, same, lt)) in
-        let here = ap (λ i. not (above i)) (is ∙ ap (λ k. get_or items k item) (sym same)) ∙ stops in
-        let clash : true ≡ false = sym (ap not (is_below item.input below)) ∙ here in
-        absurd (cc clash)
+        sym (ap (λ i. not (above i)) (is ∙ ap (λ k. get_or items k item) (sym same)) ∙ stops)
+
+-- an item below 64 behind others lengthens the front
+pub front-more : (items : List InputItem) (place : ℕ) (item : InputItem) → place < length items
+    → item ≡ get_or items place item → item.input < 64 → place ≤ front items → place + 1 ≤ front items
+front-more items place item lt is below le =
+    omega (arith, ltb-true place (front items) (front_at items place item lt is le ∙ ap not (is_below item.input below)))
 
 -- an item above 63 behind the front is the first
 pub position-front : (items : List InputItem) (place : ℕ) (item : InputItem) → place < length items
     → item ≡ get_or items place item → 64 ≤ item.input → place ≤ front items → position above items ≡ Some place
-position-front items place item lt is high le = step (ltb place (front items)) refl
-  where
-    step : (b : Bool) → ltb place (front items) ≡ b → position above items ≡ Some place
-    step true h =
-        let passes = prefix_len_passes (λ item. not (above item)) items place item (ltb-true place (front items) h) in
-        let clash : false ≡ true = sym (ap not (is_above item.input high)) ∙ ap (λ i. not (above i)) is ∙ passes in
-        absurd (cc clash)
-    step false h =
-        let same : front items ≡ place = omega (arith, ltb-false place (front items) h, le) in
-        ap (λ n. cond (ltb n (length items)) (Some n) None) same ∙ ap (λ b. cond b (Some place) None) (less place (length items) lt)
+position-front items place item lt is high le =
+    let stops = front_at items place item lt is le ∙ ap not (is_above item.input high) in
+    let same : front items ≡ place = omega (arith, ltb-false place (front items) stops, le) in
+    ap (λ n. cond (ltb n (length items)) (Some n) None) same ∙ ap (λ b. cond b (Some place) None) (less place (length items) lt)
 
 -- where the front is all of the items, none is above 63
 pub position-none : (items : List InputItem) → length items ≤ front items → position above items ≡ None

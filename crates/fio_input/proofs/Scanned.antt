@@ -1,16 +1,7 @@
 -- A scan, from the new lengths of the runs and from which runs meet their filters.
-use Rattle.std.proofs.Common.{◌≡◌, ◌≢◌, ℕ, ◌^◌, ◌<◌, min, Bool, true, false, not, ◌&&◌, List, ◌∷◌, if◌then◌else◌, ◌⊎◌, inl, inr, refl, sym, ap, ap₂, ◌∙◌, w64}
-use Rattle.std.specs.Bool.{beq}
-use Rattle.std.specs.Prelude.{slice_index}
-use Rattle.std.specs.Int.{bit_not}
-use Rattle.std.specs.Int.Bits.{bit_and, bit_or, bit_xor}
-use Rattle.fio_message.specs.Bits.{is_set}
-use Rattle.fio_message.proofs.Bits.{is_set-merged, is_set-and, is_set-not, is_set-xor, is_set-zero}
+use Rattle.fio_input.proofs.Names.{◌≡◌, ◌≢◌, ℕ, ◌^◌, ◌<◌, min, Bool, true, false, not, ◌&&◌, List, ◌∷◌, if◌then◌else◌, ◌⊎◌, inl, inr, refl, sym, ap, ap₂, ◌∙◌, beq, slice_index, bit_not, bit_and, bit_or, bit_xor, is_set, is_set-merged, is_set-and, is_set-not, is_set-xor, is_set-zero, ends_run, FilterEvent, Scan, input_setting, input_samples, input_state, raw_levels, is_reported, AreFiltersAfter, run_length, next_length, meets_filter}
+use Rattle.std.proofs.Common.{w64}
 use Rattle.fio_input.specs.declared.filters.Filters.{Filters}
-use Rattle.fio_input.specs.FilterRule.{ends_run}
-use Rattle.fio_input.specs.FilterHistory.{FilterEvent, Scan, input_setting, input_samples, input_state, raw_levels, is_reported}
-use Rattle.fio_input.specs.Filters.{AreFiltersAfter}
-use Rattle.fio_input.specs.Runs.{run_length, next_length, meets_filter}
 use Rattle.fio_input.proofs.History.{latest_is}
 use Rattle.fio_input.proofs.RunLengths.{next_run, next_restarts, meets_is}
 

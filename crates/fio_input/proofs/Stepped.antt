@@ -1,9 +1,6 @@
 -- What a step of the runs makes of one input.
-use Rattle.std.proofs.Common.{◌≡◌, ◌≢◌, ℕ, Bool, true, false, not, List, get_or, refl, ◌∙◌, bit_xor}
-use Rattle.std.specs.Bool.{beq}
-use Rattle.fio_message.specs.Bits.{is_set}
-use Rattle.fio_message.proofs.Bits.{is_set-xor}
-use Rattle.fio_input.specs.Runs.{next_length, meets_filter}
+use Rattle.fio_input.proofs.Names.{◌≡◌, ◌≢◌, ℕ, Bool, true, false, not, List, get_or, refl, ◌∙◌, beq, is_set, is_set-xor, next_length, meets_filter}
+use Rattle.std.proofs.Common.{bit_xor}
 
 -- where its sample is not its filtered state, its run's length is stepped by the sample
 abbrev pub IsStepped : List ℕ → List ℕ → ℕ → ℕ → ℕ → ℕ → Type 0

@@ -1,6 +1,5 @@
 -- The counter through ticks and line syncs.
-use Rattle.std.proofs.Common.{◌≡◌, ℕ, ◌+◌, ◌%◌, ◌^◌, ◌≤◌, List, [], ◌∷◌, ◌++◌, Option, Some, None, refl, ◌∙◌, arith}
-use Rattle.std.specs.Prelude.{unwrap_or}
+use Rattle.fio_input.proofs.Names.{◌≡◌, ℕ, ◌+◌, ◌%◌, ◌^◌, ◌≤◌, List, [], ◌∷◌, ◌++◌, Option, Some, None, refl, ◌∙◌, arith, unwrap_or}
 use Rattle.fio_input.specs.Counter.{CounterEvent, Tick, AskLoad, LineSync, asked_number, ticks_unless_loaded, counter, ticks_in, one_more_if_loaded, loads_in}
 
 -- a line sync takes no load away

@@ -1,5 +1,5 @@
 -- The 32-bit time of a stamp and 16 low bits.
-use Rattle.std.proofs.Common.{◌≡◌, ℕ, ◌+◌, ◌-◌, ◌%◌, ◌^◌, ◌<◌, arith}
+use Rattle.fio_input.proofs.Names.{◌≡◌, ℕ, ◌+◌, ◌-◌, ◌%◌, ◌^◌, ◌<◌, arith}
 use Rattle.fio_input.specs.Widening.{IsWideTime, wide_time_of}
 
 -- the function gives such a time

@@ -1,11 +1,5 @@
 -- One lane of vectors of 16 that are computed lane by lane.
-use Rattle.std.proofs.Common.{◌≡◌, ℕ, ◌+◌, ◌-◌, ◌%◌, ◌^◌, ◌<◌, min, max, Bool, true, false, cond, ltb, List, [], ◌∷◌, map, length, get_or, replicate, refl, ap, ◌∙◌, arith, w8, Fits}
-use Rattle.std.proofs.lemmas.Bool.Decides.{nat_tests}
-use Rattle.std.proofs.lemmas.Simd.{tops_compared, length-zip2, get_or-zip2, length-sel_l, get_or-sel_l, mask_l-mod, mask_l-lt, Each1-get_or, get_or-replicate}
-use Rattle.std.proofs.lemmas.List.{get_or-map, length-map}
-use lib.Lanes.{zip2, sel_l, mask_l, top, Each1}
-use Rattle.fio_message.specs.Bits.{is_set}
-use Rattle.fio_message.proofs.Bits.{is_set-mask_l}
+use Rattle.fio_input.proofs.Names.{◌≡◌, ℕ, ◌+◌, ◌-◌, ◌%◌, ◌^◌, ◌<◌, min, max, Bool, true, false, cond, ltb, List, [], ◌∷◌, map, length, get_or, replicate, refl, ap, ◌∙◌, arith, w8, Fits, nat_tests, tops_compared, length-zip2, get_or-zip2, length-sel_l, get_or-sel_l, mask_l-mod, mask_l-lt, Each1-get_or, get_or-replicate, get_or-map, length-map, zip2, sel_l, mask_l, top, Each1, is_set, is_set-mask_l}
 
 -- a mask, as a test of two vectors' lanes gives it
 abbrev pub compared : (ℕ → ℕ → Bool) → List ℕ → List ℕ → List Bool
@@ -73,9 +67,6 @@ module _ (xs : List ℕ) (xs_long : length xs ≡ 16) where
   abbrev pub max_one : List ℕ
   max_one = sel_l (compared ltb xs ones) ones xs
 
-  pub length-max_one : length max_one ≡ 16
-  length-max_one = length-select ltb xs ones xs_long refl ones xs refl xs_long
-
   -- the greater of a lane and 1
   pub max_one-lane : (i : ℕ) → i < 16 → get_or max_one i 0 ≡ max (get_or xs i 0) 1
   max_one-lane i h =
@@ -101,9 +92,6 @@ module _ (xs : List ℕ) (xs_long : length xs ≡ 16) (fits : Each1 (Fits w8) xs
   -- `xs.saturating_add(one)`
   abbrev pub one_more : List ℕ
   one_more = zip2 (λ a b. (a + b) % 256) xs step
-
-  pub length-one_more : length one_more ≡ 16
-  length-one_more = let long = step_long in omega (arith, length-zip2 (λ (a b : ℕ). (a + b) % 256) xs step)
 
   -- a lane and one more, held at 255
   pub one_more-lane : (i : ℕ) → i < 16 → get_or one_more i 0 ≡ min (get_or xs i 0 + 1) 255

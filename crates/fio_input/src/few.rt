@@ -38,7 +38,7 @@ pub(crate) fn step_few(
     met
 }
 
-/// Steps the length of an input's latest run by one sample, and says whether the run now meets its
+/// Steps the length of an input's latest run by one sample, and returns whether the run now meets its
 /// filter.
 fn step_run(
     run_lengths: &mut [u8; INPUTS],
@@ -71,7 +71,8 @@ fn step_run(
     filter.max(1) <= length
 }
 
-/// Whether the bit of an input is set in a word.
+/// Returns whether the bit of an input is set in a word.
+#[tactic(auto, using(fio_message::proofs::Bits::is_set_read))]
 fn is_set(word: u64, input: usize) -> bool
     requires { input < INPUTS }
     ensures { result ≡ is_set word input }

@@ -58,7 +58,7 @@ pub(crate) fn step_runs(
     met
 }
 
-/// The lengths of 16 runs after one more sample: one more, held at 255, where the sample has the
+/// Returns the lengths of 16 runs after one more sample: one more, held at 255, where the sample has the
 /// run's level, and else 1.
 fn next_lengths(lengths: u8x16, levels: u8x16, samples: u8x16) -> u8x16
     ensures { (lane : ℕ) → lane < LANES
@@ -72,7 +72,7 @@ fn next_lengths(lengths: u8x16, levels: u8x16, samples: u8x16) -> u8x16
         .saturating_add(u8x16::splat(1))
 }
 
-/// The filters of 16 inputs that their samples ask for, 0 as 1.
+/// Returns the filters of 16 inputs that their samples ask for, 0 as 1.
 fn filters_in_force(leading: u8x16, trailing: u8x16, samples: u8x16) -> u8x16
     ensures { (lane : ℕ) → lane < LANES
         → slice_index result lane
@@ -83,7 +83,7 @@ fn filters_in_force(leading: u8x16, trailing: u8x16, samples: u8x16) -> u8x16
     samples.simd_eq(one).select(trailing, leading).simd_max(one)
 }
 
-/// A bit for each of 16 runs that is as long as its filter.
+/// Returns a bit for each of 16 runs that is as long as its filter.
 fn runs_met(filters: u8x16, lengths: u8x16) -> u64
     ensures range { result < 2 ^ LANES }
     ensures lanes { (lane : ℕ) → lane < LANES
@@ -92,7 +92,7 @@ fn runs_met(filters: u8x16, lengths: u8x16) -> u64
     filters.simd_le(lengths).to_bitmask()
 }
 
-/// The levels of the 16 inputs from the first one on.
+/// Returns the levels of the 16 inputs from `first` on.
 fn levels_from(levels: u64, first: usize) -> u64
     requires { first < INPUTS }
     ensures range { result < 2 ^ LANES }
@@ -101,7 +101,7 @@ fn levels_from(levels: u64, first: usize) -> u64
     (levels >> first) & 0xffff
 }
 
-/// The levels of 16 inputs, each as a lane of 0 or 1.
+/// Returns the levels of 16 inputs, each as a lane of 0 or 1.
 fn lanes_of(levels: u64) -> u8x16
     requires { levels < 2 ^ LANES }
     ensures { (lane : ℕ) → lane < LANES
@@ -118,7 +118,7 @@ fn lanes_of(levels: u64) -> u8x16
         .select(u8x16::splat(1), u8x16::splat(0))
 }
 
-/// The 16 octets from the first one on.
+/// Returns the 16 octets from `first` on.
 fn load(octets: &[u8], first: usize) -> u8x16
     requires { first + LANES ≤ length octets.now }
     ensures { (lane : ℕ) → lane < LANES
@@ -127,7 +127,8 @@ fn load(octets: &[u8], first: usize) -> u8x16
     u8x16::from_slice(&octets[first..])
 }
 
-/// Puts the lanes over the 16 octets from the first one on.
+/// Writes the lanes over the 16 octets from `first` on.
+#[tactic(auto, using(crate::proofs::Rulesets::stored_chunks))]
 fn store(octets: &mut [u8], first: usize, lanes: u8x16)
     requires { first + LANES ≤ length octets.old }
     ensures below { (i : ℕ) → i < first → slice_index octets.new i ≡ slice_index octets.old i }

@@ -2,7 +2,7 @@
 ghost use Rattle.std.specs.Prelude.{◌≡◌};
 ghost use Rattle.fio_input.specs.Widening.{IsWideTime, wide_time_of};
 
-/// The time in milliseconds of an entry with these low 16 bits, in an answer with this stamp.
+/// Returns the time in milliseconds of an entry with these low 16 bits, in an answer with this stamp.
 ///
 /// It is the one number at or before the stamp, counting back modulo 2^32, that lies less than
 /// 65,536 steps back and has these low bits.

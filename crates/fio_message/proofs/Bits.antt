@@ -1,15 +1,13 @@
 -- One bit of a word, through each operation on words of 64 bits: what the crates above cite for inputs, masks and flags.
-use Rattle.std.proofs.Common.{◌≡◌, ℕ, zero, suc, ◌+◌, ◌-◌, ◌*◌, ◌/◌, ◌%◌, ◌^◌, ◌<◌, min, max, Bool, true, false, not, ◌&&◌, ◌||◌, ◌==◌, if◌then◌else◌, refl, sym, subst, add-zero, ◌≤◌, ap, ap₂, ◌∙◌, arith, w64, mod-lt, zero-lt-suc, le_of_suc-le-suc, not-suc-le-zero, List, get_or, cond}
+use Rattle.fio_message.proofs.Names.{◌≡◌, ℕ, zero, suc, ◌+◌, ◌-◌, ◌*◌, ◌/◌, ◌%◌, ◌^◌, ◌<◌, min, max, Bool, true, false, not, ◌&&◌, ◌||◌, ◌==◌, if◌then◌else◌, refl, sym, subst, add-zero, ◌≤◌, ap, ap₂, ◌∙◌, arith, mod-lt, zero-lt-suc, le_of_suc-le-suc, not-suc-le-zero, List, get_or, cond, bit_at, bit_not, shr-shr, eq-eqb, ne_eqb, is_set}
+use Rattle.std.proofs.Common.{w64}
 use Rattle.std.specs.Bool.{beq}
-use Rattle.std.specs.Int.{bit_at, bit_not}
 use Rattle.std.specs.Int.Bits.{bit_and, bit_or, bit_xor}
 use Rattle.std.proofs.lemmas.Nat.Bits.{bit_at_and, bit_at_or, bit_at_xor, bit_at_not, bit_at_ones, bit_at-zero, bit_at_cat_low, bit_at_above, and_pow, shr_and_one, bit_at_set_same, bit_at_set_other, bit_at_clear_same, bit_at_clear_other}
 use Rattle.std.proofs.lemmas.Simd.{bit_mask_l}
 use lib.Lanes.{mask_l}
-use lib.Pow.{shr-shr, shl-shr, field, mod-mod-pow}
+use lib.Pow.{shl-shr, field, mod-mod-pow}
 use Rattle.std.proofs.Math.Pow.{pow_pos}
-use Rattle.std.proofs.lemmas.Bool.{eq-eqb, ne_eqb}
-use Rattle.fio_message.specs.Bits.{is_set}
 
 -- what holds at 0 and at 1 holds at each number below 2
 bit_cases : (P : ℕ → Type 0) → P 0 → P 1 → (x : ℕ) → x < 2 → P x

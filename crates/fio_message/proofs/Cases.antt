@@ -1,7 +1,6 @@
 -- A claim on the code of a message, one code after the other.
-use Rattle.std.proofs.Common.{◌≡◌, ℕ, zero, suc, ◌+◌, ◌≤◌, false, eqb, sym, subst, arith, inl, inr}
+use Rattle.fio_message.proofs.Names.{◌≡◌, ℕ, zero, suc, ◌+◌, ◌≤◌, false, eqb, sym, subst, arith, inl, inr, cases_Bool, eqb-true, eqb-false}
 use Rattle.std.specs.Prelude.{⊤}
-use Rattle.std.proofs.lemmas.Bool.{cases_Bool, eqb-true, eqb-false}
 
 -- what holds at k, and at a code that is not k, holds at the code
 pub at_code : (P : ℕ → Type 0) (k code : ℕ) → P k → (eqb code k ≡ false → P code) → P code

@@ -1,10 +1,5 @@
 -- What a decoder answers says what is read of the octets.
-use Rattle.std.proofs.Common.{◌≡◌, ℕ, List, Option, Some, None, Ok}
-use Rattle.std.specs.Option.{ok_or}
-use Rattle.fio_message.specs.declared.commands.Command.{Command}
-use Rattle.fio_message.specs.declared.faults.DecodeError.{DecodeError}
-use Rattle.fio_message.specs.Commands.{command_length}
-use Rattle.fio_message.specs.Decoding.{command_in, decoded_command, fault_in}
+use Rattle.fio_message.proofs.Names.{◌≡◌, ℕ, List, Option, Some, None, Ok, ok_or, Command, DecodeError, command_length, command_in, decoded_command, fault_in}
 
 -- where it answers a message, that message is read
 message_read : {V : Type 0} (found : Option V) (fault : DecodeError) (message : V)

@@ -1,6 +1,5 @@
 -- The front of a list in two parts.
-use Rattle.std.proofs.Common.{◌≡◌, ℕ, ◌-◌, ◌+◌, List, ◌++◌, length, take, min, ap, sym, ◌∙◌, arith, append-nil, inl, inr}
-use Rattle.std.proofs.lemmas.List.{take-append-le, take_min}
+use Rattle.fio_message.proofs.Names.{◌≡◌, ℕ, ◌-◌, ◌+◌, List, ◌++◌, length, take, min, ap, sym, ◌∙◌, arith, append-nil, inl, inr, take-append-le, take_min}
 use Rattle.std.proofs.Math.Seq.{take-append-add, take-length}
 use Rattle.std.proofs.lemmas.Bool.Decides.{leb_tells}
 

@@ -1,7 +1,5 @@
 -- What the laws and the decoders take from each kind of message: what is spelled is read back, and whole octets are spelled.
-use Rattle.std.proofs.Common.{◌≡◌, ℕ, suc, ◌≤◌, List, ◌∷◌, length, Option, Some, sym, ap, subst, ◌∙◌, arith}
-use Rattle.fio_message.specs.Octets.{IsOctets}
-use Rattle.fio_message.specs.Refusals.{IsWhole}
+use Rattle.fio_message.proofs.Names.{◌≡◌, ℕ, suc, ◌≤◌, List, ◌∷◌, length, Option, Some, sym, ap, subst, ◌∙◌, arith, BODY_OCTETS, IsOctets, IsWhole}
 use Rattle.fio_message.proofs.Whole.{fields_fit, fields_needed}
 
 -- the octets are whole, and read as this message
@@ -12,19 +10,24 @@ pub record IsReadAs {V : Type 0} (length_of : List ℕ → Option ℕ) (read : �
   pub whole : IsWhole (length_of octets) octets code fields
   pub again : read code fields ≡ message
 
+-- octets with this code and the length needed are spelled by what is read of them
+abbrev pub Takes : {V : Type 0} → (V → List ℕ → Type 0) → (List ℕ → Option ℕ) → (ℕ → List ℕ → V) → ℕ → Type 0
+Takes Spells length_of read code =
+    (fields : List ℕ) → IsOctets fields → length fields ≤ BODY_OCTETS
+    → length_of (code ∷ fields) ≡ Some (suc (length fields)) → Spells (read code fields) (code ∷ fields)
+
 -- a kind of messages: what they spell, how many octets they need, and how their fields are read
 pub record IsGrammar {V : Type 0} (Spells : V → List ℕ → Type 0) (length_of : List ℕ → Option ℕ)
     (read : ℕ → List ℕ → V) : Type 0 where
   pub read_as : (message : V) (octets : List ℕ) → Spells message octets → IsReadAs length_of read message octets
-  pub takes : (code : ℕ) (fields : List ℕ) → IsOctets fields → length fields ≤ 772
-      → length_of (code ∷ fields) ≡ Some (suc (length fields)) → Spells (read code fields) (code ∷ fields)
+  pub takes : (code : ℕ) → Takes Spells length_of read code
 
 -- a code and fields that fit in a frame, have the length that they need, and are read as this message
 pub record IsReadAgain {V : Type 0} (length_of : List ℕ → Option ℕ) (read : ℕ → List ℕ → V)
     (message : V) (code : ℕ) (fields : List ℕ) : Type 0 where
   pub again : read code fields ≡ message
   pub needed : length_of (code ∷ fields) ≡ Some (suc (length fields))
-  pub short : length fields ≤ 772
+  pub short : length fields ≤ BODY_OCTETS
   pub octets : IsOctets (code ∷ fields)
 
 -- octets that are such a code and fields are read as the message

@@ -1,9 +1,7 @@
 -- The eight octets of the inputs, bit by bit.
-use Rattle.std.proofs.Common.{◌≡◌, ◌↔◌, ℕ, zero, suc, ◌+◌, ◌/◌, ◌%◌, ◌^◌, ◌<◌, sym, ap, ◌∙◌, arith, bit_and}
-use Rattle.std.specs.Int.{IsBitSet}
-use Rattle.std.proofs.lemmas.Nat.{bit_set_by_shift, shr-shr, and_mod, and_le_r, pow_below}
+use Rattle.fio_message.proofs.Names.{◌≡◌, ◌↔◌, ℕ, zero, suc, ◌+◌, ◌/◌, ◌%◌, ◌^◌, ◌<◌, sym, ap, ◌∙◌, arith, IsBitSet, bit_set_by_shift, shr-shr, and_mod, and_le_r, pow_below, IsInputsLayout}
+use Rattle.std.proofs.Common.{bit_and}
 use Rattle.std.proofs.Math.Nat.{mod-eq_of_lt}
-use Rattle.fio_message.specs.Laws.{IsInputsLayout}
 
 -- the bits of a word below place k are those of its remainder
 bit_below : (n k b : ℕ) → b < k → bit_and (n % 2 ^ k) (2 ^ b) ≡ bit_and n (2 ^ b)

@@ -1,8 +1,5 @@
 -- Which types of messages are known.
-use Rattle.std.proofs.Common.{◌≡◌, ◌↔◌, ℕ, zero, suc, ◌+◌, ◌≤◌, List, [], ◌∷◌, Option, Some, None, refl, arith}
-use Rattle.fio_message.specs.Commands.{command_length}
-use Rattle.fio_message.specs.Answers.{answer_length, block_length}
-use Rattle.fio_message.specs.Laws.{NeedsTheSame, IsKnownWithin}
+use Rattle.fio_message.proofs.Names.{◌≡◌, ◌↔◌, ℕ, zero, suc, ◌+◌, ◌≤◌, List, [], ◌∷◌, Option, Some, None, refl, arith, command_length, answer_length, block_length, NeedsTheSame, IsKnownWithin}
 use Rattle.fio_message.proofs.Cases.{HoldsFrom, IsNoneFrom, at_code, at_codes, above}
 use Rattle.fio_message.proofs.CommandLaws.{command_unknown}
 use Rattle.fio_message.proofs.AnswerLaws.{answer_unknown}

@@ -1,6 +1,7 @@
+pub mod Names
 pub mod Cases
 pub mod Numbers
-pub mod Parts
+pub mod PartLists
 pub mod PartKinds
 pub mod PartLoops
 pub mod Whole
@@ -8,7 +9,6 @@ pub mod Grammar
 pub mod CommandLaws
 pub mod AnswerLaws
 pub mod BlockLaws
-pub mod ItemLaws
 pub mod DecodingLaws
 pub mod Accepting
 pub mod Decoded
@@ -16,6 +16,7 @@ pub mod KnownTypes
 pub mod StatusBits
 pub mod InputsLayout
 pub mod MessageLaws
+pub mod LawList
 pub mod Fronts
 pub mod Marks
 pub mod Bits

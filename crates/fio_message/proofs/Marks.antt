@@ -1,18 +1,11 @@
 -- The octets of a block, kept and marked as sent again.
-use Rattle.std.proofs.Common.{◌≡◌, ℕ, suc, ◌+◌, ◌*◌, List, [], ◌∷◌, ◌++◌, length, take, min, length-append, refl, ap, ap₂, sym, ◌∙◌, arith}
+use Rattle.fio_message.proofs.Names.{◌≡◌, ℕ, suc, ◌+◌, ◌*◌, List, [], ◌∷◌, ◌++◌, length, take, min, length-append, refl, ap, ap₂, sym, ◌∙◌, arith, flat_map, w32, to_be_bytes, length-map, length-set, take_min, entry_octets, answer_octets, Block, block_answer, SpellsBlock, KeepsBlockAnswers}
 use Rattle.std.specs.Prelude.{slice_index_or, slice_set}
-use Rattle.std.specs.List.{flat_map}
-use Rattle.std.specs.Int.{w32, to_be_bytes}
-use Rattle.std.proofs.lemmas.List.{length-map, length-set, take_min}
 use Rattle.std.proofs.lemmas.List.Folds.{flat_map-map}
 use Rattle.std.proofs.Math.Seq.{take-append_seam}
-use Rattle.fio_message.specs.Octets.{entry_octets}
 use Rattle.fio_message.specs.Status.{again_status}
-use Rattle.fio_message.specs.Answers.{answer_octets}
-use Rattle.fio_message.specs.Blocks.{Block, block_answer, SpellsBlock}
 use Rattle.fio_message.specs.KeptBlock.{block_sent_again, marked_octets}
-use Rattle.fio_message.specs.Laws.{KeepsBlockAnswers}
-use Rattle.fio_message.proofs.Parts.{length-parts}
+use Rattle.fio_message.proofs.PartLists.{length-parts}
 use Rattle.fio_message.proofs.PartKinds.{entry_is_part}
 use Rattle.fio_message.proofs.StatusBits.{again_status-fits}
 

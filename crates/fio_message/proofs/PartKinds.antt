@@ -1,16 +1,8 @@
 -- The two kinds of parts: items and entries.
-use Rattle.std.proofs.Common.{◌≡◌, ℕ, ◌+◌, ◌*◌, ◌<◌, ◌≤◌, ◌%◌, Bool, true, false, leb, List, [], ◌∷◌, ◌++◌, length, take, drop, ap, ◌∙◌, refl, arith, inl, inr}
-use Rattle.std.specs.Prelude.{nat_le}
-use Rattle.std.specs.Int.{w16, to_be_bytes, from_be_bytes}
-use Rattle.std.proofs.lemmas.Bool.{le-leb, lt-leb, leb-true, leb-false, cases_Bool}
-use Rattle.std.proofs.lemmas.Nat.{from_be_bytes-to_be_bytes_2}
+use Rattle.fio_message.proofs.Names.{◌≡◌, ℕ, ◌+◌, ◌*◌, ◌<◌, ◌≤◌, ◌%◌, Bool, true, false, leb, List, [], ◌∷◌, ◌++◌, length, take, drop, ap, ◌∙◌, refl, arith, inl, inr, nat_le, w16, to_be_bytes, from_be_bytes, le-leb, lt-leb, leb-true, leb-false, cases_Bool, from_be_bytes-to_be_bytes_2, Entry, IsOctet, IsOctets, item_octets, entry_octets, IsItem, IsEntry, bit_of, item_at, entry_at}
 use Rattle.fio_message.specs.declared.fields.InputItem.{InputItem}
-use Rattle.fio_message.specs.declared.fields.Entry.{Entry}
-use Rattle.fio_message.specs.Octets.{IsOctet, IsOctets, item_octets, entry_octets, IsItem, IsEntry}
-use Rattle.fio_message.specs.Bits.{bit_of}
-use Rattle.fio_message.specs.Reading.{item_at, entry_at}
 use Rattle.fio_message.proofs.Numbers.{octet_at, IsOctets-drop, IsOctets-be16, number_16, below_16}
-use Rattle.fio_message.proofs.Parts.{IsPart}
+use Rattle.fio_message.proofs.PartLists.{IsPart}
 
 -- a flag in bit 7 and a number in the seven bits below it are read back
 flag_again : (b : Bool) (n : ℕ) → n < 128

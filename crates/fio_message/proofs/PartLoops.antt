@@ -1,34 +1,5 @@
--- Loops over parts: so many have been read from octets, or appended to them.
-use Rattle.std.proofs.Common.{◌≡◌, ℕ, suc, ◌+◌, ◌-◌, ◌*◌, ◌<◌, ◌≤◌, List, [], ◌∷◌, ◌++◌, length, get_or, set, take, drop, sym, ap, ◌∙◌, arith, append_assoc}
-use Rattle.std.specs.List.{AllByRecursion, flat_map}
-use Rattle.std.proofs.lemmas.List.{length-append, length-drop, length-set, append-nil, take_more, take_more_set}
-use Rattle.fio_message.specs.Reading.{parts_at}
-
--- the parts up to the counter have been read, and the octets of the others are left
-pub record IsReadSoFar {X : Type 0} (part_at : List ℕ → X) (count : ℕ) (octets : List ℕ)
-    (parts : List X) (counter : ℕ) (rest : List ℕ) : Type 0 where
-  pub len : length parts ≡ counter
-  pub long : 3 * (count - counter) ≤ length rest
-  pub read : parts ++ parts_at part_at (count - counter) rest ≡ parts_at part_at count octets
-
-module _ {X : Type 0} (part_at : List ℕ → X) (count : ℕ) (octets : List ℕ)
-    (parts : List X) (counter : ℕ) (rest : List ℕ) where
-  -- one more part is read
-  pub read_more : counter < count → IsReadSoFar part_at count octets parts counter rest
-      → IsReadSoFar part_at count octets (parts ++ part_at rest ∷ []) (counter + 1) (drop 3 rest)
-  read_more lt h =
-      let more : count - counter ≡ suc (count - (counter + 1)) = omega arith in
-      let others = parts_at part_at (count - (counter + 1)) (drop 3 rest) in
-      record {
-        len = omega (arith, length-append parts (part_at rest ∷ []), h.len);
-        long = omega (arith, length-drop 3 rest, h.long);
-        read = append_assoc parts (part_at rest ∷ []) others ∙ (rw more at h.read);
-      }
-
-  -- all parts have been read
-  pub all_read : count ≤ counter → IsReadSoFar part_at count octets parts counter rest
-      → parts ≡ parts_at part_at count octets
-  all_read le h = let none : count - counter ≡ 0 = omega arith in sym (append-nil parts) ∙ (rw none at h.read)
+-- A loop that puts the octets of parts one after the other.
+use Rattle.fio_message.proofs.Names.{◌≡◌, ℕ, ◌+◌, ◌*◌, ◌<◌, ◌≤◌, List, [], ◌∷◌, ◌++◌, length, get_or, set, take, refl, sym, ap, ◌∙◌, arith, append_assoc, AllByRecursion, flat_map, length-set, append-nil, take_more, take_more_set}
 
 -- one more item of a list that has the fact
 AllByRecursion-push : {X : Type 0} (P : X → Type 0) (xs : List X) (x : X)
@@ -60,6 +31,14 @@ put_three slots p a b c below =
     ∙ ap (λ (o : List ℕ). o ++ c ∷ []) (second ∙ ap (λ (o : List ℕ). o ++ b ∷ []) first)
     ∙ ap (λ (o : List ℕ). o ++ c ∷ []) (append_assoc (take p slots) (a ∷ []) (b ∷ []))
     ∙ append_assoc (take p slots) (a ∷ b ∷ []) (c ∷ [])
+
+-- three octets are those at the places 0, 1 and 2
+pub three_octets : (octets : List ℕ) → length octets ≡ 3 → octets ≡ get_or octets 0 0 ∷ get_or octets 1 0 ∷ get_or octets 2 0 ∷ []
+three_octets (a ∷ b ∷ c ∷ []) len = refl
+three_octets [] len = absurd (omega (arith, len))
+three_octets (a ∷ []) len = absurd (omega (arith, len))
+three_octets (a ∷ b ∷ []) len = absurd (omega (arith, len))
+three_octets (a ∷ b ∷ c ∷ d ∷ rest) len = absurd (omega (arith, len))
 
 -- the octets of the first i parts have been put, and these are within their ranges
 pub record IsPutSoFar {X : Type 0} (Fits : X → Type 0) (octets_of : X → List ℕ)

@@ -1,11 +1,7 @@
 -- The named bits of the statuses.
-use Rattle.std.proofs.Common.{◌≡◌, ℕ, ◌≤◌, ◌==◌, Bool, true, false, refl, ap, ◌∙◌, arith, bit_or}
-use Rattle.std.proofs.lemmas.Nat.{and_le_r}
-use Rattle.std.specs.Int.{bit_at}
-use Rattle.fio_message.specs.Bits.{is_set, bit_of}
-use Rattle.fio_message.specs.Octets.{IsOctet}
+use Rattle.fio_message.proofs.Names.{◌≡◌, ℕ, ◌≤◌, ◌==◌, Bool, true, false, refl, ap, ◌∙◌, arith, and_le_r, bit_at, is_set, bit_of, IsOctet, ErrorReadsBack, SetBeforeReadsBack, StatusReadsBack, SetsAgainAlone}
+use Rattle.std.proofs.Common.{bit_or}
 use Rattle.fio_message.specs.Status.{error_status, set_before_status, block_status, again_status}
-use Rattle.fio_message.specs.Laws.{ErrorReadsBack, SetBeforeReadsBack, StatusReadsBack, SetsAgainAlone}
 
 -- a flag as a bit is 0 or 1
 bit_of_small : (flag : Bool) → bit_of flag ≤ 1

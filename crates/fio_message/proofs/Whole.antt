@@ -1,13 +1,10 @@
 -- Octets that have the length that their message needs, and fit in a frame; all others are refused.
-use Rattle.std.proofs.Common.{◌≡◌, ◌⊎◌, ℕ, suc, ◌≤◌, List, [], ◌∷◌, length, Option, Some, None, refl, sym, ap, ◌∙◌, arith, inl, inr}
-use Rattle.std.proofs.lemmas.Bool.{cases_lt, cases_eq}
-use Rattle.fio_message.specs.declared.faults.DecodeError.{DecodeError}
+use Rattle.fio_message.proofs.Names.{◌≡◌, ◌⊎◌, ℕ, suc, ◌≤◌, List, [], ◌∷◌, length, Option, Some, None, refl, sym, ap, ◌∙◌, arith, inl, inr, cases_lt, cases_eq, BODY_OCTETS, FRAME_OCTETS, DecodeError, Refuses, IsWhole}
 use Rattle.fio_message.specs.declared.faults.DecodeError.TheVariants.{Empty, TooLong, UnknownType, WrongLength}
-use Rattle.fio_message.specs.Refusals.{Refuses, IsWhole}
 
 -- beside the code, whole octets have at most 772 others
 pub fields_fit : (needed : Option ℕ) (octets : List ℕ) (code : ℕ) (fields : List ℕ)
-    → IsWhole needed octets code fields → length fields ≤ 772
+    → IsWhole needed octets code fields → length fields ≤ BODY_OCTETS
 fields_fit needed octets code fields whole = omega (arith, whole.frame, ap length whole.parts)
 
 -- the code and the fields of whole octets need as many octets as they are
@@ -23,7 +20,7 @@ abbrev AreRefused : Option ℕ → List ℕ → Type 0
 AreRefused needed octets = (fault : DecodeError) × Refuses needed octets fault
 
 -- octets that fit in a frame are whole, or of an unknown type, or of another length than is needed
-fitting_or_refused : (needed : Option ℕ) (code : ℕ) (fields : List ℕ) → length (code ∷ fields) ≤ 773
+fitting_or_refused : (needed : Option ℕ) (code : ℕ) (fields : List ℕ) → length (code ∷ fields) ≤ FRAME_OCTETS
     → AreWhole needed (code ∷ fields) ⊎ AreRefused needed (code ∷ fields)
 fitting_or_refused None code fields le = inr (UnknownType code, ((omega arith, le), refl, refl))
 fitting_or_refused (Some needed) code fields le =
@@ -36,7 +33,7 @@ fitting_or_refused (Some needed) code fields le =
 pub whole_or_refused : (needed : Option ℕ) (octets : List ℕ) → AreWhole needed octets ⊎ AreRefused needed octets
 whole_or_refused needed [] = inr (Empty, refl)
 whole_or_refused needed (code ∷ fields) =
-    elim (cases_lt 773 (length (code ∷ fields))) [
+    elim (cases_lt FRAME_OCTETS (length (code ∷ fields))) [
       | inl lt ↦ inr (TooLong (length (code ∷ fields)), (refl, lt))
       | inr le ↦ fitting_or_refused needed code fields le
     ]

@@ -1,11 +1,11 @@
 -- A block answer as its view shows it, which leaves the entries in the octets.
-use Rattle.std.specs.Prelude.{ℕ, ◌/◌, List, length, drop, slice_index_or}
+use Rattle.std.specs.Prelude.{ℕ, List, drop, slice_index_or}
 use Rattle.std.specs.Int.{w32, from_be_bytes}
 use Rattle.fio_message.specs.declared.fields.Entry.{Entry}
 use Rattle.fio_message.specs.declared.answers.Answer.{Answer}
 use Rattle.fio_message.specs.declared.answers.Answer.TheVariants as answers
 use Rattle.fio_message.specs.Answers.{SpellsAnswer}
-use Rattle.fio_message.specs.Reading.{entry_at, parts_at, block_entries, block_ending}
+use Rattle.fio_message.specs.Reading.{entry_at, parts_in, block_entries, block_ending}
 
 -- what the view of a block answer shows: the block number, the entries in order, the status octet
 -- and the stamp, the module's counter when the block was made
@@ -34,7 +34,6 @@ block_of_fields fields = record {
   stamp = from_be_bytes w32 (drop 1 (block_ending fields));
 }
 
--- The entries in octets that hold entries alone, three octets for each: so a view, and what is left
--- of its entries, are seen through the octets that they borrow.
+-- the entries in octets that hold entries alone
 abbrev pub entries_in : List ℕ → List Entry
-entries_in octets = parts_at entry_at (length octets / 3) octets
+entries_in = parts_in entry_at

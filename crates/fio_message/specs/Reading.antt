@@ -37,9 +37,14 @@ abbrev pub parts_at : {X : Type 0} → (List ℕ → X) → ℕ → List ℕ →
 parts_at part_at zero octets = []
 parts_at part_at (suc n) octets = part_at octets ∷ parts_at part_at n (drop 3 octets)
 
--- the items in octets that hold items alone, three octets for each
+-- the parts in octets that hold parts alone, three octets for each: so a view, and what is left of its
+-- parts, are seen through the octets that they borrow
+abbrev pub parts_in : {X : Type 0} → (List ℕ → X) → List ℕ → List X
+parts_in part_at octets = parts_at part_at (length octets / 3) octets
+
+-- the items in octets that hold items alone
 abbrev pub items_in : List ℕ → List InputItem
-items_in octets = parts_at item_at (length octets / 3) octets
+items_in = parts_in item_at
 
 -- the command with this type and these fields, for the types 49 to 60
 abbrev pub command_at : ℕ → List ℕ → Command

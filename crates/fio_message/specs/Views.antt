@@ -2,8 +2,8 @@
 use Rattle.std.specs.Prelude.{ℕ, List, Result, Ok, Err}
 use Rattle.fio_message.specs.declared.fields.InputItem.{InputItem}
 use Rattle.fio_message.specs.declared.fields.Entry.{Entry}
-use Rattle.fio_message.specs.declared.items.ItemsView.{ItemsView}
-use Rattle.fio_message.specs.declared.entries.EntriesView.{EntriesView}
+use Rattle.fio_message.specs.declared.limits.TheConstants.{BLOCK_ENTRIES, CONFIGURATION_ITEMS}
+use Rattle.fio_message.specs.declared.parts.PartsView.{PartsView}
 use Rattle.fio_message.specs.declared.body.BodyView.{BodyView}
 use Rattle.fio_message.specs.declared.commands.Command.{Command}
 use Rattle.fio_message.specs.declared.commands.Command.TheVariants as commands
@@ -16,6 +16,14 @@ use Rattle.fio_message.specs.declared.answer_view.AnswerView.TheVariants as answ
 use Rattle.fio_message.specs.declared.faults.DecodeError.{DecodeError}
 use Rattle.fio_message.specs.Blocks.{entries_in}
 use Rattle.fio_message.specs.Reading.{items_in}
+
+-- the view of the items of a configuration
+abbrev pub ItemsView : Type 0
+ItemsView = PartsView InputItem CONFIGURATION_ITEMS
+
+-- the view of the entries of a block answer
+abbrev pub EntriesView : Type 0
+EntriesView = PartsView Entry BLOCK_ENTRIES
 
 -- the items of a configuration, in order
 abbrev pub items_of : ItemsView → List InputItem

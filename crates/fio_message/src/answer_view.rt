@@ -13,10 +13,10 @@ use crate::answers::{Answer, OtherAnswer};
 use crate::blocks::BlockView;
 use crate::body::BodyView;
 use crate::decoding::{answer_length, code_and_fields};
-use crate::entries::EntriesView;
 use crate::faults::DecodeError;
 use crate::inputs::inputs_from_octets;
 use crate::limits::BODY_OCTETS;
+use crate::parts::EntriesView;
 use crate::reading::{eight_at, u32_of};
 use crate::types::{
     BLOCK_ANSWER, COMPLEX_OUTPUTS_ANSWER, CONFIGURE_INPUTS_ANSWER, CONTROLLER_ID_ANSWER,
@@ -89,7 +89,7 @@ pub enum AnswerView<'a> {
 }
 
 impl AnswerView<'_> {
-    /// The type of the message, its first octet: 177 to 188.
+    /// Returns the type of the message, its first octet: 177 to 188.
     pub fn code(&self) -> u8
         ensures { result ≡ answer_code (answer_of self.now) }
     {
@@ -105,7 +105,7 @@ impl AnswerView<'_> {
         }
     }
 
-    /// The answer, with its entries and its body copied: about a kilobyte.
+    /// Returns the answer, with its entries and its body copied: about a kilobyte.
     #[inline(always)]
     pub fn to_answer(&self) -> Answer
         ensures { result ≡ answer_of self.now }
@@ -148,7 +148,7 @@ impl AnswerView<'_> {
     }
 }
 
-/// The answer with this type and these octets after it, which have the length that it needs.
+/// Returns the answer with this type and these octets after it, which have the length that it needs.
 #[inline(always)]
 fn view_of(code: u8, fields: &[u8]) -> AnswerView<'_>
     requires frame { length fields.now ≤ BODY_OCTETS }
@@ -183,7 +183,7 @@ fn view_of(code: u8, fields: &[u8]) -> AnswerView<'_>
     }
 }
 
-/// The block answer with these octets after the type.
+/// Returns the block answer with these octets after the type.
 #[inline(always)]
 fn block(fields: &[u8]) -> AnswerView<'_>
     requires frame { length fields.now ≤ BODY_OCTETS }
@@ -199,7 +199,7 @@ fn block(fields: &[u8]) -> AnswerView<'_>
     }
 }
 
-/// An answer with a body only.
+/// Returns an answer with a body only.
 #[inline(always)]
 fn other(kind: OtherAnswer, fields: &[u8]) -> AnswerView<'_>
     requires { length fields.now ≤ BODY_OCTETS }
@@ -211,7 +211,7 @@ fn other(kind: OtherAnswer, fields: &[u8]) -> AnswerView<'_>
     }
 }
 
-/// The answer that the octets spell, of types 177 to 188, read in place: nothing is copied but its
+/// Returns the answer that the octets spell, of types 177 to 188, read in place: nothing is copied but its
 /// numbers.
 ///
 /// # Errors

@@ -16,7 +16,7 @@ pub struct BodyView<'a> {
 impl<'a> BodyView<'a> {
     ghost use Rattle.fio_message.specs.Views.{body_of};
 
-    /// The body of these octets.
+    /// Returns the body of these octets.
     pub(crate) fn of_octets(octets: &'a [u8]) -> BodyView<'a>
         requires { length octets.now ≤ BODY_OCTETS }
         ensures { body_of result ≡ octets.now }

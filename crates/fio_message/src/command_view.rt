@@ -13,8 +13,8 @@ use crate::body::BodyView;
 use crate::commands::{Command, OtherCommand};
 use crate::decoding::{code_and_fields, command_length};
 use crate::faults::DecodeError;
-use crate::items::ItemsView;
 use crate::limits::BODY_OCTETS;
+use crate::parts::ItemsView;
 use crate::reading::{eight_at, u32_of};
 use crate::types::{
     COMPLEX_OUTPUTS, CONFIGURE_INPUTS, CONTROLLER_ID, FILTERED_INPUTS, IDENTIFY, LOAD_COUNTER,
@@ -73,7 +73,7 @@ pub enum CommandView<'a> {
 }
 
 impl CommandView<'_> {
-    /// The type of the message, its first octet: 49 to 60.
+    /// Returns the type of the message, its first octet: 49 to 60.
     pub fn code(&self) -> u8
         ensures { result ≡ command_code (command_of self.now) }
     {
@@ -91,7 +91,7 @@ impl CommandView<'_> {
         }
     }
 
-    /// The command, with its items, its outputs and its body copied: about a kilobyte.
+    /// Returns the command, with its items, its outputs and its body copied: about a kilobyte.
     #[inline(always)]
     pub fn to_command(&self) -> Command
         ensures { result ≡ command_of self.now }
@@ -119,7 +119,7 @@ impl CommandView<'_> {
     }
 }
 
-/// The command with this type and these octets after it, which have the length that it needs.
+/// Returns the command with this type and these octets after it, which have the length that it needs.
 #[inline(always)]
 fn view_of(code: u8, fields: &[u8]) -> CommandView<'_>
     requires frame { length fields.now ≤ BODY_OCTETS }
@@ -150,7 +150,7 @@ fn view_of(code: u8, fields: &[u8]) -> CommandView<'_>
     }
 }
 
-/// A command with a body only.
+/// Returns a command with a body only.
 #[inline(always)]
 fn other(kind: OtherCommand, fields: &[u8]) -> CommandView<'_>
     requires { length fields.now ≤ BODY_OCTETS }
@@ -162,7 +162,7 @@ fn other(kind: OtherCommand, fields: &[u8]) -> CommandView<'_>
     }
 }
 
-/// The command that the octets spell, of types 49 to 60, read in place: nothing is copied but its
+/// Returns the command that the octets spell, of types 49 to 60, read in place: nothing is copied but its
 /// numbers.
 ///
 /// # Errors

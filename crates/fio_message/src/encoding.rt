@@ -3,16 +3,16 @@
 ghost use Rattle.std.specs.Prelude.{◌≡◌, ◌≤◌, ◌+◌, ◌*◌, ◌++◌, length};
 ghost use Rattle.std.specs.Int.{w32, to_be_bytes};
 ghost use Rattle.std.specs.List.{AllByRecursion, flat_map};
-ghost use Rattle.fio_message.specs.Octets.{IsOctets, IsItem, IsEntry, item_octets, entry_octets};
+ghost use Rattle.fio_message.specs.Octets.{IsOctets};
 ghost use Rattle.fio_message.specs.Commands.{IsCommand, SpellsCommand, command_fields};
 ghost use Rattle.fio_message.specs.Answers.{IsAnswer, SpellsAnswer, answer_fields};
 
 use crate::answers::Answer;
 use crate::commands::Command;
-use crate::fields::{Entry, InputItem};
 use crate::frames::Frame;
 use crate::layouts::{before_entries, flags_and_counts, inputs_and_stamp, status_and_stamp};
 use crate::limits::FRAME_OCTETS;
+use crate::parts::Part;
 use byteorder::{BigEndian, ByteOrder};
 
 /// Appends octets, for which there is room.
@@ -37,66 +37,22 @@ fn append_u32(frame: &mut Frame, number: u32)
     append(frame, &octets);
 }
 
-/// Appends all items, three octets each.
+/// Appends all parts, three octets each.
 // They are put together first, and then appended at once: an append of each would store the frame's length each time.
 #[inline(never)]
-fn append_items(frame: &mut Frame, items: &[InputItem])
-    requires { length frame.old.items + 3 * length items.now ≤ FRAME_OCTETS }
-    ensures appended { frame.new.items ≡ frame.old.items ++ flat_map item_octets items.now }
-    ensures within { AllByRecursion IsItem items.now }
-    ensures len { length frame.new.items ≡ length frame.old.items + 3 * length items.now }
+fn append_parts<T: Part>(frame: &mut Frame, parts: &[T])
+    requires { length frame.old.items + 3 * length parts.now ≤ FRAME_OCTETS }
+    ensures appended { frame.new.items ≡ frame.old.items ++ flat_map T.part_octets parts.now }
+    ensures within { AllByRecursion T.IsPart parts.now }
+    ensures len { length frame.new.items ≡ length frame.old.items + 3 * length parts.now }
 {
     let mut octets = [0; FRAME_OCTETS];
     let mut count = 0;
-    for item in items {
-        // Field by field: of a copy of it, each octet would be shifted out.
-        let InputItem {
-            input,
-            ignore,
-            leading,
-            trailing,
-        } = *item;
-        let part = InputItem {
-            input,
-            ignore,
-            leading,
-            trailing,
-        }
-        .octets();
-        octets[count] = part[0];
-        octets[count + 1] = part[1];
-        octets[count + 2] = part[2];
-        count += 3;
-    }
-    append(frame, &octets[..count]);
-}
-
-/// Appends all entries, three octets each.
-// As `append_items` does.
-#[inline(never)]
-fn append_entries(frame: &mut Frame, entries: &[Entry])
-    requires { length frame.old.items + 3 * length entries.now ≤ FRAME_OCTETS }
-    ensures appended { frame.new.items ≡ frame.old.items ++ flat_map entry_octets entries.now }
-    ensures within { AllByRecursion IsEntry entries.now }
-    ensures len { length frame.new.items ≡ length frame.old.items + 3 * length entries.now }
-{
-    let mut octets = [0; FRAME_OCTETS];
-    let mut count = 0;
-    for entry in entries {
-        let Entry {
-            input,
-            level,
-            stamp,
-        } = *entry;
-        let part = Entry {
-            input,
-            level,
-            stamp,
-        }
-        .octets();
-        octets[count] = part[0];
-        octets[count + 1] = part[1];
-        octets[count + 2] = part[2];
+    for part in parts {
+        let three = part.to_octets();
+        octets[count] = three[0];
+        octets[count + 1] = three[1];
+        octets[count + 2] = three[2];
         count += 3;
     }
     append(frame, &octets[..count]);
@@ -114,7 +70,7 @@ fn append_command_fields(frame: &mut Frame, command: &Command)
         Command::LoadCounter { load } => append_u32(frame, *load),
         Command::ConfigureInputs { items } => {
             frame.push(items.len() as u8);
-            append_items(frame, items);
+            append_parts(frame, items);
         }
         Command::RawInputs | Command::FilteredInputs | Command::Identify => {}
         Command::Poll { block } => frame.push(*block),
@@ -183,7 +139,7 @@ fn append_answer_fields(frame: &mut Frame, answer: &Answer)
             stamp,
         } => {
             append(frame, &before_entries(*block, entries.len() as u8)[1..]);
-            append_entries(frame, entries);
+            append_parts(frame, entries);
             append(frame, &status_and_stamp(*status, *stamp));
         }
         Answer::Other { body, .. } => append(frame, body),

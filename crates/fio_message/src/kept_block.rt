@@ -14,13 +14,13 @@ use crate::status::BlockStatus;
 #[repr(C)]
 pub struct KeptBlock {
     octets: [u8; FRAME_OCTETS],
-    /// It makes `length` aligned.
+    /// Padding: `length` is aligned.
     reserved: u8,
     length: u16,
 }
 
 impl KeptBlock {
-    /// No block.
+    /// Returns no block.
     pub fn new() -> KeptBlock
         ensures none { kept_octets result ≡ [] }
         ensures cleared { result ≡ no_block }
@@ -32,7 +32,7 @@ impl KeptBlock {
         }
     }
 
-    /// Its octets, none where there is no block.
+    /// Returns its octets, none if there is no block.
     pub fn as_slice(&self) -> &[u8]
         ensures { result.now ≡ kept_octets self.now }
     {
@@ -90,7 +90,7 @@ impl KeptBlock {
         self.length = to as u16;
     }
 
-    /// The number of the block, `None` where there is no block.
+    /// Returns the number of the block, `None` where there is no block.
     pub fn number(&self) -> Option<u8>
         ensures block { (block : Block)
             → SpellsBlock block (kept_octets self.now) → result ≡ Some block.number }
@@ -134,7 +134,7 @@ impl Default for KeptBlock {
     }
 }
 
-/// The first entries, no more than `most`, in two parts.
+/// Returns the first entries, no more than `most`, in two parts.
 fn front<'a>(
     first: &'a [EntryOctets],
     second: &'a [EntryOctets],

@@ -9,7 +9,7 @@ use crate::inputs::inputs_to_octets;
 use crate::types::{BLOCK_ANSWER, CONFIGURE_INPUTS};
 use byteorder::{BigEndian, ByteOrder};
 
-/// What is before the items of a configuration: its type, and how many items follow.
+/// Returns what is before the items of a configuration: its type, and how many items follow.
 #[inline]
 pub fn before_items(count: u8) -> [u8; 2]
     ensures { result ≡ CONFIGURE_INPUTS ∷ count ∷ [] }
@@ -17,7 +17,7 @@ pub fn before_items(count: u8) -> [u8; 2]
     [CONFIGURE_INPUTS, count]
 }
 
-/// What is before the entries of a block answer: its type, its number, and how many entries follow.
+/// Returns what is before the entries of a block answer: its type, its number, and how many entries follow.
 #[inline]
 pub fn before_entries(number: u8, count: u8) -> [u8; 3]
     ensures { result ≡ BLOCK_ANSWER ∷ number ∷ count ∷ [] }
@@ -25,7 +25,7 @@ pub fn before_entries(number: u8, count: u8) -> [u8; 3]
     [BLOCK_ANSWER, number, count]
 }
 
-/// A status and a stamp, most significant octet first: what is behind the entries of a block answer.
+/// Returns a status and a stamp, most significant octet first: what is behind the entries of a block answer.
 #[inline]
 pub fn status_and_stamp(status: u8, stamp: u32) -> [u8; 5]
     ensures { result ≡ status ∷ to_be_bytes w32 stamp }
@@ -35,7 +35,7 @@ pub fn status_and_stamp(status: u8, stamp: u32) -> [u8; 5]
     octets
 }
 
-/// The flags, the error counts and the stamp, most significant octet first: what is behind the type of an
+/// Returns the flags, the error counts and the stamp, most significant octet first: what is behind the type of an
 /// answer 177.
 #[inline]
 pub fn flags_and_counts(flags: u8, receive_errors: u8, transmit_errors: u8, stamp: u32) -> [u8; 7]
@@ -46,7 +46,7 @@ pub fn flags_and_counts(flags: u8, receive_errors: u8, transmit_errors: u8, stam
     octets
 }
 
-/// The levels of the inputs and the stamp, most significant octet first: what is behind the type of an answer
+/// Returns the levels of the inputs and the stamp, most significant octet first: what is behind the type of an answer
 /// 180 or 181.
 #[inline]
 pub fn inputs_and_stamp(inputs: u64, stamp: u32) -> [u8; 12]

@@ -46,7 +46,7 @@ impl Model for BlockStatus {
 impl BlockStatus {
     ghost use Rattle.fio_message.specs.Status.{says_more, says_lost, says_again, says_out_of_sequence, block_status, again_status};
 
-    /// The status with these named bits, and no other.
+    /// Returns the status with these named bits, and no other.
     #[inline]
     pub fn new(more: bool, lost: bool, again: bool, out_of_sequence: bool) -> BlockStatus
         ensures { result ≡ block_status more lost again out_of_sequence }
@@ -59,7 +59,7 @@ impl BlockStatus {
         }
     }
 
-    /// The status that an octet is.
+    /// Returns the status that an octet is.
     #[inline]
     pub fn from_octet(octet: u8) -> BlockStatus
         ensures { result ≡ octet }
@@ -67,7 +67,7 @@ impl BlockStatus {
         BlockStatus { octet }
     }
 
-    /// Its octet.
+    /// Returns its octet.
     #[inline]
     pub fn octet(self) -> u8
         ensures { result ≡ self }
@@ -75,7 +75,7 @@ impl BlockStatus {
         self.octet
     }
 
-    /// Whether C is set: more entries waited than the block takes.
+    /// Returns whether C is set: more entries waited than the block takes.
     #[inline]
     pub fn more(self) -> bool
         ensures { result ≡ says_more self }
@@ -83,7 +83,7 @@ impl BlockStatus {
         is_set(self.octet, MORE)
     }
 
-    /// Whether F is set: entries that waited directly before the block were pushed out.
+    /// Returns whether F is set: entries that waited directly before the block were pushed out.
     #[inline]
     pub fn lost(self) -> bool
         ensures { result ≡ says_lost self }
@@ -91,7 +91,7 @@ impl BlockStatus {
         is_set(self.octet, LOST)
     }
 
-    /// Whether E is set: the same block number was asked for again.
+    /// Returns whether E is set: the same block number was asked for again.
     #[inline]
     pub fn again(self) -> bool
         ensures { result ≡ says_again self }
@@ -99,7 +99,7 @@ impl BlockStatus {
         is_set(self.octet, AGAIN)
     }
 
-    /// Whether G is set: the number is out of sequence.
+    /// Returns whether G is set: the number is out of sequence.
     #[inline]
     pub fn out_of_sequence(self) -> bool
         ensures { result ≡ says_out_of_sequence self }
@@ -107,7 +107,7 @@ impl BlockStatus {
         is_set(self.octet, OUT_OF_SEQUENCE)
     }
 
-    /// The status of the same block where it is sent again: E is set, G is clear, and the other bits
+    /// Returns the status of the same block where it is sent again: E is set, G is clear, and the other bits
     /// are as they were.
     pub(crate) fn sent_again(self) -> BlockStatus
         ensures { result ≡ again_status self }
@@ -118,7 +118,7 @@ impl BlockStatus {
     }
 }
 
-/// Whether S is set in the status of the answer to a load or a configuration: an error.
+/// Returns whether S is set in the status of the answer to a load or a configuration: an error.
 #[inline]
 pub fn says_error(status: u8) -> bool
     ensures { result ≡ says_error status }
@@ -126,7 +126,7 @@ pub fn says_error(status: u8) -> bool
     is_set(status, ERROR)
 }
 
-/// The status of such an answer with S as it is given, and no other bit.
+/// Returns the status of such an answer with S as it is given, and no other bit.
 #[inline]
 pub fn error_status(error: bool) -> u8
     ensures { result ≡ error_status error }
@@ -134,7 +134,7 @@ pub fn error_status(error: bool) -> u8
     (1 << ERROR) * u8::from(error)
 }
 
-/// Whether Y is set in the status of the answer to a watchdog: it had been set before.
+/// Returns whether Y is set in the status of the answer to a watchdog: it had been set before.
 #[inline]
 pub fn says_set_before(status: u8) -> bool
     ensures { result ≡ says_set_before status }
@@ -142,7 +142,7 @@ pub fn says_set_before(status: u8) -> bool
     is_set(status, SET_BEFORE)
 }
 
-/// The status of such an answer with Y as it is given, and no other bit.
+/// Returns the status of such an answer with Y as it is given, and no other bit.
 #[inline]
 pub fn set_before_status(before: bool) -> u8
     ensures { result ≡ set_before_status before }
@@ -150,7 +150,7 @@ pub fn set_before_status(before: bool) -> u8
     (1 << SET_BEFORE) * u8::from(before)
 }
 
-/// Whether the bit at this place of an octet is set.
+/// Returns whether the bit at this place of an octet is set.
 #[tactic(auto, using(crate::proofs::Bits::is_set_read))]
 #[inline]
 fn is_set(octet: u8, place: u32) -> bool

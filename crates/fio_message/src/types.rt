@@ -37,7 +37,7 @@ pub const CONTROLLER_ID: u8 = 59;
 /// Asks which module it is.
 pub const IDENTIFY: u8 = 60;
 
-/// What the type of an answer is above that of its command.
+/// An answer's type is its command's plus this.
 pub const ANSWER: u8 = 128;
 
 /// The flags and the error counts.

@@ -1,14 +1,5 @@
 -- Blocks follow one another through the transition log.
-use Rattle.std.proofs.Common.{◌≡◌, ℕ, ◌+◌, ◌-◌, ◌<◌, ◌≤◌, min, max, Bool, true, false, List, [], ◌∷◌, ◌++◌, length, take, drop, refl, ap, sym, ◌∙◌, arith, length-append, if◌then◌else◌}
-use Rattle.std.specs.Prelude.{nat_lt}
-use Rattle.std.proofs.lemmas.List.{take-append-le, drop-append-le, length-drop}
-use Rattle.std.proofs.lemmas.Bool.Decides.{nat_tests}
-use Rattle.fio_message.specs.declared.commands.Command.TheVariants.{Poll}
-use Rattle.fio_module.specs.Settings.{Settings}
-use Rattle.fio_module.specs.Life.{Life, Scanned, Commanded}
-use Rattle.fio_module.specs.Log.{Transition, log_of, transitions_below}
-use Rattle.fio_module.specs.Blocks.{MadeBlock, latest_poll, is_new, blocks_of, newest_end, next_block, last_end, end_of_blocks, start_after, count_from}
-use Rattle.fio_module.specs.Laws.{BlocksEndWithin, IsPartOf, FollowOneAnother, BlocksFollow, LossesLeaveMore}
+use Rattle.fio_module.proofs.Names.{◌≡◌, ℕ, ◌+◌, ◌-◌, ◌<◌, ◌≤◌, min, max, Bool, true, false, List, [], ◌∷◌, ◌++◌, length, take, drop, refl, ap, sym, ◌∙◌, arith, length-append, if◌then◌else◌, nat_lt, take-append-le, drop-append-le, length-drop, nat_tests, Poll, Settings, Life, Scanned, Commanded, Transition, log_of, transitions_below, MadeBlock, newest_poll, is_new, blocks_of, newest_end, next_block, last_end, end_of_blocks, start_after, count_from, BlocksEndWithin, IsPartOf, FollowOneAnother, BlocksFollow, LossesLeaveMore}
 use Rattle.fio_module.proofs.Ends.{last_end-append, end-within}
 
 end_within-if : (new : Bool) (len : ℕ) (blocks : List MadeBlock) (block : MadeBlock)
@@ -21,7 +12,7 @@ pub blocks_end_within : BlocksEndWithin
 blocks_end_within settings [] = omega arith
 blocks_end_within settings (Commanded (Poll number) ∷ life) =
     let before = blocks_end_within settings life in
-    end_within-if (is_new (latest_poll life) number) (length (log_of life)) (blocks_of settings life)
+    end_within-if (is_new (newest_poll life) number) (length (log_of life)) (blocks_of settings life)
     (next_block settings life) before
     (end-within (newest_end settings life) (length (log_of life)) settings.waiting settings.per_block before)
 blocks_end_within settings (Scanned raw ∷ life) =
@@ -90,7 +81,7 @@ next_is_part settings life =
 pub blocks_follow : BlocksFollow
 blocks_follow settings [] = tt
 blocks_follow settings (Commanded (Poll number) ∷ life) =
-    follow-if (is_new (latest_poll life) number) (log_of life) settings.per_block (blocks_of settings life)
+    follow-if (is_new (newest_poll life) number) (log_of life) settings.per_block (blocks_of settings life)
     (next_block settings life) (blocks_follow settings life) refl (next_is_part settings life)
 blocks_follow settings (Scanned raw ∷ life) =
     follow-longer (log_of life) (transitions_below 64 raw life) settings.per_block 0 (blocks_of settings life)

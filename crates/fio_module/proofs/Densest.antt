@@ -1,15 +1,7 @@
 -- The densest traffic of 64 open inputs with filters of f: each changes with each f-th sample.
-use Rattle.std.proofs.Common.{◌≡◌, ℕ, zero, suc, ◌+◌, ◌-◌, ◌/◌, ◌%◌, ◌^◌, ◌==◌, ◌≤◌, Bool, true, false, List, [], ◌∷◌, ◌++◌, length, Option, Some, None, refl, arith, if◌then◌else◌}
+use Rattle.fio_module.proofs.Names.{◌≡◌, ℕ, zero, suc, ◌+◌, ◌-◌, ◌/◌, ◌%◌, ◌^◌, ◌==◌, ◌≤◌, Bool, true, false, List, [], ◌∷◌, ◌++◌, length, Option, Some, None, refl, arith, if◌then◌else◌, ConfigureInputs, is_set, last_item_of, setting_by, scans_in, open_inputs, sum_below, HasFiltersOf, OpenHaveFiltersOf, NoneIsApplied, standard_settings, Life, Scanned, Commanded, filter_events, log_of, transitions_below, newest_end, waiting_of}
 use Rattle.std.specs.Option.{option_or}
 use Rattle.fio_message.specs.declared.fields.InputItem.{InputItem}
-use Rattle.fio_message.specs.declared.commands.Command.TheVariants.{ConfigureInputs}
-use Rattle.fio_message.specs.Bits.{is_set}
-use Rattle.fio_input.specs.FilterHistory.{last_item_of, setting_by}
-use Rattle.fio_input.specs.Delivery.{scans_in, open_inputs, sum_below, HasFiltersOf, OpenHaveFiltersOf, NoneIsApplied}
-use Rattle.fio_module.specs.Settings.{standard_settings}
-use Rattle.fio_module.specs.Life.{Life, Scanned, Commanded, filter_events}
-use Rattle.fio_module.specs.Log.{log_of, transitions_below}
-use Rattle.fio_module.specs.Blocks.{newest_end, waiting_of}
 use Rattle.fio_module.specs.Sharpness.{StandardOutageIsTooLong}
 
 -- the inputs below a number, open, with both filters f

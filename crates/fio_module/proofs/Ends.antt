@@ -1,8 +1,5 @@
 -- Where blocks begin and end.
-use Rattle.std.proofs.Common.{◌≡◌, ℕ, ◌+◌, ◌-◌, ◌≤◌, false, List, [], ◌∷◌, ◌++◌, min, max, refl, arith}
-use Rattle.std.specs.Prelude.{nat_lt}
-use Rattle.std.proofs.lemmas.Bool.Decides.{nat_tests}
-use Rattle.fio_module.specs.Blocks.{MadeBlock, last_end}
+use Rattle.fio_module.proofs.Names.{◌≡◌, ℕ, ◌+◌, ◌-◌, ◌≤◌, false, List, [], ◌∷◌, ◌++◌, min, max, refl, arith, nat_lt, nat_tests, MadeBlock, last_end}
 
 -- the last of some blocks and one more is that one
 pub last_end-append : (place : ℕ) (blocks : List MadeBlock) (block : MadeBlock)

@@ -1,16 +1,5 @@
 -- How many entries wait at most, and how late they are, with blocks and filters counted whole.
-use Rattle.std.proofs.Common.{◌≡◌, ℕ, ◌+◌, ◌-◌, ◌*◌, ◌/◌, ◌<◌, ◌≤◌, [], ◌∷◌, ◌++◌, length, Some, slice_get, refl, ap, subst, ◌∙◌, arith, inl, inr, append_assoc, length-drop}
-use Rattle.std.proofs.Math.Nat.{mul-le-mul_left, div-mul-le_self, le-div_iff_mul-le, div-lt_iff_lt-mul}
-use Rattle.std.proofs.lemmas.Bool.{cases_lt}
-use Rattle.fio_message.specs.declared.commands.Command.TheVariants.{ConfigureInputs}
-use Rattle.fio_input.specs.Delivery.{scans_in, FewStayOpen}
-use Rattle.fio_input.proofs.FewStayOpen.{reports_are_few}
-use Rattle.fio_module.specs.Settings.{Settings, AreInRange}
-use Rattle.fio_module.specs.Life.{Life, Occurrence, Scanned, Commanded, scans_of, filter_events}
-use Rattle.fio_module.specs.Log.{Transition, log_of}
-use Rattle.fio_module.specs.Blocks.{newest_end, waiting_from, waiting_of}
-use Rattle.fio_module.specs.Delivery.{AtEachTime}
-use Rattle.fio_module.specs.KeepingUp.{scans_behind, IsKeptUp, KeepsUp}
+use Rattle.fio_module.proofs.Names.{◌≡◌, ℕ, ◌+◌, ◌-◌, ◌*◌, ◌/◌, ◌<◌, ◌≤◌, [], ◌∷◌, ◌++◌, length, Some, slice_get, refl, ap, subst, ◌∙◌, arith, inl, inr, append_assoc, length-drop, mul-le-mul_left, div-mul-le_self, le-div_iff_mul-le, div-lt_iff_lt-mul, cases_lt, ConfigureInputs, scans_in, FewStayOpen, reports_are_few, Settings, AreInRange, Life, Occurrence, Scanned, Commanded, scans_of, filter_events, Transition, log_of, newest_end, waiting_from, waiting_of, AtEachTime, scans_behind, IsKeptUp, KeepsUp}
 use Rattle.fio_module.specs.ExactBounds.{KeepsUpExactly, KeptUpKeepsUpExactly}
 use Rattle.fio_module.proofs.BlockLaws.{blocks_end_within}
 use Rattle.fio_module.proofs.Losses.{holds_now}

@@ -1,15 +1,7 @@
 -- Each new block takes all that waits, where the filters of the open inputs let no more come than it takes.
-use Rattle.std.proofs.Common.{◌≡◌, ℕ, ◌+◌, ◌≤◌, Bool, true, false, [], ◌∷◌, ◌++◌, length, refl, ap, sym, ◌∙◌, subst, arith, inl, inr, append_assoc, length-drop}
-use Rattle.std.proofs.lemmas.Bool.{cases_lt}
-use Rattle.fio_message.specs.declared.commands.Command.TheVariants.{Poll, ConfigureInputs}
-use Rattle.fio_input.specs.Delivery.{scans_in, NoneIsApplied}
+use Rattle.fio_module.proofs.Names.{◌≡◌, ℕ, ◌+◌, ◌≤◌, Bool, true, false, [], ◌∷◌, ◌++◌, length, refl, ap, sym, ◌∙◌, subst, arith, inl, inr, append_assoc, length-drop, cases_lt, Poll, ConfigureInputs, scans_in, NoneIsApplied, Settings, AreInRange, Life, Occurrence, Scanned, Commanded, filter_events, log_of, newest_poll, is_new, blocks_of, next_block, newest_end, start_after, count_from, waiting_from, AtEachTime, FewBeyond, scans_since_block}
 use Rattle.fio_input.specs.FiltersThatDiffer.{most_reports}
 use Rattle.fio_input.proofs.FiltersThatDiffer.{reports_are_few_of_each, most_reports-more, most_reports-carried}
-use Rattle.fio_module.specs.Settings.{Settings, AreInRange}
-use Rattle.fio_module.specs.Life.{Life, Occurrence, Scanned, Commanded, filter_events}
-use Rattle.fio_module.specs.Log.{log_of}
-use Rattle.fio_module.specs.Blocks.{latest_poll, is_new, blocks_of, next_block, newest_end, start_after, count_from, waiting_from}
-use Rattle.fio_module.specs.Delivery.{AtEachTime, FewBeyond, scans_since_block}
 use Rattle.fio_module.specs.FiltersThatDiffer.{WaitsForOneBlock, PolledForEachLosesNone}
 use Rattle.fio_module.proofs.Ends.{last_end-append}
 use Rattle.fio_module.proofs.BlockLaws.{blocks_end_within}
@@ -68,7 +60,7 @@ module _ (settings : Settings) (range : AreInRange settings) (scans : ℕ) (life
         scanned = counts t.since t.scanned;
       }
 
-  taken-poll : (later : Life) (number : ℕ) (new : Bool) → is_new (latest_poll (later ++ life)) number ≡ new
+  taken-poll : (later : Life) (number : ℕ) (new : Bool) → is_new (newest_poll (later ++ life)) number ≡ new
       → length (log_of (later ++ life)) ≤ newest_end settings (later ++ life) + settings.per_block
       → IsTaken later → IsTaken (Commanded (Poll number) ∷ later)
   taken-poll later number false is few t =
@@ -99,7 +91,7 @@ module _ (settings : Settings) (range : AreInRange settings) (scans : ℕ) (life
       taken-other later (Scanned raw) refl (λ since same. ap (λ n. n + 1) same) (taken later ends none.1 often.1)
   taken (Commanded (Poll number) ∷ later) ends none often =
       let t = taken later ends none often.1 in
-      taken-poll later number (is_new (latest_poll (later ++ life)) number) refl
+      taken-poll later number (is_new (newest_poll (later ++ life)) number) refl
       (few_stand later none (holds_now IsOften later often.1) t) t
   taken (Commanded (ConfigureInputs items) ∷ later) ends none often =
       taken-other later (Commanded (ConfigureInputs items)) refl (λ since same. same) (taken later ends none.1 often.1)

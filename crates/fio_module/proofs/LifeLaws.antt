@@ -1,10 +1,8 @@
 -- The transition log of the present life ends that of all lives.
-use Rattle.std.proofs.Common.{◌≡◌, [], ◌∷◌, ◌++◌, Option, Some, None, refl, ap, sym, ◌∙◌, append_assoc, append-nil}
+use Rattle.fio_module.proofs.Names.{◌≡◌, [], ◌∷◌, ◌++◌, Option, Some, None, refl, ap, sym, ◌∙◌, append_assoc, append-nil, Received, Restart, Life, life_after_command, life_of, log_of, whole_log, transitions_below, LifeEndsLog}
 use Rattle.fio_message.specs.declared.commands.Command.{Command}
 use Rattle.fio_message.specs.Decoding.{command_in}
-use Rattle.fio_module.specs.Life.{Scan, Received, Restart, Life, life_after_command, life_of}
-use Rattle.fio_module.specs.Log.{log_of, whole_log, transitions_below}
-use Rattle.fio_module.specs.Laws.{LifeEndsLog}
+use Rattle.fio_module.specs.Life.{Scan}
 
 -- a command adds nothing to the transition log
 pub log_of-with_command : (command : Option Command) (life : Life) → log_of (life_after_command command life) ≡ log_of life

@@ -1,36 +1,65 @@
 -- What is in parts of a list, and what holds of it.
-use Rattle.std.proofs.Common.{◌≡◌, ℕ, zero, suc, ◌+◌, ◌-◌, ◌<◌, ◌≤◌, List, [], ◌∷◌, ◌++◌, length, drop, Some, slice_get, refl, ap, ◌∙◌, arith}
-use Rattle.std.specs.List.{AllByRecursion}
+use Rattle.fio_module.proofs.Names.{◌≡◌, ℕ, zero, suc, ◌+◌, ◌-◌, ◌<◌, ◌≤◌, Bool, true, false, List, [], ◌∷◌, ◌++◌, length, take, drop, if◌then◌else◌, Some, slice_get, refl, ap, sym, ◌∙◌, arith, AllByRecursion, slice_get_within}
+use Rattle.circular_buffer.proofs.Places.{slice_get-append_left, slice_get-append_right, slice_get-last}
 
--- what holds of each element of two lists holds of each
-pub each-front : {A : Type 0} (P : A → Type 0) (xs ys : List A) → AllByRecursion P (xs ++ ys) → AllByRecursion P xs
-each-front P [] ys all = tt
-each-front P (x ∷ xs) ys all = (all.0, each-front P xs ys all.1)
+module _ {A : Type 0} (P : A → Type 0) where
+  -- what holds of each element of two lists holds of each of both
+  pub each-append : (xs ys : List A) → AllByRecursion P xs → AllByRecursion P ys → AllByRecursion P (xs ++ ys)
+  each-append [] ys front back = back
+  each-append (x ∷ xs) ys front back = (front.0, each-append xs ys front.1 back)
 
-pub each-back : {A : Type 0} (P : A → Type 0) (xs ys : List A) → AllByRecursion P (xs ++ ys) → AllByRecursion P ys
-each-back P [] ys all = all
-each-back P (x ∷ xs) ys all = each-back P xs ys all.1
+  -- and of one more element, or none
+  pub each-push : (xs : List A) (x : A) → AllByRecursion P xs → P x → AllByRecursion P (xs ++ x ∷ [])
+  each-push xs x all one = each-append xs (x ∷ []) all (one, tt)
 
--- what is in one of two lists
-pub get_in_front : {A : Type 0} (xs ys : List A) (k : ℕ) (x : A) → k < length xs → slice_get (xs ++ ys) k ≡ Some x
-    → slice_get xs k ≡ Some x
-get_in_front [] ys k x low is = absurd (omega arith)
-get_in_front (z ∷ xs) ys zero x low is = is
-get_in_front (z ∷ xs) ys (suc k) x low is = get_in_front xs ys k x (omega arith) is
+  pub each-push_if : (more : Bool) (xs : List A) (x : A) → AllByRecursion P xs → P x
+      → AllByRecursion P (if more then xs ++ x ∷ [] else xs)
+  each-push_if true xs x all one = each-push xs x all one
+  each-push_if false xs x all one = all
 
-pub get_in_back : {A : Type 0} (xs ys : List A) (k : ℕ) (x : A) → length xs ≤ k → slice_get (xs ++ ys) k ≡ Some x
-    → slice_get ys (k - length xs) ≡ Some x
-get_in_back [] ys k x high is = let same : k - 0 ≡ k = omega arith in ap (slice_get ys) same ∙ is
-get_in_back (z ∷ xs) ys zero x high is = absurd (omega arith)
-get_in_back (z ∷ xs) ys (suc k) x high is =
-    let same : suc k - length (z ∷ xs) ≡ k - length xs = omega arith in
-    ap (slice_get ys) same ∙ get_in_back xs ys k x (omega arith) is
+  -- what holds of each element of both holds of each of either
+  pub each-front : (xs ys : List A) → AllByRecursion P (xs ++ ys) → AllByRecursion P xs
+  each-front [] ys all = tt
+  each-front (x ∷ xs) ys all = (all.0, each-front xs ys all.1)
 
--- what holds of what is at each place holds of each
-pub each-from_get : {A : Type 0} (P : A → Type 0) (xs : List A) → ((k : ℕ) (x : A) → slice_get xs k ≡ Some x → P x)
-    → AllByRecursion P xs
-each-from_get P [] at = tt
-each-from_get P (x ∷ xs) at = (at 0 x refl, each-from_get P xs (λ k. at (suc k)))
+  pub each-back : (xs ys : List A) → AllByRecursion P (xs ++ ys) → AllByRecursion P ys
+  each-back [] ys all = all
+  each-back (x ∷ xs) ys all = each-back xs ys all.1
+
+  -- so of the first elements, and of those after them
+  pub each-take : (n : ℕ) (xs : List A) → AllByRecursion P xs → AllByRecursion P (take n xs)
+  each-take zero xs all = tt
+  each-take (suc n) [] all = tt
+  each-take (suc n) (x ∷ xs) all = (all.0, each-take n xs all.1)
+
+  pub each-drop : (n : ℕ) (xs : List A) → AllByRecursion P xs → AllByRecursion P (drop n xs)
+  each-drop zero xs all = all
+  each-drop (suc n) [] all = tt
+  each-drop (suc n) (x ∷ xs) all = each-drop n xs all.1
+
+  -- what holds of what is at each place holds of each
+  pub each-from_get : (xs : List A) → ((k : ℕ) (x : A) → slice_get xs k ≡ Some x → P x) → AllByRecursion P xs
+  each-from_get [] at = tt
+  each-from_get (x ∷ xs) at = (at 0 x refl, each-from_get xs (λ k. at (suc k)))
+
+module _ {A : Type 0} (xs ys : List A) (k : ℕ) (x : A) where
+  -- what is in two lists is in one of them
+  pub get_in_front : k < length xs → slice_get (xs ++ ys) k ≡ Some x → slice_get xs k ≡ Some x
+  get_in_front low is = sym (slice_get-append_left xs ys k low) ∙ is
+
+  pub get_in_back : length xs ≤ k → slice_get (xs ++ ys) k ≡ Some x → slice_get ys (k - length xs) ≡ Some x
+  get_in_back high is = sym (slice_get-append_right xs ys k (k - length xs) (omega arith)) ∙ is
+
+  -- what is in one of them is in both
+  pub get_from_front : slice_get xs k ≡ Some x → slice_get (xs ++ ys) k ≡ Some x
+  get_from_front is = slice_get-append_left xs ys k (slice_get_within xs k x is) ∙ is
+
+  pub get_from_back : slice_get ys k ≡ Some x → slice_get (xs ++ ys) (length xs + k) ≡ Some x
+  get_from_back is = slice_get-append_right xs ys (length xs + k) k refl ∙ is
+
+-- the last element is at the end
+pub get_last : {A : Type 0} (xs : List A) (x : A) → slice_get (xs ++ x ∷ []) (length xs) ≡ Some x
+get_last xs x = slice_get-last xs x (length xs) refl
 
 -- what is left of a list was there before
 pub get_in_drop : {A : Type 0} (n : ℕ) (xs : List A) (k : ℕ) (x : A) → slice_get (drop n xs) k ≡ Some x
@@ -39,20 +68,3 @@ get_in_drop zero xs k x is = let same : 0 + k ≡ k = omega arith in ap (slice_g
 get_in_drop (suc n) [] k x is = absurd (cc is)
 get_in_drop (suc n) (y ∷ xs) k x is =
     let same : suc n + k ≡ suc (n + k) = omega arith in ap (slice_get (y ∷ xs)) same ∙ get_in_drop n xs k x is
-
--- what is in one of two lists is in both, and the last element is at the end
-pub get_from_front : {A : Type 0} (xs ys : List A) (k : ℕ) (x : A) → slice_get xs k ≡ Some x → slice_get (xs ++ ys) k ≡ Some x
-get_from_front [] ys k x is = absurd (cc is)
-get_from_front (z ∷ xs) ys zero x is = is
-get_from_front (z ∷ xs) ys (suc k) x is = get_from_front xs ys k x is
-
-pub get_from_back : {A : Type 0} (xs ys : List A) (k : ℕ) (x : A) → slice_get ys k ≡ Some x
-    → slice_get (xs ++ ys) (length xs + k) ≡ Some x
-get_from_back [] ys k x is = let same : 0 + k ≡ k = omega arith in ap (slice_get ys) same ∙ is
-get_from_back (z ∷ xs) ys k x is =
-    let same : length (z ∷ xs) + k ≡ suc (length xs + k) = omega arith in
-    ap (slice_get (z ∷ (xs ++ ys))) same ∙ get_from_back xs ys k x is
-
-pub get_last : {A : Type 0} (xs : List A) (x : A) → slice_get (xs ++ x ∷ []) (length xs) ≡ Some x
-get_last [] x = refl
-get_last (y ∷ xs) x = get_last xs x

@@ -1,35 +1,23 @@
 -- The order of the log: its scans and its counters.
-use Rattle.std.proofs.Common.{◌≡◌, ℕ, ◌+◌, ◌-◌, ◌%◌, ◌^◌, ◌≤◌, List, [], ◌∷◌, length, Option, Some, None, slice_get, ap, sym, ◌∙◌, arith, inl, inr, append-nil}
-use Rattle.std.proofs.lemmas.Bool.{cases_lt}
-use Rattle.fio_message.specs.declared.commands.Command.TheVariants.{LoadCounter}
+use Rattle.fio_module.proofs.Names.{Occurrence, ◌≡◌, ℕ, ◌-◌, ◌%◌, ◌^◌, ◌≤◌, List, [], ◌∷◌, length, Option, Some, None, slice_get, ap, sym, ◌∙◌, arith, inl, inr, append-nil, cases_lt, LoadCounter, Life, Scanned, LineSynced, Commanded, counter_events, scans_of, loads_of, Transition, transitions_below, log_of}
 use Rattle.fio_input.specs.Counter.{CounterEvent, asked_number, one_more_if_loaded, counter, ticks_in, loads_in}
 use Rattle.fio_input.proofs.Ticks.{counter-append}
-use Rattle.fio_module.specs.Life.{Life, Scanned, LineSynced, Commanded, counter_events, scans_of, loads_of}
-use Rattle.fio_module.specs.Log.{Transition, transitions_below, log_of}
 use Rattle.fio_module.specs.Alternation.{LogIsInOrder}
 use Rattle.fio_module.proofs.ListParts.{get_in_front, get_in_back}
-use Rattle.fio_module.proofs.Alternation.{of_scan}
-
--- the scans of a transition of a scan
-scans_now : (raw : ℕ) (life : Life) (k : ℕ) (transition : Transition)
-    → slice_get (transitions_below 64 raw life) k ≡ Some transition → transition.scans ≡ scans_of life + 1
-scans_now raw life k transition is = ap (λ (t : Transition). t.scans) (of_scan 64 raw life k transition is).is
+use Rattle.fio_module.proofs.ScanTransitions.{IsOfScan, scans_now, logged}
 
 -- no transition has more scans than its life
 pub scans_within : (life : Life) (place : ℕ) (transition : Transition)
     → slice_get (log_of life) place ≡ Some transition → transition.scans ≤ scans_of life
-scans_within [] place transition is = absurd (cc is)
-scans_within (Scanned raw ∷ life) place transition is =
-    let log = log_of life in
-    let scanned = transitions_below 64 raw life in
-    elim (cases_lt place (length log)) as (λ _. transition.scans ≤ scans_of (Scanned raw ∷ life)) [
-      | inl before ↦
-          omega (arith, scans_within life place transition (get_in_front log scanned place transition before is))
-      | inr now ↦
-          omega (arith, scans_now raw life (place - length log) transition (get_in_back log scanned place transition now is))
-    ]
-scans_within (Commanded (LoadCounter load) ∷ life) place transition is = scans_within life place transition is
-scans_within (other ∷ life) place transition is = scans_within life place transition is
+scans_within =
+    logged (λ life transition. transition.scans ≤ scans_of life)
+    (λ raw life transition of. let scans = ap (λ (t : Transition). t.scans) of.is in omega arith) still
+  where
+    still : (occurrence : Occurrence) (life : Life) (transition : Transition) → transition.scans ≤ scans_of life
+        → transition.scans ≤ scans_of (occurrence ∷ life)
+    still (Scanned raw) life transition within = omega arith
+    still (Commanded (LoadCounter load)) life transition within = within
+    still other life transition within = within
 
 -- the scans never fall along the log
 pub log_is_in_order : LogIsInOrder
@@ -64,29 +52,23 @@ none_loaded : (asked : Option ℕ) (loads : ℕ) → one_more_if_loaded asked lo
 none_loaded None loads none = none
 none_loaded (Some number) loads none = absurd (omega arith)
 
--- the counter of a transition of a scan
-counter_now : (raw : ℕ) (life : Life) (k : ℕ) (transition : Transition) → loads_of life ≡ 0
-    → slice_get (transitions_below 64 raw life) k ≡ Some transition → transition.counter ≡ transition.scans % 2 ^ 32
-counter_now raw life k transition none is =
-    let o = of_scan 64 raw life k transition is in
-    ap (λ (t : Transition). t.counter) o.is
-    ∙ counted (counter_events (Scanned raw ∷ life)) none
-    ∙ ap (λ scans. scans % 2 ^ 32) (sym (ap (λ (t : Transition). t.scans) o.is))
-
 -- in a life that loaded no counter, counters are scans
+abbrev IsScans : Life → Transition → Type 0
+IsScans life transition = loads_of life ≡ 0 → transition.counter ≡ transition.scans % 2 ^ 32
+
 pub counters_are_scans : (life : Life) (place : ℕ) (transition : Transition) → loads_of life ≡ 0
     → slice_get (log_of life) place ≡ Some transition → transition.counter ≡ transition.scans % 2 ^ 32
-counters_are_scans [] place transition none is = absurd (cc is)
-counters_are_scans (Scanned raw ∷ life) place transition none is =
-    let log = log_of life in
-    let scanned = transitions_below 64 raw life in
-    elim (cases_lt place (length log)) as (λ _. transition.counter ≡ transition.scans % 2 ^ 32) [
-      | inl before ↦
-          counters_are_scans life place transition none (get_in_front log scanned place transition before is)
-      | inr now ↦
-          counter_now raw life (place - length log) transition none (get_in_back log scanned place transition now is)
-    ]
-counters_are_scans (LineSynced ∷ life) place transition none is =
-    counters_are_scans life place transition (none_loaded (asked_number (counter_events life)) (loads_of life) none) is
-counters_are_scans (Commanded (LoadCounter load) ∷ life) place transition none is = counters_are_scans life place transition none is
-counters_are_scans (other ∷ life) place transition none is = counters_are_scans life place transition none is
+counters_are_scans life place transition none is = logged IsScans now still life place transition is none
+  where
+    now : (raw : ℕ) (life : Life) (transition : Transition) → IsOfScan 64 raw life transition → IsScans (Scanned raw ∷ life) transition
+    now raw life transition of none =
+        ap (λ (t : Transition). t.counter) of.is
+        ∙ counted (counter_events (Scanned raw ∷ life)) none
+        ∙ ap (λ scans. scans % 2 ^ 32) (sym (ap (λ (t : Transition). t.scans) of.is))
+
+    still : (occurrence : Occurrence) (life : Life) (transition : Transition) → IsScans life transition
+        → IsScans (occurrence ∷ life) transition
+    still LineSynced life transition before none =
+        before (none_loaded (asked_number (counter_events life)) (loads_of life) none)
+    still (Commanded (LoadCounter load)) life transition before none = before none
+    still other life transition before none = before none

@@ -1,7 +1,5 @@
 -- Where a ring in the caller's memory begins.
-use Rattle.std.proofs.Common.{◌≡◌, ◌<◌, ◌≤◌, ℕ, arith}
-use Rattle.std.proofs.lemmas.Bool.Decides.{nat_tests}
-use Rattle.fio_module.specs.Rings.{first_in}
+use Rattle.fio_module.proofs.Names.{◌≡◌, ◌<◌, ◌≤◌, ℕ, arith, nat_tests, first_in}
 
 pub first_in-at_most : (first room : ℕ) → first_in first room ≤ room
 first_in-at_most first room = grind (arith, nat_tests)

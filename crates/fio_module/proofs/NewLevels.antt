@@ -1,12 +1,6 @@
 -- New levels are logged.
-use Rattle.std.proofs.Common.{◌≡◌, ℕ, zero, suc, ◌+◌, ◌<◌, Bool, true, List, [], ◌∷◌, ◌++◌, length, Some, slice_get, refl, ap, sym, subst, ◌∙◌, arith, inl, inr, append_assoc, append-nil, if◌then◌else◌}
-use Rattle.std.proofs.lemmas.Bool.{cases_lt}
-use Rattle.fio_message.specs.declared.commands.Command.TheVariants.{ConfigureInputs, LoadCounter}
-use Rattle.fio_input.specs.FilterHistory.{FilterEvent, Scan, is_reported, input_state}
-use Rattle.fio_input.specs.Delivery.{scans_in}
+use Rattle.fio_module.proofs.Names.{◌≡◌, ℕ, zero, suc, ◌+◌, ◌<◌, Bool, true, List, [], ◌∷◌, ◌++◌, length, Some, slice_get, refl, ap, sym, subst, ◌∙◌, arith, inl, inr, append_assoc, append-nil, if◌then◌else◌, cases_lt, ConfigureInputs, LoadCounter, FilterEvent, Scan, is_reported, input_state, scans_in, Life, Scanned, Commanded, scans_of, filter_events, Transition, transition_at, transitions_below, log_of}
 use Rattle.fio_input.proofs.NewLevels.{new_levels_are_reported}
-use Rattle.fio_module.specs.Life.{Life, Scanned, Commanded, scans_of, filter_events}
-use Rattle.fio_module.specs.Log.{Transition, transition_at, transitions_below, log_of}
 use Rattle.fio_module.specs.NewLevels.{NewLevelsAreLogged}
 use Rattle.fio_module.proofs.Growth.{filter_events-append}
 use Rattle.fio_module.proofs.Stretches.{log-grown}

@@ -1,16 +1,5 @@
 -- Blocks that keep up with the scans leave few entries, and young ones.
-use Rattle.std.proofs.Common.{◌≡◌, ℕ, zero, suc, ◌+◌, ◌-◌, ◌*◌, ◌≤◌, Bool, true, false, [], ◌∷◌, ◌++◌, length, Some, slice_get, refl, ap, sym, subst, ◌∙◌, arith, inl, inr, append_assoc, length-drop}
-use Rattle.std.proofs.Math.Nat.{mul-le-mul_left, mul-le-mul_right, le_of_mul-le-mul_right}
-use Rattle.std.proofs.lemmas.Bool.{cases_lt}
-use Rattle.fio_message.specs.declared.commands.Command.TheVariants.{Poll, ConfigureInputs}
-use Rattle.fio_input.specs.Delivery.{scans_in, all_reports_in, HasFewOpen, FewStayOpen, NoneIsApplied}
-use Rattle.fio_input.proofs.FewStayOpen.{at_each_scan-back, at_each_scan-front, reports_times_filter}
-use Rattle.fio_module.specs.Settings.{Settings, AreInRange}
-use Rattle.fio_module.specs.Life.{Life, Occurrence, Scanned, Commanded, scans_of, filter_events}
-use Rattle.fio_module.specs.Log.{Transition, log_of}
-use Rattle.fio_module.specs.Blocks.{latest_poll, is_new, blocks_of, next_block, newest_end, start_after, count_from, waiting_from, waiting_of}
-use Rattle.fio_module.specs.Delivery.{AtEachTime, FewBeyond}
-use Rattle.fio_module.specs.KeepingUp.{scans_behind, IsYoung, KeepsUp}
+use Rattle.fio_module.proofs.Names.{◌≡◌, ℕ, zero, suc, ◌+◌, ◌-◌, ◌*◌, ◌≤◌, Bool, true, false, [], ◌∷◌, ◌++◌, length, Some, slice_get, refl, ap, sym, subst, ◌∙◌, arith, inl, inr, append_assoc, length-drop, mul-le-mul_left, mul-le-mul_right, le_of_mul-le-mul_right, cases_lt, Poll, ConfigureInputs, scans_in, all_reports_in, HasFewOpen, FewStayOpen, NoneIsApplied, at_each_scan-back, at_each_scan-front, reports_times_filter, Settings, AreInRange, Life, Occurrence, Scanned, Commanded, scans_of, filter_events, Transition, log_of, newest_poll, is_new, blocks_of, next_block, newest_end, start_after, count_from, waiting_from, waiting_of, AtEachTime, FewBeyond, scans_behind, IsYoung, KeepsUp}
 use Rattle.fio_module.proofs.Ends.{last_end-append}
 use Rattle.fio_module.proofs.BlockLaws.{blocks_end_within}
 use Rattle.fio_module.proofs.Losses.{holds_now}
@@ -192,7 +181,7 @@ module _ (settings : Settings) (opened filter scans most : ℕ) (life : Life) (s
       }
 
   -- a new poll, after which nothing waits or a whole block was taken
-  paced-new : (later : Life) (number : ℕ) → is_new (latest_poll (later ++ life)) number ≡ true
+  paced-new : (later : Life) (number : ℕ) → is_new (newest_poll (later ++ life)) number ≡ true
       → FewBeyond settings (later ++ life)
       → IsPaced settings scans life later → IsPaced settings scans life (Commanded (Poll number) ∷ later)
   paced-new later number new few p =
@@ -233,7 +222,7 @@ module _ (settings : Settings) (opened filter scans most : ℕ) (life : Life) (s
       ]
 
   -- a poll, new or not
-  paced-poll : (later : Life) (number : ℕ) (new : Bool) → is_new (latest_poll (later ++ life)) number ≡ new
+  paced-poll : (later : Life) (number : ℕ) (new : Bool) → is_new (newest_poll (later ++ life)) number ≡ new
       → FewBeyond settings (later ++ life)
       → IsPaced settings scans life later → IsPaced settings scans life (Commanded (Poll number) ∷ later)
   paced-poll later number true is few p = paced-new later number is few p
@@ -254,7 +243,7 @@ module _ (settings : Settings) (opened filter scans most : ℕ) (life : Life) (s
   paced (Scanned raw ∷ later) ends stay near = paced-scan later raw (paced later ends stay.1 near.1)
   paced (Commanded (Poll number) ∷ later) ends stay near =
       let p = paced later ends stay near.1 in
-      paced-poll later number (is_new (latest_poll (later ++ life)) number) refl
+      paced-poll later number (is_new (newest_poll (later ++ life)) number) refl
       (few_beyond later (holds_now IsNear later near.1) (bound later stay p)) p
   paced (Commanded (ConfigureInputs items) ∷ later) ends stay near =
       paced-other later (Commanded (ConfigureInputs items)) refl refl (λ since. refl) (paced later ends stay near.1)

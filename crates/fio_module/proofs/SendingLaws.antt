@@ -1,13 +1,5 @@
 -- The latest sending carries the newest block, and the number of the latest poll.
-use Rattle.std.proofs.Common.{◌≡◌, ℕ, Bool, true, false, List, [], ◌∷◌, ◌++◌, Option, Some, None, refl, ap, sym, subst, inl, inr, if◌then◌else◌}
-use Rattle.std.specs.Prelude.{option_map}
-use Rattle.std.proofs.lemmas.Bool.Decides.{eqb_tells}
-use Rattle.fio_message.specs.declared.commands.Command.TheVariants.{Poll}
-use Rattle.fio_module.specs.Settings.{Settings}
-use Rattle.fio_module.specs.Life.{Life, Commanded}
-use Rattle.fio_module.specs.Blocks.{MadeBlock, latest_poll, is_new, blocks_of, next_block}
-use Rattle.fio_module.specs.Sendings.{Sending, latest_sending, first_sending, repeat_of}
-use Rattle.fio_module.specs.Laws.{Carries, SendingsCarry, SendingsAnswerPolls}
+use Rattle.fio_module.proofs.Names.{◌≡◌, ℕ, Bool, true, false, List, [], ◌∷◌, ◌++◌, Option, Some, None, refl, ap, sym, subst, inl, inr, if◌then◌else◌, option_map, eqb_tells, Poll, Settings, Life, Commanded, MadeBlock, newest_poll, is_new, blocks_of, next_block, Sending, latest_sending, first_sending, repeat_of, Carries, SendingsCarry, SendingsAnswerPolls}
 
 carries-if : (new : Bool) (made : List MadeBlock) (block : MadeBlock) (fresh : Sending) (latest : Option Sending) (sending : Sending)
     → Carries fresh block
@@ -35,7 +27,7 @@ carries-if false made block fresh (Some before) sending carried known is =
 pub sendings_carry : SendingsCarry
 sendings_carry settings [] sending is = absurd (cc is)
 sendings_carry settings (Commanded (Poll number) ∷ life) sending is =
-    carries-if (is_new (latest_poll life) number) (blocks_of settings life) (next_block settings life)
+    carries-if (is_new (newest_poll life) number) (blocks_of settings life) (next_block settings life)
     (first_sending settings life number) (latest_sending settings life) sending
     (record { entries = refl; more = refl; lost = refl; stamp = refl })
     (sendings_carry settings life) is
@@ -64,7 +56,7 @@ number-after polled latest fresh number same is = rw same (number-if latest fres
 pub sendings_answer_polls : SendingsAnswerPolls
 sendings_answer_polls settings [] = refl
 sendings_answer_polls settings (Commanded (Poll number) ∷ life) =
-    number-after (latest_poll life) (latest_sending settings life) (first_sending settings life number) number
+    number-after (newest_poll life) (latest_sending settings life) (first_sending settings life number) number
     (sendings_answer_polls settings life) refl
 sendings_answer_polls settings (other ∷ life) = sendings_answer_polls settings life
 
@@ -76,7 +68,7 @@ repeated-if polled None number same repeated =
 repeated-if polled (Some sending) number same repeated = (sending, refl)
 
 -- a poll that is not new has a sending to repeat
-pub repeated_sending : (settings : Settings) (life : Life) (number : ℕ) → is_new (latest_poll life) number ≡ false
+pub repeated_sending : (settings : Settings) (life : Life) (number : ℕ) → is_new (newest_poll life) number ≡ false
     → (sending : Sending) × (latest_sending settings life ≡ Some sending)
 repeated_sending settings life number repeated =
-    repeated-if (latest_poll life) (latest_sending settings life) number (sendings_answer_polls settings life) repeated
+    repeated-if (newest_poll life) (latest_sending settings life) number (sendings_answer_polls settings life) repeated

@@ -1,18 +1,9 @@
 -- What a stretch of a life does, in which blocks are made.
-use Rattle.std.proofs.Common.{◌≡◌, ℕ, zero, suc, ◌+◌, ◌-◌, ◌<◌, ◌≤◌, max, Bool, true, false, List, [], ◌∷◌, ◌++◌, length, take, drop, refl, ap, sym, ◌∙◌, arith, append_assoc, append-nil, length-take}
-use Rattle.std.specs.List.{AllByRecursion, flat_map}
+use Rattle.fio_module.proofs.Names.{◌≡◌, ℕ, zero, suc, ◌+◌, ◌-◌, ◌<◌, ◌≤◌, max, Bool, true, false, List, [], ◌∷◌, ◌++◌, length, take, drop, refl, ap, sym, ◌∙◌, arith, append_assoc, append-nil, length-take, AllByRecursion, flat_map, take-append-le, drop-append-le, Poll, ConfigureInputs, scans_in, Settings, Life, Scanned, Commanded, scans_of, filter_events, Transition, transitions_below, log_of, MadeBlock, newest_poll, is_new, blocks_of, last_end, next_block, newest_end, start_after, count_from, waiting_of, AtEachTime, scans_behind, IsYoung, KeepsUp}
 use Rattle.std.proofs.Math.Seq.{take-add}
-use Rattle.std.proofs.lemmas.List.{take-append-le, drop-append-le}
 use Rattle.std.proofs.lemmas.Grind.{flat_map-append}
-use Rattle.fio_message.specs.declared.commands.Command.TheVariants.{Poll, ConfigureInputs}
-use Rattle.fio_input.specs.Delivery.{scans_in}
-use Rattle.fio_module.specs.Settings.{Settings}
-use Rattle.fio_module.specs.Life.{Life, Scanned, Commanded, scans_of, filter_events}
-use Rattle.fio_module.specs.Log.{Transition, transitions_below, log_of}
-use Rattle.fio_module.specs.Blocks.{MadeBlock, latest_poll, is_new, blocks_of, last_end, next_block, newest_end, start_after, count_from, waiting_of}
-use Rattle.fio_module.specs.Delivery.{AtEachTime}
-use Rattle.fio_module.specs.KeepingUp.{scans_behind, IsYoung, KeepsUp}
 use Rattle.fio_module.proofs.Ends.{last_end-append}
+pub use Rattle.fio_module.proofs.ListParts.{each-push}
 use Rattle.fio_module.proofs.BlockLaws.{blocks_end_within}
 use Rattle.fio_module.proofs.Losses.{holds_now, next_not_lost}
 use Rattle.fio_module.proofs.Outages.{log-later, ends-grow}
@@ -26,26 +17,26 @@ log-grown (occurrence ∷ later) life =
     omega arith
 
 -- what a poll that is new, or not, makes of the blocks and of how far they are behind
-pub blocks_new : (settings : Settings) (life : Life) (number : ℕ) → is_new (latest_poll life) number ≡ true
+pub blocks_new : (settings : Settings) (life : Life) (number : ℕ) → is_new (newest_poll life) number ≡ true
     → blocks_of settings (Commanded (Poll number) ∷ life) ≡ blocks_of settings life ++ next_block settings life ∷ []
 blocks_new settings life number is = rw is refl
 
-pub blocks_old : (settings : Settings) (life : Life) (number : ℕ) → is_new (latest_poll life) number ≡ false
+pub blocks_old : (settings : Settings) (life : Life) (number : ℕ) → is_new (newest_poll life) number ≡ false
     → blocks_of settings (Commanded (Poll number) ∷ life) ≡ blocks_of settings life
 blocks_old settings life number is = rw is refl
 
-end_new : (settings : Settings) (life : Life) (number : ℕ) → is_new (latest_poll life) number ≡ true
+end_new : (settings : Settings) (life : Life) (number : ℕ) → is_new (newest_poll life) number ≡ true
     → let start = start_after settings (log_of life) (newest_end settings life) in
     newest_end settings (Commanded (Poll number) ∷ life) ≡ start + count_from settings (log_of life) start
 end_new settings life number is =
     ap (last_end 0) (blocks_new settings life number is)
     ∙ last_end-append 0 (blocks_of settings life) (next_block settings life)
 
-pub behind_new : (scans : ℕ) (later life : Life) (number : ℕ) → is_new (latest_poll (later ++ life)) number ≡ true
+pub behind_new : (scans : ℕ) (later life : Life) (number : ℕ) → is_new (newest_poll (later ++ life)) number ≡ true
     → scans_behind scans (Commanded (Poll number) ∷ later) life ≡ scans_behind scans later life - scans
 behind_new scans later life number is = rw is refl
 
-behind_old : (scans : ℕ) (later life : Life) (number : ℕ) → is_new (latest_poll (later ++ life)) number ≡ false
+behind_old : (scans : ℕ) (later life : Life) (number : ℕ) → is_new (newest_poll (later ++ life)) number ≡ false
     → scans_behind scans (Commanded (Poll number) ∷ later) life ≡ scans_behind scans later life
 behind_old scans later life number is = rw is refl
 
@@ -57,7 +48,7 @@ module _ (scans : ℕ) (life before : Life) where
   scanned stretch = scans_in (filter_events stretch)
 
   -- a poll puts them no further behind
-  behind_poll : (number : ℕ) (stretch : Life) (new : Bool) → is_new (latest_poll ((stretch ++ before) ++ life)) number ≡ new
+  behind_poll : (number : ℕ) (stretch : Life) (new : Bool) → is_new (newest_poll ((stretch ++ before) ++ life)) number ≡ new
       → behind (Commanded (Poll number) ∷ stretch) ≤ behind stretch
   behind_poll number stretch true is =
       let less = behind_new scans (stretch ++ before) life number is in omega arith
@@ -70,7 +61,7 @@ module _ (scans : ℕ) (life before : Life) where
   behind_more (Scanned raw ∷ stretch) = let rest = behind_more stretch in omega arith
   behind_more (Commanded (Poll number) ∷ stretch) =
       let rest = behind_more stretch in
-      let here = behind_poll number stretch (is_new (latest_poll ((stretch ++ before) ++ life)) number) refl in
+      let here = behind_poll number stretch (is_new (newest_poll ((stretch ++ before) ++ life)) number) refl in
       omega arith
   behind_more (Commanded (ConfigureInputs items) ∷ stretch) = behind_more stretch
   behind_more (other ∷ stretch) = behind_more stretch
@@ -97,7 +88,7 @@ module _ (settings : Settings) (scans : ℕ) (life before : Life) where
   abbrev scanned_in : Life → ℕ
   scanned_in stretch = scans_in (filter_events stretch)
 
-  after_poll : (number : ℕ) (stretch : Life) (new : Bool) → is_new (latest_poll ((stretch ++ before) ++ life)) number ≡ new
+  after_poll : (number : ℕ) (stretch : Life) (new : Bool) → is_new (newest_poll ((stretch ++ before) ++ life)) number ≡ new
       → (length (blocks_of settings (before ++ life)) < count stretch
       → scans_behind scans (stretch ++ before) life ≤ max (scans_behind scans before life + scanned_in stretch - scans) (scanned_in stretch))
       → length (blocks_of settings (before ++ life)) < count (Commanded (Poll number) ∷ stretch)
@@ -120,14 +111,14 @@ module _ (settings : Settings) (scans : ℕ) (life before : Life) where
   after_block [] more = absurd (omega arith)
   after_block (Scanned raw ∷ stretch) more = let rest = after_block stretch more in omega arith
   after_block (Commanded (Poll number) ∷ stretch) more =
-      after_poll number stretch (is_new (latest_poll ((stretch ++ before) ++ life)) number) refl (after_block stretch) more
+      after_poll number stretch (is_new (newest_poll ((stretch ++ before) ++ life)) number) refl (after_block stretch) more
   after_block (Commanded (ConfigureInputs items) ∷ stretch) more = after_block stretch more
   after_block (other ∷ stretch) more = after_block stretch more
 
 -- a stretch in which a block was made takes a whole block, or all that had been logged before it
 module _ (settings : Settings) (life : Life) (bound : ℕ) (logged : bound ≤ length (log_of life))
     (near : bound ≤ newest_end settings life + settings.per_block) where
-  end_after_poll : (number : ℕ) (stretch : Life) (new : Bool) → is_new (latest_poll (stretch ++ life)) number ≡ new
+  end_after_poll : (number : ℕ) (stretch : Life) (new : Bool) → is_new (newest_poll (stretch ++ life)) number ≡ new
       → (length (blocks_of settings life) < length (blocks_of settings (stretch ++ life)) → bound ≤ newest_end settings (stretch ++ life))
       → length (blocks_of settings life) < length (blocks_of settings (Commanded (Poll number) ∷ (stretch ++ life)))
       → bound ≤ newest_end settings (Commanded (Poll number) ∷ (stretch ++ life))
@@ -150,7 +141,7 @@ module _ (settings : Settings) (life : Life) (bound : ℕ) (logged : bound ≤ l
       → bound ≤ newest_end settings (stretch ++ life)
   end_after_block [] more = absurd (omega arith)
   end_after_block (Commanded (Poll number) ∷ stretch) more =
-      end_after_poll number stretch (is_new (latest_poll (stretch ++ life)) number) refl (end_after_block stretch) more
+      end_after_poll number stretch (is_new (newest_poll (stretch ++ life)) number) refl (end_after_block stretch) more
   end_after_block (other ∷ stretch) more = end_after_block stretch more
 
 -- a block before which nothing was lost, and whose transitions are young when it is made
@@ -180,10 +171,6 @@ young-take life behind most filter (suc n) [] le all = tt
 young-take life behind most filter (suc n) (t ∷ ts) le all =
     let here = all.0 in (omega arith, young-take life behind most filter n ts le all.1)
 
-pub each-push : {A : Type 0} (P : A → Type 0) (xs : List A) (x : A) → AllByRecursion P xs → P x → AllByRecursion P (xs ++ x ∷ [])
-each-push P [] x all one = (one, tt)
-each-push P (y ∷ xs) x all one = (all.0, each-push P xs x all.1 one)
-
 module _ (settings : Settings) (opened filter scans most : ℕ) (life : Life) where
   abbrev Keeps : Life → Type 0
   Keeps later = KeepsUp settings opened filter scans life later
@@ -191,7 +178,7 @@ module _ (settings : Settings) (opened filter scans most : ℕ) (life : Life) wh
   abbrev IsNear : Life → Type 0
   IsNear later = scans_behind scans later life ≤ most
 
-  made-poll : (number : ℕ) (later : Life) (new : Bool) → is_new (latest_poll (later ++ life)) number ≡ new
+  made-poll : (number : ℕ) (later : Life) (new : Bool) → is_new (newest_poll (later ++ life)) number ≡ new
       → Keeps later → IsNear later → HasMade settings filter most life later
       → HasMade settings filter most life (Commanded (Poll number) ∷ later)
   made-poll number later false is k near h =
@@ -264,7 +251,7 @@ module _ (settings : Settings) (opened filter scans most : ℕ) (life : Life) wh
         punctual = h.punctual;
       }
   has_made (Commanded (Poll number) ∷ later) keeps near =
-      made-poll number later (is_new (latest_poll (later ++ life)) number) refl (holds_at Keeps later keeps.1)
+      made-poll number later (is_new (newest_poll (later ++ life)) number) refl (holds_at Keeps later keeps.1)
       (holds_at IsNear later near.1) (has_made later keeps.1 near.1)
     where
       holds_at : (P : Life → Type 0) (later : Life) → AtEachTime P later → P later

@@ -1,14 +1,5 @@
 -- What waits gains each new transition, and gives its first to a new poll.
-use Rattle.std.proofs.Common.{◌≡◌, ℕ, suc, inl, inr, ◌+◌, ◌-◌, ◌≤◌, Bool, List, [], ◌∷◌, ◌++◌, length, take, drop, refl, ap, sym, ◌∙◌, arith, append_assoc, append-nil, length-append, if◌then◌else◌}
-use Rattle.std.specs.Prelude.{fold}
-use Rattle.std.proofs.lemmas.List.{take-append-drop, drop-drop, drop-append-le, length-drop}
-use Rattle.std.proofs.lemmas.Bool.Decides.{leb_tells}
-use Rattle.fio_message.specs.declared.commands.Command.TheVariants.{Poll}
-use Rattle.fio_module.specs.Settings.{Settings}
-use Rattle.fio_module.specs.Life.{Scanned, Commanded}
-use Rattle.fio_module.specs.Log.{Transition, log_of, transitions_below}
-use Rattle.fio_module.specs.Blocks.{blocks_of, newest_end, next_block, start_after, count_from}
-use Rattle.fio_module.specs.Laws.{with_waiting, ScansAddWaiting, NewPollsTakeWaiting, OthersLeaveWaiting}
+use Rattle.fio_module.proofs.Names.{◌≡◌, ℕ, suc, inl, inr, ◌+◌, ◌-◌, ◌≤◌, Bool, List, [], ◌∷◌, ◌++◌, length, take, drop, refl, ap, sym, ◌∙◌, arith, append_assoc, append-nil, length-append, if◌then◌else◌, fold, take-append-drop, drop-drop, drop-append-le, length-drop, leb_tells, Poll, Settings, Scanned, Commanded, Transition, log_of, transitions_below, blocks_of, newest_end, next_block, start_after, count_from, with_waiting, ScansAddWaiting, NewPollsTakeWaiting, OthersLeaveWaiting}
 use Rattle.fio_module.proofs.Ends.{last_end-append, end-later}
 use Rattle.fio_module.proofs.BlockLaws.{blocks_end_within}
 

@@ -1,12 +1,7 @@
 -- The set bits of a word, walked from the lowest on.
-use Rattle.std.proofs.Common.{◌≡◌, ℕ, zero, suc, ◌^◌, ◌<◌, ◌≤◌, false, [], ◌∷◌, refl, sym, ◌∙◌, arith, inl, inr}
-use Rattle.std.specs.Int.{w64, trailing_zeros}
-use Rattle.std.proofs.lemmas.Bool.Decides.{eqb_tells}
-use Rattle.fio_message.specs.Bits.{is_set}
-use Rattle.fio_message.specs.Octets.{entry_octets}
+use Rattle.fio_module.proofs.Names.{◌≡◌, ℕ, zero, suc, ◌^◌, ◌<◌, ◌≤◌, false, [], ◌∷◌, refl, sym, ◌∙◌, arith, inl, inr, w64, trailing_zeros, eqb_tells, is_set, entry_octets, entries_below}
 use Rattle.fio_message.proofs.Bits.{is_set-zero}
 use Rattle.fio_input.proofs.LowestBit.{IsLowest, without, lowest_of, less_without}
-use Rattle.fio_module.specs.Waiting.{entries_below}
 
 -- no bit set, no entries
 pub entries_below-clear : (word levels stamp places : ℕ) → ((place : ℕ) → place < places → is_set word place ≡ false)

@@ -1,12 +1,7 @@
 -- Words by their bits.
-use Rattle.std.proofs.Common.{◌≡◌, ℕ, zero, suc, ◌+◌, ◌-◌, ◌*◌, ◌^◌, ◌<◌, ◌≤◌, ◌==◌, Bool, true, false, min, max, if◌then◌else◌, refl, ap, sym, ◌∙◌, arith, bit_and, bit_or, inl, inr}
-use Rattle.std.specs.Int.{bit_at, w8}
+use Rattle.fio_module.proofs.Names.{◌≡◌, ℕ, zero, suc, ◌+◌, ◌-◌, ◌*◌, ◌^◌, ◌<◌, ◌≤◌, ◌==◌, Bool, true, false, min, max, if◌then◌else◌, refl, ap, sym, ◌∙◌, arith, bit_and, bit_or, inl, inr, bit_at, w8, eqb_tells, pow-suc, is_set, bit_of, word_of}
 use Rattle.std.proofs.lemmas.Nat.Bits.{bit_at_and, bit_at_or, bit_at_not, bit_at-lt, bit_at_cat_low, bit_at_cat_high, same_from_bits_below}
-use Rattle.std.proofs.lemmas.Bool.Decides.{eqb_tells}
-use Rattle.std.proofs.Math.Nat.{pow-suc}
 use Rattle.std.proofs.lemmas.Nat.{or_lt, and_le_l}
-use Rattle.fio_message.specs.Bits.{is_set, bit_of}
-use Rattle.fio_module.specs.Flags.{word_of}
 
 bit_of-above : (b : Bool) (place below : ℕ) → below < 2 ^ place → bit_of b * 2 ^ place + below < 2 ^ suc place
 bit_of-above true place below fits = rw (pow-suc 2 place) (omega arith)

@@ -6,10 +6,10 @@ use Rattle.fio_module.specs.Life.{Commanded, Life, counter_of, scans_of, loads_o
 use Rattle.fio_module.specs.Log.{Transition, log_of}
 
 -- the number of the poll received last
-abbrev pub latest_poll : Life → Option ℕ
-latest_poll [] = None
-latest_poll (Commanded (Poll number) ∷ life) = Some number
-latest_poll (other ∷ life) = latest_poll life
+abbrev pub newest_poll : Life → Option ℕ
+newest_poll [] = None
+newest_poll (Commanded (Poll number) ∷ life) = Some number
+newest_poll (other ∷ life) = newest_poll life
 
 -- whether a poll is new after the poll received before it: it is the first, or its number differs
 abbrev pub is_new : Option ℕ → ℕ → Bool
@@ -73,7 +73,7 @@ abbrev pub blocks_of : Settings → Life → List MadeBlock
 blocks_of settings [] = []
 blocks_of settings (Commanded (Poll number) ∷ life) =
     let made = blocks_of settings life in
-    if is_new (latest_poll life) number
+    if is_new (newest_poll life) number
     then made ++ block_after settings life (end_of_blocks made) ∷ []
     else made
 blocks_of settings (other ∷ life) = blocks_of settings life

@@ -5,7 +5,7 @@ use Rattle.fio_message.specs.declared.commands.Command.TheVariants.{Poll}
 use Rattle.fio_module.specs.Settings.{Settings, AreInRange}
 use Rattle.fio_module.specs.Life.{Life, Scanned, Commanded, scans_of}
 use Rattle.fio_module.specs.Log.{Transition}
-use Rattle.fio_module.specs.Blocks.{latest_poll, is_new, waiting_of}
+use Rattle.fio_module.specs.Blocks.{newest_poll, is_new, waiting_of}
 use Rattle.fio_module.specs.Delivery.{AtEachTime, FewBeyond, FewChange}
 use Rattle.fio_message.specs.declared.limits.TheConstants.{INPUTS}
 
@@ -15,7 +15,7 @@ abbrev pub scans_behind : ℕ → Life → Life → ℕ
 scans_behind scans [] life = 0
 scans_behind scans (Scanned raw ∷ later) life = scans_behind scans later life + 1
 scans_behind scans (Commanded (Poll number) ∷ later) life =
-    if is_new (latest_poll (later ++ life)) number
+    if is_new (newest_poll (later ++ life)) number
     then scans_behind scans later life - scans
     else scans_behind scans later life
 scans_behind scans (other ∷ later) life = scans_behind scans later life

@@ -4,7 +4,7 @@ use Rattle.fio_message.specs.declared.commands.Command.TheVariants.{Poll}
 use Rattle.fio_module.specs.Settings.{Settings}
 use Rattle.fio_module.specs.Life.{History, Life, Occurrence, Scanned, Commanded, life_of}
 use Rattle.fio_module.specs.Log.{Transition, entry_of, log_of, whole_log, transitions_below}
-use Rattle.fio_module.specs.Blocks.{MadeBlock, is_new, latest_poll, blocks_of, newest_end, next_block, waiting_of}
+use Rattle.fio_module.specs.Blocks.{MadeBlock, is_new, newest_poll, blocks_of, newest_end, next_block, waiting_of}
 use Rattle.fio_module.specs.Sendings.{Sending, latest_sending}
 use Rattle.fio_message.specs.declared.limits.TheConstants.{INPUTS}
 
@@ -27,14 +27,14 @@ ScansAddWaiting =
 abbrev pub NewPollsTakeWaiting : Type 0
 NewPollsTakeWaiting =
     (settings : Settings) (life : Life) (number : ℕ) →
-    is_new (latest_poll life) number ≡ true →
+    is_new (newest_poll life) number ≡ true →
     waiting_of settings life
     ≡ (next_block settings life).transitions ++ waiting_of settings (Commanded (Poll number) ∷ life)
 
 -- whether something that happens may change which entries wait: a scan and a new poll
 abbrev pub changes_waiting : Life → Occurrence → Bool
 changes_waiting life (Scanned raw) = true
-changes_waiting life (Commanded (Poll number)) = is_new (latest_poll life) number
+changes_waiting life (Commanded (Poll number)) = is_new (newest_poll life) number
 changes_waiting life other = false
 
 -- all else leaves the waiting entries alone
@@ -90,7 +90,7 @@ SendingsCarry =
 abbrev pub SendingsAnswerPolls : Type 0
 SendingsAnswerPolls =
     (settings : Settings) (life : Life) →
-    latest_poll life ≡ option_map (λ sending. sending.number) (latest_sending settings life)
+    newest_poll life ≡ option_map (λ sending. sending.number) (latest_sending settings life)
 
 -- the transition log of the present life ends that of all lives
 abbrev pub LifeEndsLog : Type 0

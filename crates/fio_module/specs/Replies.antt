@@ -11,7 +11,7 @@ use Rattle.fio_message.specs.Decoding.{command_in}
 use Rattle.fio_input.specs.FilterHistory.{all_present, raw_levels, input_state}
 use Rattle.fio_module.specs.Settings.{Settings}
 use Rattle.fio_module.specs.Life.{History, Commanded, Life, life_of, counter_of, filter_events}
-use Rattle.fio_module.specs.Sendings.{answer_of, latest_sending}
+use Rattle.fio_module.specs.Sendings.{answer_of_sending, latest_sending}
 use Rattle.fio_module.specs.Flags.{flags_of, watchdog_of, word_of}
 use Rattle.fio_message.specs.declared.limits.TheConstants.{INPUTS}
 
@@ -31,7 +31,7 @@ answer_to settings life FilteredInputs =
     let inputs = word_of INPUTS (λ input. input_state input (filter_events life)) in
     Some (answers.FilteredInputs inputs (counter_of life))
 answer_to settings life (Poll number) =
-    option_map answer_of (latest_sending settings (Commanded (Poll number) ∷ life))
+    option_map answer_of_sending (latest_sending settings (Commanded (Poll number) ∷ life))
 answer_to settings life (SetOutputs levels controls) = Some (outputs_answer (counter_of life))
 -- Y is set where the watchdog had been set before
 answer_to settings life (Watchdog timeout) =

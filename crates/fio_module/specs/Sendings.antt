@@ -8,7 +8,7 @@ use Rattle.fio_message.specs.Status.{block_status}
 use Rattle.fio_module.specs.Settings.{Settings}
 use Rattle.fio_module.specs.Life.{Commanded, Life}
 use Rattle.fio_module.specs.Log.{entry_of}
-use Rattle.fio_module.specs.Blocks.{MadeBlock, latest_poll, is_new, next_block}
+use Rattle.fio_module.specs.Blocks.{MadeBlock, newest_poll, is_new, next_block}
 
 -- one sending of a block: its number, its entries, C, F, E and G, and its stamp
 pub record Sending : Type 0 where
@@ -21,8 +21,8 @@ pub record Sending : Type 0 where
   pub stamp : ℕ
 
 -- the answer that a sending is
-abbrev pub answer_of : Sending → Answer
-answer_of sending =
+abbrev pub answer_of_sending : Sending → Answer
+answer_of_sending sending =
     answers.Block
     sending.number
     (record { items = sending.entries })
@@ -51,7 +51,7 @@ sending_of block number out_of_sequence =
 -- the next block as it is sent first, for a new poll with this number
 abbrev pub first_sending : Settings → Life → ℕ → Sending
 first_sending settings life number =
-    sending_of (next_block settings life) number (is_out_of_sequence (latest_poll life) number)
+    sending_of (next_block settings life) number (is_out_of_sequence (newest_poll life) number)
 
 -- the same sent again: with E set and G clear, all else as it was
 abbrev pub repeat_of : Sending → Sending
@@ -70,7 +70,7 @@ repeat_of sending =
 abbrev pub latest_sending : Settings → Life → Option Sending
 latest_sending settings [] = None
 latest_sending settings (Commanded (Poll number) ∷ life) =
-    if is_new (latest_poll life) number
+    if is_new (newest_poll life) number
     then Some (first_sending settings life number)
     else option_map repeat_of (latest_sending settings life)
 latest_sending settings (other ∷ life) = latest_sending settings life

@@ -61,7 +61,7 @@ impl Limits {
         waiting: STANDARD_WAITING,
     };
 
-    /// The limits with these numbers, or `None` where one is out of its range: `per_block` 1 to
+    /// Returns the limits with these numbers, or `None` if one is out of its range: `per_block` 1 to
     /// 255, `waiting` 1,024 to 8,192.
     pub fn new(per_block: u8, waiting: u16) -> Option<Limits>
         ensures { result
@@ -76,14 +76,14 @@ impl Limits {
         }
     }
 
-    /// The most entries of one block.
+    /// Returns the most entries of one block.
     pub(crate) fn per_block(self) -> u8
         ensures { result ≡ self.per_block }
     {
         self.per_block
     }
 
-    /// The most entries that wait.
+    /// Returns the most entries that wait.
     pub(crate) fn waiting(self) -> u16
         ensures { result ≡ self.waiting }
     {

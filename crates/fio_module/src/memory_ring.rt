@@ -1,6 +1,6 @@
 //! A ring of entries in an array of the caller.
 ghost use Rattle.std.specs.Prelude.{◌≡◌, ◌+◌, ◌<◌, ◌≤◌, [], ◌∷◌, List, ℕ, length};
-ghost use Rattle.fio_module.specs.Rings.{empty_place, entries_in, first_in, ring_in};
+ghost use Rattle.fio_module.specs.Rings.{empty_place, slot_entries, first_in, ring_in};
 
 use crate::ring::EntryRing;
 use fio_message::EntryOctets;
@@ -24,25 +24,25 @@ impl Default for RingPlace {
 }
 
 impl RingPlace {
-    /// The place of a ring with no entries, in whatever array.
+    /// Returns the place of a ring with no entries, in any array.
     pub fn new() -> RingPlace
-        ensures none { (slots : List (List ℕ)) → entries_in result slots ≡ [] }
+        ensures none { (slots : List (List ℕ)) → slot_entries result slots ≡ [] }
         ensures cleared { result ≡ empty_place }
     {
         RingPlace { first: 0, count: 0 }
     }
 
-    /// How many entries there are in an array of this length.
+    /// Returns the number of entries in an array of this length.
     pub fn len(&self, capacity: usize) -> usize
         ensures { (slots : List (List ℕ)) → length slots ≡ capacity
-            → result ≡ length (entries_in self.now slots) }
+            → result ≡ length (slot_entries self.now slots) }
     {
         (self.count as usize).min(capacity)
     }
 }
 
 /// A ring in an array of the caller, whose length is its capacity. It takes no memory of its own.
-/// Whatever the array and the place have in them is a ring. With capacity 0 each entry is pushed
+/// Any contents are a valid ring. With capacity 0 each entry is pushed
 /// out at once.
 #[derive(Debug, Drop)]
 pub struct MemoryRing<'a> {
@@ -51,7 +51,7 @@ pub struct MemoryRing<'a> {
 }
 
 impl<'a> MemoryRing<'a> {
-    /// The ring that this array has at this place.
+    /// Returns the ring that this array has at this place.
     pub fn new(entries: &'a mut [EntryOctets], place: &'a mut RingPlace) -> MemoryRing<'a>
         ensures same_entries { result.entries.ghost_name ≡ entries.entry.ghost_name }
         ensures same_place { result.place.ghost_name ≡ place.entry.ghost_name }
@@ -61,7 +61,7 @@ impl<'a> MemoryRing<'a> {
         MemoryRing { entries, place }
     }
 
-    /// The index of the oldest entry.
+    /// Returns the index of the oldest entry.
     fn first(&self) -> usize
         ensures { result ≡ first_in self.now.place.now.first (length self.now.entries.now) }
     {
@@ -70,7 +70,7 @@ impl<'a> MemoryRing<'a> {
     }
 }
 
-/// The index so many steps, at most `room`, behind another one: index `room` is index 0 again.
+/// Returns `first + steps`, less `room` if that is `room` or more: index `room` is index 0 again.
 fn index_behind(first: usize, steps: usize, room: usize) -> usize
     requires { first ≤ room }
     ensures straight { first + steps < room → result ≡ first + steps }

@@ -27,7 +27,7 @@ pub struct ModuleState {
     watchdog: u8,
     /// 1 where an entry was pushed out since the newest block was made, else 0.
     pushed_out: u8,
-    /// It makes the fields below aligned.
+    /// Padding that aligns the fields below.
     reserved: [u8; 7],
     counter: Counter,
     outputs: Outputs,
@@ -46,7 +46,7 @@ impl ModuleState {
     ghost use Rattle.fio_module.specs.Flags.{flags_of, watchdog_of, outputs_of};
     ghost use Rattle.fio_module.specs.State.{IsAfter, IsAfterHistory, state_at_start};
 
-    /// A module with these limits whose ring is empty, whatever room that has.
+    /// Returns a module with these limits whose ring is empty, of any capacity.
     #[tactic(auto, unfolding(crate::specs::Flags::word_of))]
     pub fn new(id: u8, limits: Limits) -> ModuleState
         ensures life { (waiting : ℕ)
@@ -132,7 +132,7 @@ impl ModuleState {
         self.flags |= mask;
     }
 
-    /// The status flags, from bit 7 down P, E, K, R, T, M, L and W (own profile: their places).
+    /// Returns the status flags, from bit 7 down P, E, K, R, T, M, L and W (own profile: their places).
     pub fn flags(&self) -> u8
         ensures { (settings : Settings) (ring : Buffer (List ℕ)) (history : History)
             → IsAfterHistory settings self.now ring history
@@ -163,7 +163,7 @@ impl ModuleState {
         }
     }
 
-    /// The milliseconds counted, modulo 2^32 (TEES 2009).
+    /// Returns the milliseconds counted, modulo 2^32 (TEES 2009).
     pub fn counter(&self) -> u32
         ensures { (settings : Settings) (ring : Buffer (List ℕ)) (history : History)
             → IsAfterHistory settings self.now ring history
@@ -182,7 +182,7 @@ impl ModuleState {
         self.filters.filtered()
     }
 
-    /// The levels of the last scan, all 1 before any (own profile): bit i is input i.
+    /// Returns the levels of the last scan, all 1 before any (own profile): bit i is input i.
     pub fn raw(&self) -> u64
         ensures { (settings : Settings) (ring : Buffer (List ℕ)) (history : History)
             → IsAfterHistory settings self.now ring history

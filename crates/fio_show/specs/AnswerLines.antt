@@ -7,7 +7,7 @@ use Rattle.fio_message.specs.declared.fields.Entry.{Entry}
 use Rattle.fio_message.specs.declared.answers.Answer.{Answer}
 use Rattle.fio_message.specs.declared.answers.Answer.TheVariants.{Status, LoadCounter, ConfigureInputs, RawInputs, FilteredInputs, Block, Watchdog, Other}
 use Rattle.fio_input.specs.Widening.{wide_time_of}
-use Rattle.fio_show.specs.Digits.{digits_of, octet_digits}
+use Rattle.fio_text.specs.Digits.{digits_of, octet_digits}
 use Rattle.fio_show.specs.EntryLines.{entry_line}
 use Rattle.fio_show.specs.CommandLines.{other_text}
 

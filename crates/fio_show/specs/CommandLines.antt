@@ -6,7 +6,7 @@ use Rattle.fio_message.specs.Commands.{other_command_code}
 use Rattle.fio_message.specs.declared.fields.InputItem.{InputItem}
 use Rattle.fio_message.specs.declared.commands.Command.{Command}
 use Rattle.fio_message.specs.declared.commands.Command.TheVariants.{Status, LoadCounter, ConfigureInputs, RawInputs, FilteredInputs, Poll, SetOutputs, Watchdog, Identify, Other}
-use Rattle.fio_show.specs.Digits.{digits_of, octet_digits}
+use Rattle.fio_text.specs.Digits.{digits_of, octet_digits}
 
 -- a number behind words
 abbrev pub number_text : List ℕ → ℕ → List ℕ

@@ -1,6 +1,8 @@
--- The line of an entry, in reports and in what is shown of a block.
+-- The lines of entries, in records and in what is shown of a block.
 use Rattle.std.specs.Prelude.{ℕ, Bool, List, ◌++◌, codes, decimal}
 use Rattle.fio_message.specs.Bits.{bit_of}
+use Rattle.fio_cpu.specs.declared.record.Item.{Item}
+use Rattle.fio_cpu.specs.declared.record.Item.TheVariants.{Entry, Gap}
 
 -- the end of an entry's line: its stamp and its wide time, which are those of its scan
 abbrev pub scan_ending : ℕ → ℕ → List ℕ
@@ -12,3 +14,8 @@ abbrev pub entry_line : ℕ → Bool → ℕ → ℕ → List ℕ
 entry_line input level stamp wide =
     codes "input " ++ (decimal input
     ++ (codes " state " ++ (decimal (bit_of level) ++ scan_ending stamp wide)))
+
+-- an item of a record
+abbrev pub item_line : Item → List ℕ
+item_line Gap = codes "gap\n"
+item_line (Entry input level stamp wide) = entry_line input level stamp wide

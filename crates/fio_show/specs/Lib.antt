@@ -1,8 +1,7 @@
--- In reading order: octets as digits; the line of an entry; the lines of commands, of answers and of
+-- In reading order: the lines of entries and of items; the lines of commands, of answers and of
 -- frames.
-pub mod Digits
 pub mod EntryLines
 pub mod CommandLines
 pub mod AnswerLines
 pub mod FrameLines
-pub mod Shown
+pub mod FurtherLines

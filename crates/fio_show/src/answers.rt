@@ -2,14 +2,14 @@
 ghost use Rattle.std.specs.Prelude.{◌≡◌, ◌≤◌, ◌++◌, length, drop, codes};
 ghost use Rattle.fio_message.specs.Views.{answer_of, entries_of};
 ghost use Rattle.fio_show.specs.AnswerLines.{answer_text, block_text};
-ghost use Rattle.fio_show.specs.Shown.{rest_text};
-ghost use Rattle.fio_show.specs.declared.pieces.TheConstants.{LINE_OCTETS};
+ghost use Rattle.fio_show.specs.FurtherLines.{further_text};
+ghost use Rattle.fio_text.specs.declared.pieces.TheConstants.{LINE_OCTETS};
 
 use crate::commands::put_other;
-use crate::frame::Rest;
+use crate::further_lines::FurtherLines;
 use crate::lines::{put_block_head, put_flags, put_levels, put_status};
-use crate::pieces::LINE_OCTETS;
 use fio_message::AnswerView;
+use fio_text::LINE_OCTETS;
 
 /// Puts the first line for an answer at the end of its room. Returns where it starts, and what follows
 /// it.
@@ -18,9 +18,9 @@ use fio_message::AnswerView;
 pub(crate) fn put_answer<'a>(
     line: &mut [u8; LINE_OCTETS],
     answer: AnswerView<'a>,
-) -> (usize, Rest<'a>)
+) -> (usize, FurtherLines<'a>)
     ensures start { result.0 ≤ LINE_OCTETS }
-    ensures text { drop result.0 line.new ++ rest_text result.1 ≡ answer_text (answer_of answer.entry) }
+    ensures text { drop result.0 line.new ++ further_text result.1 ≡ answer_text (answer_of answer.entry) }
 {
     let start = match answer {
         AnswerView::Status {
@@ -42,10 +42,10 @@ pub(crate) fn put_answer<'a>(
             stamp,
         } => {
             let start = put_block_head(line, block, entries.len(), status, stamp);
-            return (start, Rest::Entries { entries, stamp });
+            return (start, FurtherLines::Entries { entries, stamp });
         }
         AnswerView::Watchdog { status } => put_status(line, b"watchdog", status),
         AnswerView::Other { kind, body } => return put_other(line, kind.code(), body),
     };
-    (start, Rest::Nothing)
+    (start, FurtherLines::Nothing)
 }

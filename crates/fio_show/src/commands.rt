@@ -2,14 +2,13 @@
 ghost use Rattle.std.specs.Prelude.{◌≡◌, ◌≤◌, ◌++◌, length, drop, codes, decimal};
 ghost use Rattle.fio_message.specs.Views.{body_of, command_of, items_of};
 ghost use Rattle.fio_show.specs.CommandLines.{command_text, configuration_text, other_text};
-ghost use Rattle.fio_show.specs.Shown.{rest_text};
-ghost use Rattle.fio_show.specs.declared.pieces.TheConstants.{LINE_OCTETS};
+ghost use Rattle.fio_show.specs.FurtherLines.{further_text};
+ghost use Rattle.fio_text.specs.declared.pieces.TheConstants.{LINE_OCTETS};
 
-use crate::frame::Rest;
+use crate::further_lines::FurtherLines;
 use crate::lines::{put_clearing, put_one_number, put_outputs, put_words};
-use crate::pieces::{LINE_OCTETS, line_end};
-use crate::put_pieces;
 use fio_message::{BodyView, CommandView, ItemsView};
+use fio_text::{LINE_OCTETS, line_end, put_pieces};
 
 /// Puts the first line for a command at the end of its room. Returns where it starts, and what follows
 /// it.
@@ -18,9 +17,9 @@ use fio_message::{BodyView, CommandView, ItemsView};
 pub(crate) fn put_command<'a>(
     line: &mut [u8; LINE_OCTETS],
     command: CommandView<'a>,
-) -> (usize, Rest<'a>)
+) -> (usize, FurtherLines<'a>)
     ensures start { result.0 ≤ LINE_OCTETS }
-    ensures text { drop result.0 line.new ++ rest_text result.1 ≡ command_text (command_of command.entry) }
+    ensures text { drop result.0 line.new ++ further_text result.1 ≡ command_text (command_of command.entry) }
 {
     let start = match command {
         CommandView::Status { clear } => put_clearing(line, clear),
@@ -36,17 +35,20 @@ pub(crate) fn put_command<'a>(
         CommandView::Identify => put_words(line, b"identify\n"),
         CommandView::Other { kind, body } => return put_other(line, kind.code(), body),
     };
-    (start, Rest::Nothing)
+    (start, FurtherLines::Nothing)
 }
 
 /// Puts the first line for a configuration.
-fn put_configuration<'a>(line: &mut [u8; LINE_OCTETS], items: ItemsView<'a>) -> (usize, Rest<'a>)
+fn put_configuration<'a>(
+    line: &mut [u8; LINE_OCTETS],
+    items: ItemsView<'a>,
+) -> (usize, FurtherLines<'a>)
     ensures start { result.0 ≤ LINE_OCTETS }
-    ensures text { drop result.0 line.new ++ rest_text result.1 ≡ configuration_text (items_of items.entry) }
+    ensures text { drop result.0 line.new ++ further_text result.1 ≡ configuration_text (items_of items.entry) }
 {
     let end = line_end(line);
     let start = put_pieces!(*line, end; b"configure inputs " {items.len() as u64} b"\n");
-    (start, Rest::Items { items })
+    (start, FurtherLines::Items { items })
 }
 
 /// Puts the beginning of the line for a message that is not read further than its type.
@@ -54,11 +56,11 @@ pub(crate) fn put_other<'a>(
     line: &mut [u8; LINE_OCTETS],
     code: u8,
     body: BodyView<'a>,
-) -> (usize, Rest<'a>)
+) -> (usize, FurtherLines<'a>)
     ensures start { result.0 ≤ LINE_OCTETS }
-    ensures text { drop result.0 line.new ++ rest_text result.1 ≡ other_text code (body_of body.entry) }
+    ensures text { drop result.0 line.new ++ further_text result.1 ≡ other_text code (body_of body.entry) }
 {
     let end = line_end(line);
     let start = put_pieces!(*line, end; b"other " {code} b" body ");
-    (start, Rest::Body { body })
+    (start, FurtherLines::Body { body })
 }

@@ -1,24 +1,25 @@
 //! The lines of entries.
-ghost use Rattle.std.specs.Prelude.{◌≡◌, ◌+◌, ◌≤◌, ◌++◌, length, take, drop, codes, decimal};
+ghost use Rattle.std.specs.Prelude.{◌≡◌, ◌+◌, ◌<◌, ◌≤◌, ◌++◌, ◌∷◌, [], length, take, drop, codes, decimal};
 ghost use Rattle.fio_message.specs.Bits.{bit_of};
 ghost use Rattle.fio_show.specs.EntryLines.{entry_line, scan_ending};
-ghost use Rattle.fio_show.specs.declared.entry_lines.TheConstants.{ENDING, ENDING_ROOM, ENTRY_OCTETS};
-ghost use Rattle.fio_show.specs.declared.pieces.TheConstants.{LINE_OCTETS};
+ghost use Rattle.fio_show.specs.declared.entry_lines.TheConstants.{ENDING, ENDING_ROOM, ENTRY_OCTETS, STATE_OCTETS};
+ghost use Rattle.fio_text.specs.declared.pieces.TheConstants.{LINE_OCTETS};
 
-use crate::pieces::{LINE_OCTETS, put};
-use crate::put_pieces;
 use fio_message::Entry;
+use fio_text::{LINE_OCTETS, put, put_pieces};
 use std::marker::Model;
 
-/// Where the ending of a line starts, behind room for what is before it.
+/// Where the ending of a line starts, after room for what is before it.
 const ENDING: usize = 64;
 
-/// Room for the line of an entry: all of it is copied, since a known number of octets is copied without
-/// a call.
+/// Room for the line of an entry. All of it is copied: a constant length needs no call to `memcpy`.
 pub const ENTRY_OCTETS: usize = 64;
 
 /// Room for an ending, which has at most 29 octets.
 const ENDING_ROOM: usize = 32;
+
+/// Room for the line of an entry from its state on, copied whole too.
+pub(crate) const STATE_OCTETS: usize = ENDING_ROOM;
 
 /// Room for the line of an entry. The entries of one scan have one stamp and one wide time, so the
 /// ending of a line, ` stamp S wide W` and its line feed, stays for the next entry of the same scan.
@@ -33,7 +34,7 @@ pub struct EntryLines {
 }
 
 impl Model for EntryLines {
-    ghost use Rattle.std.specs.Prelude.{◌≡◌, ◌≤◌, take, drop};
+    ghost use Rattle.std.specs.Prelude.{◌≡◌, ◌<◌, take, drop};
     ghost use Rattle.fio_show.specs.EntryLines.{scan_ending};
     ghost use Rattle.fio_show.specs.declared.entry_lines.TheConstants.{ENDING, ENDING_ROOM};
 
@@ -44,11 +45,11 @@ impl Model for EntryLines {
 
     // The stamp and the wide time are in the ending.
     ghost invariant = { λ v. (take v.ending (drop ENDING v.line) ≡ scan_ending v.stamp v.wide)
-        × (v.ending ≤ ENDING_ROOM) };
+        × (v.ending < ENDING_ROOM) };
 }
 
 impl EntryLines {
-    /// Room that holds no entry's line.
+    /// Returns room that holds no entry's line.
     pub fn new() -> EntryLines {
         let mut line = [0; LINE_OCTETS];
         let ending = put_ending(&mut line, 0, 0);
@@ -60,7 +61,7 @@ impl EntryLines {
         }
     }
 
-    /// The line of an entry with this wide time, behind a margin of at most 8 octets:
+    /// Returns the line of an entry with this wide time, after a margin of at most 8 octets:
     /// `input I state L stamp S wide W`. It has as many octets as the number says, at the front of
     /// `ENTRY_OCTETS`.
     // Inlined, so that the length of the margin is known when it is compiled.
@@ -87,6 +88,35 @@ impl EntryLines {
         let room = &self.line;
         (&room[start..start + ENTRY_OCTETS], count)
     }
+
+    /// Returns the line of an entry with this state, stamp and wide time from its state on: `L stamp S wide W`. It has
+    /// as many octets as the number says, at the front of `STATE_OCTETS`.
+    // Inlined, as it is called for each entry.
+    #[inline(always)]
+    pub(crate) fn from_state(&mut self, level: bool, stamp: u16, wide: u32) -> (&[u8], usize)
+        ensures room { length result.0.now ≡ STATE_OCTETS }
+        ensures within { result.1 ≤ STATE_OCTETS }
+        ensures line { take result.1 result.0.now ≡ decimal (bit_of level) ++ scan_ending stamp wide }
+    {
+        if stamp != self.stamp || wide != self.wide {
+            self.ending = put_ending(&mut self.line, stamp, wide);
+            self.stamp = stamp;
+            self.wide = wide;
+        }
+        self.line[ENDING - 1] = digit_of(level);
+        let count = 1 + self.ending;
+        let room = &self.line;
+        (&room[ENDING - 1..ENDING - 1 + STATE_OCTETS], count)
+    }
+}
+
+/// Returns the digit of a state.
+// Inlined, as it is called for each entry.
+#[inline(always)]
+fn digit_of(level: bool) -> u8
+    ensures { result ∷ [] ≡ decimal (bit_of level) }
+{
+    b'0' + u8::from(level)
 }
 
 /// Puts a margin of at most 8 octets and `input I state L`, at most 25 octets together, before the
@@ -111,12 +141,12 @@ fn put_front<const N: usize>(line: &mut [u8; LINE_OCTETS], margin: &[u8; N], ent
 // Not inlined, so that the loop over the entries of a block stays short.
 #[inline(never)]
 fn put_ending(line: &mut [u8; LINE_OCTETS], stamp: u16, wide: u32) -> usize
-    ensures length { result ≤ ENDING_ROOM }
+    ensures length { result < ENDING_ROOM }
     ensures put { take result (drop ENDING line.new) ≡ scan_ending stamp wide }
 {
     let end = ENDING + ENDING_ROOM;
     let start = put_pieces!(*line, end; b" stamp " {stamp} b" wide " {wide} b"\n");
-    // All the room is moved, since a known number of octets is moved without a call.
+    // Moves all the room: a constant length needs no call to `memcpy`.
     let mut moved = [0; ENDING_ROOM];
     moved.copy_from_slice(&line[start..start + ENDING_ROOM]);
     put(line, end, &moved);

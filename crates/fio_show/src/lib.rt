@@ -1,12 +1,12 @@
-//! The lines in which messages and entries are shown, put together in room of the caller. Nothing here
-//! takes memory.
+//! The lines in which messages, entries and records are shown. Those of a message are put together in
+//! room of the caller, without memory; those of a record are appended to a text.
 //!
 //! What the crates above use: `put_frame` gives the text of a frame, as its first line and what follows
-//! it; `EntryLines` gives the line of an entry; `put_pieces!` puts a line together.
+//! it, which `append_further` appends to any `TextSink`; `EntryLines` gives the line of an entry, and `push_items` appends those of a record.
 //!
-//! The definitions are in `specs/`, in this order: octets as digits (`Digits`), the line of an entry
-//! (`EntryLines`), the lines of commands (`CommandLines`), of answers (`AnswerLines`) and of frames
-//! (`FrameLines`), what follows a first line (`Shown`).
+//! The definitions are in `specs/`, in this order: the lines of entries
+//! and of items (`EntryLines`), the lines of commands (`CommandLines`), of answers (`AnswerLines`) and of frames
+//! (`FrameLines`), what follows a first line (`FurtherLines`).
 //!
 //! # Examples
 //!
@@ -23,12 +23,16 @@ mod answers;
 mod commands;
 mod entry_lines;
 mod frame;
+mod fronts;
+mod further_lines;
 mod lines;
-mod pieces;
+mod record_lines;
+mod sink;
 
 pub use entry_lines::{ENTRY_OCTETS, EntryLines};
-pub use frame::{Rest, put_frame};
+pub use fio_text::LINE_OCTETS;
+pub use frame::put_frame;
+pub use further_lines::{FurtherLines, append_further};
 pub use lines::{entry_line, put_item};
-pub use pieces::{
-    LINE_OCTETS, NAME_OCTETS, line_end, put, put_decimal, put_hexadecimal, put_number, put_octet,
-};
+pub use record_lines::push_items;
+pub use sink::TextSink;

@@ -4,13 +4,12 @@ ghost use Rattle.std.specs.Prelude.{◌≡◌, ◌≤◌, length, take, drop};
 ghost use Rattle.fio_show.specs.AnswerLines.{block_head_text, entry_text, flags_text, levels_text, status_text};
 ghost use Rattle.fio_show.specs.CommandLines.{clearing_text, item_text, number_text, outputs_text};
 ghost use Rattle.fio_show.specs.declared.entry_lines.TheConstants.{ENTRY_OCTETS};
-ghost use Rattle.fio_show.specs.declared.pieces.TheConstants.{LINE_OCTETS, NAME_OCTETS};
+ghost use Rattle.fio_text.specs.declared.pieces.TheConstants.{LINE_OCTETS, NAME_OCTETS};
 
 use crate::entry_lines::EntryLines;
-use crate::pieces::{LINE_OCTETS, line_end};
-use crate::put_pieces;
 use fio_input::widen;
 use fio_message::{Entry, InputItem, inputs_to_octets};
+use fio_text::{LINE_OCTETS, line_end, put_pieces};
 
 /// The line of words alone, at most `NAME_OCTETS`.
 // Inlined: the compiler then knows where each piece of a line is, and how long.

@@ -1,7 +1,7 @@
 //! The most events of a script, and long texts, are those of `tests/scripts.py`, `tests/shows.py` and
 //! `tests/transcripts.py`.
+use fio_text::{Hexadecimal, read_octets};
 use fio_tool::{Line, Verdict, check_trace, read_trace};
-use fio_world::text::{Hexadecimal, read_octets};
 use fio_world::{Event, World};
 use std::alloc::{AllocError, Global};
 

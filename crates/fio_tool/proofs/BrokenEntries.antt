@@ -1,40 +1,31 @@
 -- The first entry that breaks a rule on content, found line by line.
-use Rattle.std.proofs.Common.{◌≡◌, ◌<◌, ◌≤◌, ◌∙◌, ℕ, ◌+◌, ◌-◌, inl, inr, Bool, true, false, List, [], ◌∷◌, ◌++◌, length, drop, take, map, Option, Some, None, refl, sym, ap, arith, append-nil, length-append, length-drop}
-use Rattle.std.specs.Prelude.{◌==◌, ◌%◌, option_map, if◌then◌else◌}
-use Rattle.std.specs.List.{flat_map}
-use Rattle.std.specs.Option.{ok_or, option_or}
+use Rattle.fio_tool.proofs.Names.{◌≡◌, ◌<◌, ◌≤◌, ◌∙◌, ℕ, ◌+◌, ◌-◌, inl, inr, Bool, true, false, List, [], ◌∷◌, ◌++◌, length, drop, take, map, Option, Some, None, refl, sym, ap, arith, append-nil, length-append, length-drop, ◌==◌, ◌%◌, option_map, if◌then◌else◌, flat_map, length-map, take-append-le, take_all, answer_in, answered_block, command_in, TranscriptLine, answer_from, observation_of, entries_heard, entries_taken, entry_of_item, item_broken}
+use Rattle.std.specs.Option.{option_or}
 use Rattle.std.proofs.lemmas.Bool.Decides.{eqb_tells, leb_tells}
-use Rattle.std.proofs.lemmas.List.{length-map, take-append-le, take_all}
-use Rattle.fio_message.specs.Answers.{answer_length}
 use Rattle.fio_message.specs.Blocks.{Block}
-use Rattle.fio_message.specs.Decoding.{answer_in, answered_block, command_in, fault_in}
 use Rattle.fio_message.specs.Status.{says_error, says_lost, says_more}
-use Rattle.fio_message.specs.declared.faults.DecodeError.{DecodeError}
 use Rattle.fio_message.specs.declared.fields.Entry.{Entry as EntryOf}
 use Rattle.fio_message.specs.declared.answers.Answer.{Answer}
-use Rattle.fio_message.specs.declared.answers.Answer.TheVariants as answers
 use Rattle.fio_message.specs.declared.commands.Command.{Command}
-use Rattle.fio_message.specs.declared.commands.Command.TheVariants as commands
-use Rattle.fio_cpu.specs.Hearing.{after_hearing, heard_as}
+use Rattle.fio_cpu.specs.Hearing.{after_hearing}
 use Rattle.fio_cpu.specs.Poller.{Polling}
 use Rattle.fio_cpu.specs.Record.{item_of, items_of_block}
-use Rattle.fio_cpu.specs.declared.poller.Heard.TheVariants as Heard
 use Rattle.fio_cpu.specs.declared.record.Item.{Item}
 use Rattle.fio_cpu.specs.declared.record.Item.TheVariants.{Gap}
 use Rattle.fio_check.specs.ContentAbove.{ContentFacts}
 use Rattle.fio_check.specs.ContentCheckers.{ContentKept, breach_among, content_found, kept_with, nothing_kept}
-use Rattle.fio_check.specs.ContentEvents.{ContentEvent, LineEvent, Polled, Accepted, Recorded, Ended, events_below, events_in, events_of, events_of_block, events_of_command, events_of_lines, item_of_event, number_below, number_with}
+use Rattle.fio_check.specs.ContentEvents.{ContentEvent, LineEvent, Polled, Accepted, Recorded, Ended, events_below, events_in, content_events, events_of_block, events_of_command, events_of_lines, item_of_event, number_below, number_after}
 use Rattle.fio_check.specs.ContentRules.{BrokenEntry, broken_entry_in, content_breach_at}
 use Rattle.fio_check.specs.Facts.{number_polled}
-use Rattle.fio_check.specs.Lines.{TranscriptLine}
-use Rattle.fio_check.specs.Observations.{observation_of}
 use Rattle.fio_check.specs.Places.{earliest_above}
 use Rattle.fio_check.specs.declared.content.ContentBreach.{ContentBreach}
 use Rattle.fio_check.proofs.ContentCourse.{IsContentCourse, block_broken, broken_among, broken_at, first_course, frame_course}
 use Rattle.fio_check.specs.Pollers.{poller_with}
 use Rattle.fio_tool.specs.Record.{items_of_cpu}
-use Rattle.fio_tool.specs.Recordings.{entries_heard, entries_taken, entry_of_item, item_broken}
 use Rattle.fio_tool.specs.declared.transcript.recording.BrokenItem.{BrokenItem}
+use Rattle.fio_message.specs.declared.answers.Answer.TheVariants as answers
+use Rattle.fio_message.specs.declared.commands.Command.TheVariants as commands
+use Rattle.fio_cpu.specs.declared.poller.Heard.TheVariants as Heard
 
 -- the number of a CPU
 abbrev pub number_of_cpu : Option Polling → Option ℕ
@@ -70,18 +61,14 @@ command_events number (commands.Watchdog timeout) = no_events
 command_events number commands.Identify = no_events
 command_events number (commands.Other kind body) = no_events
 
-sent_events : (number : Option ℕ) (command : Option Command) → HasNoItem (events_of number command None)
+sent_events : (number : Option ℕ) (command : Option Command) → HasNoItem (content_events number command None)
 sent_events number None = no_events
 sent_events number (Some command) = command_events number command
-
--- a frame that is sent has no entry that breaks a rule
-pub sent_found : (number : Option ℕ) (octets : List ℕ) (facts : ContentFacts) → breach_among facts 0 (events_in number true octets) ≡ None
-sent_found number octets facts = (sent_events number (command_in octets)).found facts
 
 -- ---- the first poll, and the answers above it
 
 first-poll : (command : Option Command)
-    → (number_of_cpu (option_map (λ first. record { number = first; items = [] }) (number_polled (observation_of command None))) ≡ number_with None command None)
+    → (number_of_cpu (option_map (λ first. record { number = first; items = [] }) (number_polled (observation_of command None))) ≡ number_after None command None)
     × (items_of_cpu (option_map (λ first. record { number = first; items = [] }) (number_polled (observation_of command None))) ≡ [])
 first-poll None = (refl, refl)
 first-poll (Some (commands.Poll polled)) = (refl, refl)
@@ -95,15 +82,15 @@ first-poll (Some (commands.Watchdog timeout)) = (refl, refl)
 first-poll (Some commands.Identify) = (refl, refl)
 first-poll (Some (commands.Other kind body)) = (refl, refl)
 
-later-command : (number : ℕ) (command : Option Command) → Some number ≡ number_with (Some number) command None
+later-command : (number : ℕ) (command : Option Command) → Some number ≡ number_after (Some number) command None
 later-command number None = refl
 later-command number (Some command) = refl
 
 -- an answer changes nothing where there is no CPU
 pub record PassesOver (answer : Option Answer) : Type 0 where
   pub polled : number_polled (observation_of None answer) ≡ None
-  pub number : number_with None None answer ≡ None
-  pub events : HasNoItem (events_of None None answer)
+  pub number : number_after None None answer ≡ None
+  pub events : HasNoItem (content_events None None answer)
 
 first-answer : (answer : Option Answer) → PassesOver answer
 first-answer None = record { polled = refl; number = refl; events = no_events }
@@ -186,23 +173,23 @@ taken-same : (a b : ℕ) → (a == b) ≡ true → a ≡ b
 taken-same a b is = elim (eqb_tells a b) as (λ _. a ≡ b) [ inl same ↦ same.1 | inr other ↦ (let not_same = other.0 in absurd (cc)) ]
 
 -- an answer to a CPU
-answer-step : (cpu : Polling) (line : ℕ) (answer : Option Answer) (fault : DecodeError)
-    → FrameStep (Some cpu) (Some (after_hearing cpu (answered_block answer))) (number_with (Some cpu.number) None answer) line
-    (entries_heard (heard_as cpu.number (ok_or answer fault))) (events_of (Some cpu.number) None answer)
-answer-step cpu line None fault = no-item (Some cpu) (Some cpu) (Some cpu.number) line 0 [] no_events refl refl
-answer-step cpu line (Some (answers.Block block entries status stamp)) fault =
+answer-step : (cpu : Polling) (line : ℕ) (answer : Option Answer)
+    → FrameStep (Some cpu) (Some (after_hearing cpu (answered_block answer))) (number_after (Some cpu.number) None answer) line
+    (entries_taken (Some cpu) answer) (content_events (Some cpu.number) None answer)
+answer-step cpu line None = no-item (Some cpu) (Some cpu) (Some cpu.number) line 0 [] no_events refl refl
+answer-step cpu line (Some (answers.Block block entries status stamp)) =
     block-step cpu line (record { number = block; entries = entries.items; status = status; stamp = stamp }) (block == cpu.number) (taken-same block cpu.number)
-answer-step cpu line (Some (answers.ConfigureInputs status)) fault = no-item (Some cpu) (Some cpu) (Some cpu.number) line 0 _ (accepted_or_none (says_error status)) refl refl
-answer-step cpu line (Some (answers.Status flags receive transmit stamp)) fault = no-item (Some cpu) (Some cpu) (Some cpu.number) line 0 [] no_events refl refl
-answer-step cpu line (Some (answers.LoadCounter status)) fault = no-item (Some cpu) (Some cpu) (Some cpu.number) line 0 [] no_events refl refl
-answer-step cpu line (Some (answers.RawInputs inputs stamp)) fault = no-item (Some cpu) (Some cpu) (Some cpu.number) line 0 [] no_events refl refl
-answer-step cpu line (Some (answers.FilteredInputs inputs stamp)) fault = no-item (Some cpu) (Some cpu) (Some cpu.number) line 0 [] no_events refl refl
-answer-step cpu line (Some (answers.Watchdog status)) fault = no-item (Some cpu) (Some cpu) (Some cpu.number) line 0 [] no_events refl refl
-answer-step cpu line (Some (answers.Other kind body)) fault = no-item (Some cpu) (Some cpu) (Some cpu.number) line 0 [] no_events refl refl
+answer-step cpu line (Some (answers.ConfigureInputs status)) = no-item (Some cpu) (Some cpu) (Some cpu.number) line 0 _ (accepted_or_none (says_error status)) refl refl
+answer-step cpu line (Some (answers.Status flags receive transmit stamp)) = no-item (Some cpu) (Some cpu) (Some cpu.number) line 0 [] no_events refl refl
+answer-step cpu line (Some (answers.LoadCounter status)) = no-item (Some cpu) (Some cpu) (Some cpu.number) line 0 [] no_events refl refl
+answer-step cpu line (Some (answers.RawInputs inputs stamp)) = no-item (Some cpu) (Some cpu) (Some cpu.number) line 0 [] no_events refl refl
+answer-step cpu line (Some (answers.FilteredInputs inputs stamp)) = no-item (Some cpu) (Some cpu) (Some cpu.number) line 0 [] no_events refl refl
+answer-step cpu line (Some (answers.Watchdog status)) = no-item (Some cpu) (Some cpu) (Some cpu.number) line 0 [] no_events refl refl
+answer-step cpu line (Some (answers.Other kind body)) = no-item (Some cpu) (Some cpu) (Some cpu.number) line 0 [] no_events refl refl
 
 -- any frame
 frame_step : (cpu : Option Polling) (number : ℕ) (from_cpu : Bool) (octets : List ℕ)
-    → FrameStep cpu (poller_with cpu (record { number = number; from_cpu = from_cpu; octets = octets })) (number_below (number_of_cpu cpu) from_cpu octets) number (entries_taken cpu octets)
+    → FrameStep cpu (poller_with cpu (record { number = number; from_cpu = from_cpu; octets = octets })) (number_below (number_of_cpu cpu) from_cpu octets) number (entries_taken cpu (answer_from from_cpu octets))
     (events_in (number_of_cpu cpu) from_cpu octets)
 frame_step None number true octets =
     let first = first-poll (command_in octets) in
@@ -213,7 +200,7 @@ frame_step None number false octets =
     let passes = first-answer (answer_in octets) in
     no-item None _ _ number 0 _ passes.events (rw (passes.polled, passes.number) refl) (rw passes.polled refl)
 frame_step (Some cpu) number false octets =
-    answer-step cpu number (answer_in octets) (fault_in (answer_length octets) octets)
+    answer-step cpu number (answer_in octets)
 
 -- ---- line by line
 
@@ -269,28 +256,28 @@ next-line : (lines rest : List TranscriptLine) (number : ℕ) (from_cpu : Bool) 
     → number_of_cpu cpu ≡ kept.number
     → IsBrokenSoFar lines (record { number = number; from_cpu = from_cpu; octets = octets } ∷ rest) cpu kept broken
     → IsBrokenSoFar lines rest (poller_with cpu (record { number = number; from_cpu = from_cpu; octets = octets })) (kept_with kept from_cpu octets)
-    (option_or broken (option_map (item_broken number (length (items_of_cpu (poller_with cpu (record { number = number; from_cpu = from_cpu; octets = octets })))) (entries_taken cpu octets)) (content_found kept from_cpu octets)))
+    (option_or broken (option_map (item_broken number (length (items_of_cpu (poller_with cpu (record { number = number; from_cpu = from_cpu; octets = octets })))) (entries_taken cpu (answer_from from_cpu octets))) (content_found kept from_cpu octets)))
 next-line lines rest number from_cpu octets cpu kept broken numbers so_far =
     let cpu' = poller_with cpu (record { number = number; from_cpu = from_cpu; octets = octets }) in
     let events = events_in kept.number from_cpu octets in
-    let step : FrameStep cpu cpu' (number_below kept.number from_cpu octets) number (entries_taken cpu octets) events =
+    let step : FrameStep cpu cpu' (number_below kept.number from_cpu octets) number (entries_taken cpu (answer_from from_cpu octets)) events =
     rw (← numbers) (frame_step cpu number from_cpu octets) in
     let reached = frame_course events (events_of_lines lines) (events_below (number_below kept.number from_cpu octets) rest) so_far.place number kept.facts (items_of_cpu cpu)
     (option_map (entry_of_item (items_of_cpu cpu)) broken) so_far.left so_far.course in
     record {
       place = reached.place;
       course = same-course _ _ _ _ _ _ _ step.items
-          (kept-entry broken (items_of_cpu cpu) (flat_map item_of_event events) (items_of_cpu cpu') number (entries_taken cpu octets) (breach_among kept.facts 0 events) _ step.items so_far.fits (step.broken kept.facts))
+          (kept-entry broken (items_of_cpu cpu) (flat_map item_of_event events) (items_of_cpu cpu') number (entries_taken cpu (answer_from from_cpu octets)) (breach_among kept.facts 0 events) _ step.items so_far.fits (step.broken kept.facts))
           reached.course;
       left = reached.left;
       numbers = step.numbers;
-      fits = λ item is. kept-fits broken (items_of_cpu cpu) (flat_map item_of_event events) (items_of_cpu cpu') number (entries_taken cpu octets) (breach_among kept.facts 0 events) item step.items so_far.fits is;
+      fits = λ item is. kept-fits broken (items_of_cpu cpu) (flat_map item_of_event events) (items_of_cpu cpu') number (entries_taken cpu (answer_from from_cpu octets)) (breach_among kept.facts 0 events) item step.items so_far.fits is;
     }
 
 -- one line more
 pub broken_next : (lines rest : List TranscriptLine) (line : TranscriptLine) (cpu cpu' : Option Polling) (kept kept' : ContentKept) (broken broken' : Option BrokenItem)
     → cpu' ≡ poller_with cpu line → kept' ≡ kept_with kept line.from_cpu line.octets
-    → broken' ≡ option_or broken (option_map (item_broken line.number (length (items_of_cpu cpu')) (entries_taken cpu line.octets)) (content_found kept line.from_cpu line.octets))
+    → broken' ≡ option_or broken (option_map (item_broken line.number (length (items_of_cpu cpu')) (entries_taken cpu (answer_from line.from_cpu line.octets))) (content_found kept line.from_cpu line.octets))
     → IsBrokenSoFar lines (line ∷ rest) cpu kept broken → IsBrokenSoFar lines rest cpu' kept' broken'
 broken_next lines rest line cpu cpu' kept kept' broken broken' cpu_is kept_is broken_is so_far =
     rw (broken_is, cpu_is, kept_is) (next-line lines rest line.number line.from_cpu line.octets cpu kept broken so_far.numbers so_far)

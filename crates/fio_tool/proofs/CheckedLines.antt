@@ -1,13 +1,7 @@
 -- One pass over a text, frame by frame, as the lines that are read of it.
-use Rattle.std.proofs.Common.{◌≡◌, ◌≢◌, ◌<◌, ◌≤◌, ◌∙◌, ℕ, zero, suc, ◌+◌, ◌==◌, Bool, true, false, List, [], ◌∷◌, map, length, drop, Option, Some, None, Result, Ok, Err, refl, sym, ap, arith, add-one, length-drop}
-use Rattle.std.specs.Prelude.{option_map, option_and_then, slice_get, unwrap_or, if◌then◌else◌}
+use Rattle.fio_tool.proofs.Names.{◌≡◌, ◌≢◌, ◌<◌, ◌≤◌, ◌∙◌, ℕ, zero, suc, ◌+◌, ◌==◌, Bool, true, false, List, [], ◌∷◌, map, length, drop, Option, Some, None, Result, Ok, Err, refl, sym, ap, arith, add-one, length-drop, option_map, option_and_then, slice_get, unwrap_or, if◌then◌else◌, result_err, values_or_fault, with_first, lines_of, numbered, with_front, is_skipped, TranscriptLine, observation_on, frame_in, line_in, transcript_in, verdict_in, verdict_of}
 use Rattle.std.specs.Option.{option_or}
-use Rattle.std.specs.Result.{result_err}
-use Rattle.fio_world.specs.FirstFaults.{values_or_fault, with_first}
-use Rattle.fio_world.specs.Lines.{lines_of, numbered, with_front, is_skipped}
 use Rattle.fio_check.specs.Facts.{facts_at, facts_with}
-use Rattle.fio_check.specs.Lines.{TranscriptLine}
-use Rattle.fio_check.specs.Observations.{observation_on}
 use Rattle.fio_check.specs.Places.{earliest_above}
 use Rattle.fio_check.specs.Rules.{first_broken, rule_broken}
 use Rattle.fio_check.specs.Verdicts.{breach_at, verdict_on}
@@ -18,7 +12,8 @@ use Rattle.fio_check.specs.declared.verdict.Verdict.{Verdict}
 use Rattle.fio_check.specs.declared.verdict.Verdict.TheVariants.{Good, Broken}
 use Rattle.fio_check.proofs.BreachesSoFar.{StandsSoFar, stands_after_breach, stands_with_line, verdict_so_far}
 use Rattle.fio_tool.specs.Check.{is_good}
-use Rattle.fio_tool.specs.Transcript.{frame_in, line_in, transcript_in, verdict_in, verdict_of}
+use Rattle.fio_tool.specs.Judging.{IsJudged}
+use Rattle.fio_tool.specs.declared.transcript.judging.Judging.{Judging}
 use Rattle.fio_tool.specs.declared.transcript.lines.TraceError.{TraceError}
 
 -- ---- a text has no more lines than octets
@@ -70,10 +65,10 @@ dropped-first (first ∷ lines) (suc place) line rest is =
 
 -- ---- the course of the pass
 
-pub record IsCourse (lines : List TranscriptLine) (frames : ℕ) (left : List (ℕ × List ℕ)) (facts : Facts) (breach : Option Verdict) : Type 0 where
+pub record IsCourse (lines : List TranscriptLine) (frames : ℕ) (left : List (ℕ × List ℕ)) (judging : Judging) : Type 0 where
   pub left_is : values_or_fault (map line_in left) ≡ Ok (drop frames lines)
   pub within : frames ≤ length lines
-  pub stands : StandsSoFar lines frames facts breach
+  pub stands : StandsSoFar lines frames judging.facts judging.breach
 
 -- one line more, by what the check keeps of it
 next-stands : (lines : List TranscriptLine) (place : ℕ) (line : TranscriptLine) → slice_get lines place ≡ Some line
@@ -96,28 +91,24 @@ pub line_read : (number : ℕ) (line : List ℕ) (from_cpu : Bool) (octets : Lis
 line_read number line from_cpu octets is = rw is refl
 
 -- before the first frame
-pub first_course : (text : List ℕ) (lines : List TranscriptLine) (facts : Facts) → transcript_in text ≡ Ok lines → facts ≡ facts_at lines 0
-    → IsCourse lines 0 (numbered 1 (lines_of text)) facts None
-first_course text lines facts reads kept =
-    record { left_is = reads; within = omega arith; stands = record { found = refl; kept = λ none. kept } }
+pub first_course : (text : List ℕ) (lines : List TranscriptLine) (judging : Judging) → transcript_in text ≡ Ok lines
+    → judging.facts ≡ facts_at lines 0 → judging.breach ≡ None → IsCourse lines 0 (numbered 1 (lines_of text)) judging
+first_course text lines judging reads kept none =
+    record { left_is = reads; within = omega arith; stands = record { found = none; kept = λ _. kept } }
 
 -- one frame more
-pub next_course : (lines : List TranscriptLine) (frames number : ℕ) (text : List ℕ) (left : List (ℕ × List ℕ)) (line : TranscriptLine) (said : Observation) (facts facts' : Facts) (breach breach' : Option Verdict)
-    → line_in (number, text) ≡ Ok line → line.number ≡ number → said ≡ observation_on line
-    → IsCourse lines frames ((number, text) ∷ left) facts breach
-    → (breach ≢ None → breach' ≡ breach)
-    → (breach ≡ None → breach' ≡ option_map (Broken number) (first_broken facts said))
-    → (breach ≡ None → breach' ≡ None → facts' ≡ facts_with facts said)
-    → IsCourse lines (frames + 1) left facts' breach'
-next_course lines frames number text left line said facts facts' breach breach' reads numbered says course same broken added =
+pub next_course : (lines : List TranscriptLine) (frames number : ℕ) (text : List ℕ) (left : List (ℕ × List ℕ)) (line : TranscriptLine) (said : Observation) (before after : Judging)
+    → line_in (number, text) ≡ Ok line → line.number ≡ number → said ≡ observation_on line → IsJudged before number said after
+    → IsCourse lines frames ((number, text) ∷ left) before → IsCourse lines (frames + 1) left after
+next_course lines frames number text left line said before after reads numbered says judged course =
     let first = first-left line (values_or_fault (map line_in left)) (drop frames lines) (rw reads at course.left_is) in
     let cut = dropped-first lines frames line first.0 first.2 in
-    let broken_by = λ (none : breach ≡ None). broken none ∙ ap (λ s. option_map (Broken number) (first_broken facts s)) says in
-    let added_by = λ (none : breach ≡ None) (holds : breach' ≡ None). added none holds ∙ ap (facts_with facts) says in
+    let broken_by = λ (none : before.breach ≡ None). judged.broken none ∙ ap (λ s. option_map (Broken number) (first_broken before.facts s)) says in
+    let added_by = λ (none : before.breach ≡ None) (holds : after.breach ≡ None). judged.kept none holds ∙ ap (facts_with before.facts) says in
     record {
       left_is = first.1 ∙ ap Ok (sym cut.1) ∙ ap (λ n. Ok (drop n lines)) (sym (add-one frames));
       within = omega (arith, cut.2);
-      stands = rw add-one (next-stands lines frames line cut.0 facts facts' breach breach' same (rw numbered broken_by) added_by course.stands);
+      stands = rw add-one (next-stands lines frames line cut.0 before.facts after.facts before.breach after.breach judged.first (rw numbered broken_by) added_by course.stands);
     }
 
 none-left : (lines : List TranscriptLine) (frames : ℕ) → values_or_fault (map line_in []) ≡ Ok (drop frames lines) → frames ≤ length lines → frames ≡ length lines
@@ -127,10 +118,10 @@ none-left lines frames left within =
     omega (arith, count)
 
 -- no line is left
-pub course_end : (lines : List TranscriptLine) (frames : ℕ) (facts : Facts) (breach : Option Verdict) → IsCourse lines frames [] facts breach
-    → verdict_on lines ≡ unwrap_or breach (Good frames)
-course_end lines frames facts breach course =
-    verdict_so_far lines frames facts breach (none-left lines frames course.left_is course.within) course.stands
+pub course_end : (lines : List TranscriptLine) (frames : ℕ) (judging : Judging) → IsCourse lines frames [] judging
+    → verdict_on lines ≡ unwrap_or judging.breach (Good frames)
+course_end lines frames judging course =
+    verdict_so_far lines frames judging.facts judging.breach (none-left lines frames course.left_is course.within) course.stands
 
 -- the verdict on what is read
 pub verdict_read : (text : List ℕ) (lines : List TranscriptLine) (found verdict : Verdict) → transcript_in text ≡ Ok lines → verdict_on lines ≡ found
@@ -169,19 +160,12 @@ unbroken-by : (breach : Option Verdict) (frames : ℕ) → ((found : Verdict) �
 unbroken-by None frames bad is = refl
 unbroken-by (Some verdict) frames bad is = let broken = bad verdict refl in absurd (cc)
 
-pub unbroken_end : (lines : List TranscriptLine) (frames : ℕ) (left : List (ℕ × List ℕ)) (facts : Facts) (breach : Option Verdict) (verdict : Verdict) → IsCourse lines frames left facts breach
-    → verdict ≡ unwrap_or breach (Good frames) → is_good verdict ≡ true → breach ≡ None
-unbroken_end lines frames left facts breach verdict course same is =
-    unbroken-by breach frames (λ found here. earliest-good lines frames found (sym course.stands.found ∙ here)) (rw same at is)
+pub unbroken_end : (lines : List TranscriptLine) (frames : ℕ) (left : List (ℕ × List ℕ)) (judging : Judging) (verdict : Verdict) → IsCourse lines frames left judging
+    → verdict ≡ unwrap_or judging.breach (Good frames) → is_good verdict ≡ true → judging.breach ≡ None
+unbroken_end lines frames left judging verdict course same is =
+    unbroken-by judging.breach frames (λ found here. earliest-good lines frames found (sym course.stands.found ∙ here)) (rw same at is)
 
 -- a line that breaks nothing is below lines that break nothing
 pub still_none : (breach breach' : Option Verdict) → (breach ≢ None → breach' ≡ breach) → breach' ≡ None → breach ≡ None
 still_none None breach' same none = refl
 still_none (Some verdict) breach' same none = let kept = same (λ e. absurd (cc)) in absurd (cc)
-
--- where there is no breach with a line more, that line breaks nothing
-pub none_broken : (breach breach' : Option Verdict) (number : ℕ) (rule : Option Rule) → (breach ≢ None → breach' ≡ breach)
-    → (breach ≡ None → breach' ≡ option_map (Broken number) rule) → breach' ≡ None → rule ≡ None
-none_broken breach breach' number None same broken none = refl
-none_broken breach breach' number (Some rule) same broken none =
-    let is = broken (still_none breach breach' same none) in absurd (cc)

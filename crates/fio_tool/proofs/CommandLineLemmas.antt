@@ -1,21 +1,14 @@
-use Rattle.std.proofs.lemmas.List.{take_more}
+use Rattle.fio_tool.proofs.Names.{take_more, ◌≡◌, ◌+◌, ◌<◌, ◌≤◌, arith, length, take, get_or, ◌⊎◌, inl, inr, ℕ, List, [], ◌∷◌, map, Bool, true, false, Option, Some, None, option_map, refl, ap, sym, ◌∙◌, IfSome, cond, Box, Global, same_Some, find, fold, IfNone, Shape, entered, built, built_leaf, new_shape, rows_at, is_simple, names_of, argument_words, label_of, subcommand_rows_of, subcommand_rows, program, with_tool, command_line, chosen_name, NamesTool, name_of, tools, Show, Simulate, Check, Record}
 use Rattle.std.proofs.lemmas.List.Sums.{fold-append}
-use Rattle.std.proofs.Common.{◌≡◌, ◌+◌, ◌<◌, ◌≤◌, arith, length, take, get_or, ◌⊎◌, inl, inr, ℕ, List, [], ◌∷◌, map, Bool, true, false, Option, Some, None, option_map, refl, ap, sym, ◌∙◌, IfSome, cond, Box, Global}
-use Rattle.std.proofs.lemmas.Option.{same_Some}
-use Rattle.std.specs.Prelude.{find, fold, IfNone}
 use Rattle.std.specs.Box.{box_value}
 use Rattle.clap.specs.Walk.{Text, answers_to, stop_after}
-use Rattle.clap.specs.Simple.{Shape, entered, built, built_leaf, new_shape, rows_at, is_simple, names_of, argument_words, label_of, subcommand_rows_of, subcommand_rows}
 use Rattle.clap.specs.Matches.{subcommand_name_of}
 use Rattle.clap.specs.Faults.{is_simple_and_free}
 use Rattle.clap.specs.declared.parser.matches.ArgMatches.{ArgMatches}
 use Rattle.clap.specs.declared.parser.matches.ArgMatches.TheViews.{out-ArgMatches, out-SubCommand}
 use Rattle.clap.specs.declared.parser.matches.SubCommand.{SubCommand}
 use Rattle.clap.proofs.OnLiterals.{clap_on_literals}
-use Rattle.fio_tool.specs.CommandLine.{program, with_tool, command_line, chosen_name, NamesTool}
-use Rattle.fio_tool.specs.CommandLine.{name_of, tools}
 use Rattle.fio_tool.specs.declared.tools.Tool.{Tool}
-use Rattle.fio_tool.specs.declared.tools.Tool.TheVariants.{Show, Simulate, Check, Record}
 
 -- clap's function of the words holds for this command line
 pub command_line-is_simple : is_simple command_line ≡ true

@@ -1,14 +1,11 @@
 -- What is shown of octets that are too many for a frame.
-use Rattle.std.proofs.Common.{◌≡◌, ℕ, ◌<◌, List, Option, Some, None, Err, refl, inl, inr, length, nat_le, option_map, slice_index_or}
+use Rattle.fio_tool.proofs.Names.{◌≡◌, ℕ, ◌<◌, List, Option, Some, None, Err, refl, inl, inr, length, nat_le, option_map, slice_index_or, same_Some, decoded_answer, decoded_command, shown_line, shown_octets}
 use Rattle.std.proofs.lemmas.Bool.{cases_Bool}
-use Rattle.std.proofs.lemmas.Option.{same_Some}
 use Rattle.fio_message.specs.declared.faults.DecodeError.TheVariants.{TooLong}
-use Rattle.fio_message.specs.Decoding.{decoded_answer, decoded_command}
 use Rattle.fio_message.specs.Texts.{fault_text}
 use Rattle.fio_message.proofs.MessageLaws.{answer_refused, command_refused}
 use Rattle.fio_show.specs.FrameLines.{shown_frame}
-use Rattle.fio_world.specs.Hexadecimal.{octets_in}
-use Rattle.fio_tool.specs.Show.{shown_line, shown_octets}
+use Rattle.fio_text.specs.Hexadecimal.{octets_in}
 
 -- more octets than a frame has are refused as that, whatever they begin with
 too_long_shown : (octets : List ℕ) (got : ℕ) → got ≡ length octets → 773 < got → shown_frame octets ≡ Err (fault_text (TooLong got))

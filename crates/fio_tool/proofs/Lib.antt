@@ -1,3 +1,4 @@
+pub mod Names
 pub mod TranscriptLemmas
 pub mod CommandLineLemmas
 pub mod LongFrames

@@ -1,5 +1,5 @@
 -- The text of the lines that are read.
-use Rattle.std.proofs.Common.{ℕ, List, refl}
+use Rattle.fio_tool.proofs.Names.{ℕ, List, refl}
 use Rattle.fio_check.proofs.Verdicts.{one_verdict}
 use Rattle.fio_tool.specs.TranscriptLaws.{IsTextOfItsLines}
 

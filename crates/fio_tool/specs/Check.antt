@@ -1,7 +1,7 @@
 -- What `check` writes of a text.
 use Rattle.std.specs.Prelude.{ℕ, Bool, true, false, List, ◌++◌, ◌&&◌, codes, decimal, not, if◌then◌else◌, Result, Ok, Err}
 use Rattle.fio_message.specs.Texts.{memory_text}
-use Rattle.fio_world.specs.Faults.{bad_line_text}
+use Rattle.fio_text.specs.LineFaults.{bad_line_text}
 use Rattle.fio_check.specs.Rules.{rule_name}
 use Rattle.fio_check.specs.declared.verdict.Verdict.{Verdict}
 use Rattle.fio_check.specs.declared.verdict.Verdict.TheVariants.{Good, Broken}

@@ -1,7 +1,7 @@
 -- What each tool writes of an input with a fault.
 use Rattle.std.specs.Prelude.{ℕ, Bool, List, ◌++◌, length, codes, nat_lt}
-use Rattle.fio_world.specs.Faults.{at_line}
-use Rattle.fio_tool.specs.declared.tool_texts.TheConstants.{MAX_INPUT}
+use Rattle.fio_text.specs.LineFaults.{at_line}
+use Rattle.fio_tool.specs.declared.reports.TheConstants.{MAX_INPUT}
 
 -- more octets than an input may have
 abbrev pub is_too_long : List ℕ → Bool

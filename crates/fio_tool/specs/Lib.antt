@@ -9,6 +9,7 @@ pub mod Check
 pub mod Record
 pub mod Recordings
 pub mod Transcript
+pub mod Judging
 pub mod TranscriptLaws
 pub mod InputFaults
 pub mod Streams

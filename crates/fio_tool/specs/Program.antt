@@ -1,7 +1,7 @@
 -- What the program writes of an input, and its exit status: for each tool the text, and whether it
 -- reports a fault.
-use Rattle.std.specs.Prelude.{◌≡◌, ◌⊎◌, ℕ, Bool, true, false, List, Option, ◌++◌, codes, Result, Ok, Err}
-use Rattle.std.specs.Io.KnownBytes.{Appends}
+use Rattle.std.specs.Prelude.{◌≡◌, ◌≢◌, ◌⊎◌, ℕ, Bool, true, false, List, Option, ◌++◌, codes, Result, Ok, Err, IfOk, IfErr}
+use Rattle.std.specs.Io.KnownBytes.{Appends, Keeps}
 use Rattle.clap.specs.Kinds.{Kinds, IsAmong}
 use Rattle.clap.specs.declared.error.kind.ErrorKind.{ErrorKind}
 use Rattle.clap.specs.declared.error.kind.ErrorKind.TheVariants.{DisplayHelp, DisplayVersion, OutOfMemory}
@@ -10,11 +10,12 @@ use Rattle.fio_tool.specs.Show.{show_text, is_show_good}
 use Rattle.fio_tool.specs.Simulate.{simulate_text, is_simulate_good}
 use Rattle.fio_tool.specs.Check.{check_text, is_check_good}
 use Rattle.fio_tool.specs.Record.{record_text, is_record_good}
-use Rattle.fio_tool.specs.Streams.{TakesInput}
+use Rattle.fio_tool.specs.Streams.{TakesAtMost, TakesInput}
 use Rattle.fio_tool.specs.declared.endings.Ending.{Ending}
 use Rattle.fio_tool.specs.declared.endings.Ending.TheVariants.{Good, Bad}
 use Rattle.fio_tool.specs.declared.endings.ToolFault.{ToolFault}
 use Rattle.fio_tool.specs.declared.endings.ToolFault.TheVariants.{Read, Write, Memory}
+use Rattle.fio_tool.specs.declared.streams.TheConstants.{MOST_READ}
 use Rattle.fio_tool.specs.declared.tools.Tool.{Tool}
 use Rattle.fio_tool.specs.declared.tools.Tool.TheVariants.{Show, Simulate, Check, Record}
 
@@ -57,6 +58,19 @@ pub record HasReported
     (tool : Tool) (input : List ℕ) (left left' held held' : Option (List ℕ)) : Type 0 where
   pub taken : TakesInput left left' input
   pub written : Appends held held' (program_text tool input)
+
+-- The tool ran, and ended so: with the text of what it read, or with a fault.
+pub record HasRun
+    (tool : Tool) (result : Result Ending ToolFault) (left left' held held' : Option (List ℕ))
+    : Type 0 where
+  -- it ended as the text says that it wrote for what it read
+  pub ok :
+      IfOk result (λ ending. (input : List ℕ)
+      × HasReported tool input left left' held held' × (ending ≡ program_ending tool input))
+  -- it took no more than it needs to know that an input is too long
+  pub taken : TakesAtMost MOST_READ left left'
+  -- after a fault other than of a write nothing is written
+  pub unwritten : IfErr result (λ fault. fault ≢ Write → Keeps held held')
 
 -- why a tool ends without its text
 abbrev pub tool_fault_text : ToolFault → List ℕ

@@ -10,7 +10,7 @@ use Rattle.fio_check.specs.declared.verdict.Verdict.{Verdict}
 use Rattle.fio_check.specs.declared.verdict.Verdict.TheVariants.{Good, Broken}
 use Rattle.fio_cpu.specs.Poller.{Polling}
 use Rattle.fio_cpu.specs.declared.record.Item.{Item}
-use Rattle.fio_world.specs.ReportLines.{item_line}
+use Rattle.fio_show.specs.EntryLines.{item_line}
 use Rattle.fio_tool.specs.Check.{is_good, trace_error_text, verdict_text}
 use Rattle.fio_tool.specs.InputFaults.{is_too_long, too_long_text}
 use Rattle.fio_tool.specs.Transcript.{transcript_in}

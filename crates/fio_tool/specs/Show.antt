@@ -2,8 +2,8 @@
 use Rattle.std.specs.Prelude.{ℕ, Bool, List, ◌&&◌, codes, not, if◌then◌else◌, Option, Some, None, Result, Ok, Err, is_ok}
 use Rattle.std.specs.List.{flat_map, list_all}
 use Rattle.fio_show.specs.FrameLines.{shown_frame}
-use Rattle.fio_world.specs.Hexadecimal.{octets_in}
-use Rattle.fio_world.specs.Lines.{lines_of, numbered}
+use Rattle.fio_text.specs.Hexadecimal.{octets_in}
+use Rattle.fio_text.specs.Lines.{lines_of, numbered}
 use Rattle.fio_tool.specs.InputFaults.{is_too_long, too_long_text, line_fault_text}
 
 -- the lines for the octets of a line, or why there are none

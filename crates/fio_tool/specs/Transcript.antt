@@ -3,15 +3,14 @@
 use Rattle.std.specs.Prelude.{◌≡◌, ◌≤◌, ℕ, Bool, true, false, List, ◌∷◌, ◌++◌, map, codes, length, Option, Some, Result, Ok, Err, option_map, option_and_then, take}
 use Rattle.std.specs.Option.{ok_or, option_or}
 use Rattle.fio_message.specs.declared.limits.TheConstants.{FRAME_OCTETS}
+use Rattle.fio_message.specs.Decoding.{answer_in, command_in}
 use Rattle.fio_check.specs.Lines.{TranscriptLine}
-use Rattle.fio_check.specs.Observations.{observation_in}
-use Rattle.fio_check.specs.declared.observation.Observation.{Observation}
 use Rattle.fio_check.specs.Verdicts.{verdict_on}
 use Rattle.fio_check.specs.declared.verdict.Verdict.{Verdict}
-use Rattle.fio_world.specs.FirstFaults.{values_or_fault}
-use Rattle.fio_world.specs.Hexadecimal.{octets_in}
-use Rattle.fio_world.specs.Lines.{lines_of, numbered}
-use Rattle.fio_world.specs.Words.{after_prefix}
+use Rattle.fio_text.specs.FirstFaults.{values_or_fault}
+use Rattle.fio_text.specs.Hexadecimal.{octets_in}
+use Rattle.fio_text.specs.Lines.{lines_of, numbered}
+use Rattle.fio_text.specs.Words.{after_prefix}
 use Rattle.fio_tool.specs.declared.transcript.lines.TraceError.{TraceError}
 use Rattle.fio_tool.specs.declared.transcript.lines.TraceError.TheVariants as faults
 
@@ -32,9 +31,10 @@ pub record IsReadFrame (line : List ℕ) (from_cpu : Bool) (count : ℕ) (room :
   pub counted : count ≡ length octets
   pub read : count ≤ FRAME_OCTETS → octets ≡ take count room
 
--- what such a frame says to the rules
-abbrev pub observation_of_frame : Bool × List ℕ → Observation
-observation_of_frame frame = observation_in frame.0 frame.1
+-- these octets spell the messages that other octets spell, whether the CPU sent or heard them
+pub record SpellsSame (shown octets : List ℕ) : Type 0 where
+  pub sent : command_in shown ≡ command_in octets
+  pub heard : answer_in shown ≡ answer_in octets
 
 -- the line of a transcript that a numbered line writes, or that it is no frame
 abbrev pub line_in : ℕ × List ℕ → Result TranscriptLine TraceError

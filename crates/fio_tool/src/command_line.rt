@@ -22,8 +22,8 @@ const ABOUT: &str =
 /// How the program is called.
 const USAGE: &str = "fio2070 COMMAND < FILE";
 
-/// The tool that the words of a command line name, the program's name first: `None` where they name
-/// no subcommand.
+/// Returns the tool that the words of a command line name, the program's name first: `None` where
+/// they name no subcommand.
 ///
 /// # Errors
 /// `clap`'s, exactly where the command line is invalid or asks for help or the version, or where an
@@ -41,7 +41,7 @@ pub fn choose<'a>(alloc: Global, words: &'a [&'a str]) -> Result<Option<Tool>, E
     Ok(tool_met(&matches))
 }
 
-/// The tool whose subcommand was met, if one was.
+/// Returns the tool whose subcommand was met, if one was.
 fn tool_met(matches: &ArgMatches<'_>) -> Option<Tool>
     ensures known { IfSome result (λ tool.
         subcommand_name_of matches.now ≡ Some (name_of tool)) }
@@ -51,7 +51,7 @@ fn tool_met(matches: &ArgMatches<'_>) -> Option<Tool>
     tool_named(matches.subcommand_name()?)
 }
 
-/// The command line, with a subcommand for each tool.
+/// Returns the command line, with a subcommand for each tool.
 fn command_line<'a>(alloc: Global) -> Result<Command<'a>, AllocError>
     ensures { IfOk result (λ command. app_of command ≡ command_line) }
 {
@@ -62,7 +62,7 @@ fn command_line<'a>(alloc: Global) -> Result<Command<'a>, AllocError>
     Ok(command)
 }
 
-/// The command line without its subcommands.
+/// Returns the command line without its subcommands.
 fn program<'a>(alloc: Global) -> Command<'a>
     ensures { app_of result ≡ program }
 {
@@ -74,7 +74,7 @@ fn program<'a>(alloc: Global) -> Command<'a>
         .disable_help_subcommand(true)
 }
 
-/// The subcommand of a tool, which has no words of its own.
+/// Returns the subcommand of a tool, which has no words of its own.
 fn subcommand<'a>(alloc: Global, tool: Tool) -> Command<'a>
     ensures shape { shape_of result ≡ new_shape (name_of tool) }
     ensures local { (fields_of result).has_globals ≡ false }
@@ -90,7 +90,7 @@ fn subcommand<'a>(alloc: Global, tool: Tool) -> Command<'a>
         .after_help(after_help)
 }
 
-/// The tool of a subcommand.
+/// Returns the tool of a subcommand.
 fn tool_named(name: &str) -> Option<Tool>
     ensures known { IfSome result (λ tool. name_of tool ≡ name.now) }
     ensures unknown { IfNone result ((tool : Tool) → name_of tool ≡ name.now → ⊥) }

@@ -73,7 +73,7 @@ impl From<AllocError> for ToolFault {
     }
 }
 
-/// The exit status after a tool.
+/// Returns the exit status after a tool.
 pub(crate) fn status_of(ending: Result<Ending, ToolFault>) -> u8
     ensures { result ≡ status_of ending }
 {

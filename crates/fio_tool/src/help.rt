@@ -107,10 +107,12 @@ Writes:  what the CPU of the transcript recorded: `record N`, and then its N ite
          where an overflow pushed entries out, and each entry with its stamp and its wide
          time. Where an entry breaks a rule on content, only the items above the first
          such entry, and then `line L input I breaks RULE` with its line and the first of:
-           order      its wide time is before that of the entry before it
-           alternate  it has the state of the latest entry of the same input: an entry
-                      is lost, doubled or turned
-           apart      it is nearer to that entry than the filter for the change
+           order      it has a wide time before that of the entry above it: two are
+                      swapped, or the module restarted
+           alternate  it has the state of the latest entry of its input: one is lost,
+                      doubled or turned
+           apart      it has the other state than the latest entry of its input, but is
+                      nearer to it than the filter for the change
          Gap marks, loads of the counter and configurations lift these rules, as
          docs/FORMATS.md says. Where a line breaks a rule or is no frame, what fio2070
          check writes, and no record. For the rules see fio2070 check --help, for stamp

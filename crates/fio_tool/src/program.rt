@@ -91,7 +91,7 @@ fn report_tool<R: Read, W: Write>(alloc: Global, tool: Tool, reader: &mut R, wri
     status_of(ending)
 }
 
-/// The line that reports a tool's fault.
+/// Returns the line that reports a tool's fault.
 fn fault_line(fault: ToolFault) -> ArrayString<23>
     ensures { result.bytes ≡ fault_line fault }
 {
@@ -102,7 +102,7 @@ fn fault_line(fault: ToolFault) -> ArrayString<23>
     line
 }
 
-/// The line for a command line that names no subcommand.
+/// Returns the line for a command line that names no subcommand.
 fn no_subcommand_line() -> &'static str
     ensures { result.now ≡ no_subcommand_line }
 {
@@ -125,7 +125,7 @@ fn refuse<W: Write>(alloc: Global, error: &clap::Error, writer: &mut W) -> u8
     3
 }
 
-/// The exit status where `clap` gives an error of this kind.
+/// Returns the exit status where `clap` gives an error of this kind.
 fn refusal_status(kind: ErrorKind) -> u8
     ensures status { result ≡ refusal_status kind }
     ensures known { result ≤ 3 }

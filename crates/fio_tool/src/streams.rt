@@ -6,8 +6,8 @@ ghost use Rattle.fio_tool.specs.Streams.{TakesAtMost, TakesInput};
 ghost use Rattle.fio_tool.specs.Program.{ending_of};
 
 use crate::endings::{Ending, ToolFault};
-use crate::tool_texts::MAX_INPUT;
-use fio_world::Report;
+use crate::reports::MAX_INPUT;
+use fio_text::Report;
 use std::alloc::Global;
 use std::io::{Read, Write};
 
@@ -17,7 +17,7 @@ pub(crate) const MOST_READ: usize = MAX_INPUT + 1;
 /// The most octets that are read at a time.
 const READ: usize = 65_536;
 
-/// The input whole, or the front of one that is too long.
+/// Returns the input whole, or the front of one that is too long.
 pub(crate) fn read_input<R: Read>(alloc: Global, reader: &mut R) -> Result<Vec<u8>, ToolFault>
     ensures ok { IfOk result (λ input.
         TakesInput (R.remaining reader.old) (R.remaining reader.new) input.items) }

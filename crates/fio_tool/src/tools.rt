@@ -1,16 +1,13 @@
 //! The tools of the program, over any reader and writer.
-ghost use Rattle.std.specs.Prelude.{◌≡◌, ◌≢◌, IfOk, IfErr, List, ℕ};
-ghost use Rattle.std.specs.Io.KnownBytes.{Keeps};
-ghost use Rattle.fio_tool.specs.Program.{HasReported, is_program_good, program_ending, program_text};
-ghost use Rattle.fio_tool.specs.Streams.{TakesAtMost};
-ghost use Rattle.fio_tool.specs.declared.streams.TheConstants.{MOST_READ};
+ghost use Rattle.std.specs.Prelude.{◌≡◌, IfOk};
+ghost use Rattle.fio_tool.specs.Program.{HasRun, is_program_good, program_text};
 
 use crate::endings::{Ending, ToolFault};
 use crate::help;
+use crate::reports::{check_text, record_text, show_text, simulate_text};
 use crate::streams::{read_input, write_report};
-use crate::tool_texts::{check_text, record_text, show_text, simulate_text};
 use fio_message::Memory;
-use fio_world::Report;
+use fio_text::Report;
 use std::alloc::Global;
 use std::io::{Read, Write};
 
@@ -46,7 +43,7 @@ impl Tool {
     /// The tools, in the order in which help lists them.
     pub(crate) const ALL: [Tool; 4] = [Tool::Show, Tool::Simulate, Tool::Check, Tool::Record];
 
-    /// What the command line says of the tool.
+    /// Returns what the command line says of the tool.
     pub(crate) fn words(self) -> Words
         ensures { result.name.now ≡ name_of self }
     {
@@ -78,7 +75,7 @@ impl Tool {
         }
     }
 
-    /// The text that the tool writes for an input.
+    /// Returns the text that the tool writes for an input.
     fn text(self, alloc: Global, input: &[u8]) -> Result<Report, Memory>
         ensures text { IfOk result (λ report. report.text.items ≡ program_text self input.now) }
         ensures good { IfOk result (λ report. report.good ≡ is_program_good self input.now) }
@@ -104,13 +101,8 @@ pub(crate) fn run_tool<R: Read, W: Write>(
     reader: &mut R,
     writer: &mut W,
 ) -> Result<Ending, ToolFault>
-    ensures ok { IfOk result (λ ending. (input : List ℕ)
-        × HasReported tool input (R.remaining reader.old) (R.remaining reader.new)
-        (W.contents writer.old) (W.contents writer.new)
-        × (ending ≡ program_ending tool input)) }
-    ensures taken { TakesAtMost MOST_READ (R.remaining reader.old) (R.remaining reader.new) }
-    ensures unwritten { IfErr result (λ fault. fault ≢ ToolFault.Write
-        → Keeps (W.contents writer.old) (W.contents writer.new)) }
+    ensures { HasRun tool result (R.remaining reader.old) (R.remaining reader.new)
+        (W.contents writer.old) (W.contents writer.new) }
 {
     let input = read_input(alloc, reader)?;
     let report = tool.text(alloc, input.as_slice())?;
@@ -128,13 +120,8 @@ pub fn show<R: Read, W: Write>(
     reader: &mut R,
     writer: &mut W,
 ) -> Result<Ending, ToolFault>
-    ensures ok { IfOk result (λ ending. (input : List ℕ)
-        × HasReported Tool.Show input (R.remaining reader.old) (R.remaining reader.new)
-        (W.contents writer.old) (W.contents writer.new)
-        × (ending ≡ program_ending Tool.Show input)) }
-    ensures taken { TakesAtMost MOST_READ (R.remaining reader.old) (R.remaining reader.new) }
-    ensures unwritten { IfErr result (λ fault. fault ≢ ToolFault.Write
-        → Keeps (W.contents writer.old) (W.contents writer.new)) }
+    ensures { HasRun Tool.Show result (R.remaining reader.old) (R.remaining reader.new)
+        (W.contents writer.old) (W.contents writer.new) }
 {
     run_tool(alloc, Tool::Show, reader, writer)
 }
@@ -150,13 +137,8 @@ pub fn simulate<R: Read, W: Write>(
     reader: &mut R,
     writer: &mut W,
 ) -> Result<Ending, ToolFault>
-    ensures ok { IfOk result (λ ending. (input : List ℕ)
-        × HasReported Tool.Simulate input (R.remaining reader.old) (R.remaining reader.new)
-        (W.contents writer.old) (W.contents writer.new)
-        × (ending ≡ program_ending Tool.Simulate input)) }
-    ensures taken { TakesAtMost MOST_READ (R.remaining reader.old) (R.remaining reader.new) }
-    ensures unwritten { IfErr result (λ fault. fault ≢ ToolFault.Write
-        → Keeps (W.contents writer.old) (W.contents writer.new)) }
+    ensures { HasRun Tool.Simulate result (R.remaining reader.old) (R.remaining reader.new)
+        (W.contents writer.old) (W.contents writer.new) }
 {
     run_tool(alloc, Tool::Simulate, reader, writer)
 }
@@ -173,13 +155,8 @@ pub fn check<R: Read, W: Write>(
     reader: &mut R,
     writer: &mut W,
 ) -> Result<Ending, ToolFault>
-    ensures ok { IfOk result (λ ending. (input : List ℕ)
-        × HasReported Tool.Check input (R.remaining reader.old) (R.remaining reader.new)
-        (W.contents writer.old) (W.contents writer.new)
-        × (ending ≡ program_ending Tool.Check input)) }
-    ensures taken { TakesAtMost MOST_READ (R.remaining reader.old) (R.remaining reader.new) }
-    ensures unwritten { IfErr result (λ fault. fault ≢ ToolFault.Write
-        → Keeps (W.contents writer.old) (W.contents writer.new)) }
+    ensures { HasRun Tool.Check result (R.remaining reader.old) (R.remaining reader.new)
+        (W.contents writer.old) (W.contents writer.new) }
 {
     run_tool(alloc, Tool::Check, reader, writer)
 }
@@ -196,13 +173,8 @@ pub fn record<R: Read, W: Write>(
     reader: &mut R,
     writer: &mut W,
 ) -> Result<Ending, ToolFault>
-    ensures ok { IfOk result (λ ending. (input : List ℕ)
-        × HasReported Tool.Record input (R.remaining reader.old) (R.remaining reader.new)
-        (W.contents writer.old) (W.contents writer.new)
-        × (ending ≡ program_ending Tool.Record input)) }
-    ensures taken { TakesAtMost MOST_READ (R.remaining reader.old) (R.remaining reader.new) }
-    ensures unwritten { IfErr result (λ fault. fault ≢ ToolFault.Write
-        → Keeps (W.contents writer.old) (W.contents writer.new)) }
+    ensures { HasRun Tool.Record result (R.remaining reader.old) (R.remaining reader.new)
+        (W.contents writer.old) (W.contents writer.new) }
 {
     run_tool(alloc, Tool::Record, reader, writer)
 }

@@ -1,12 +1,9 @@
 -- Frames that are end to end, one by one.
-use Rattle.std.proofs.Common.{◌≡◌, ℕ, zero, suc, ◌+◌, ◌-◌, ◌<◌, ◌≤◌, ◌==◌, true, List, [], ◌∷◌, ◌++◌, length, take, drop, Some, None, slice_get, get_or, refl, ap, sym, ◌∙◌, arith}
+use Rattle.fio_world.proofs.Names.{◌≡◌, ℕ, zero, suc, ◌+◌, ◌-◌, ◌<◌, ◌≤◌, ◌==◌, true, List, [], ◌∷◌, ◌++◌, length, take, drop, Some, None, slice_get, get_or, refl, ap, sym, ◌∙◌, arith, take-append-le, drop-append-le, length-drop, take_all, item_numbered, between, frames_in, is_cut, are_short, start_at}
 use Rattle.std.specs.Prelude.{nat_le}
 use Rattle.std.proofs.lemmas.Bool.{and_parts, and_from, leb-true, le-leb, eqb-true, eq-eqb}
-use Rattle.std.proofs.lemmas.List.{take-append-le, drop-append-le, length-drop, take_all}
 use Rattle.std.proofs.Math.Seq.{drop-append_seam}
 use Rattle.fio_message.specs.declared.limits.TheConstants.{FRAME_OCTETS}
-use Rattle.fio_world.specs.Link.{item_numbered}
-use Rattle.fio_world.specs.EndToEnd.{between, frames_in, is_cut, are_short, start_at}
 
 -- as many frames as ends
 pub length-frames : (octets : List ℕ) (start : ℕ) (ends : List ℕ) → length (frames_in octets start ends) ≡ length ends

@@ -1,13 +1,8 @@
--- Words of more octets than a frame holds.
-use Rattle.std.proofs.Common.{◌≡◌, ℕ, ◌<◌, List, length, Option, Some, None, Err, option_map, refl, ap, sym}
-use Rattle.std.specs.Option.{option_and_then, ok_or}
-use Rattle.fio_message.specs.Decoding.{command_in, decoded_command}
-use Rattle.fio_message.specs.declared.commands.Command.{Command}
+-- Words that name octets, and the commands that these spell.
+use Rattle.fio_world.proofs.Names.{◌≡◌, ◌≢◌, ℕ, ◌<◌, ◌≤◌, List, length, Option, Some, None, Err, option_map, refl, ap, sym, ◌∙◌, arith, option_and_then, ok_or, command_in, decoded_command, polled_number, Command, PollIsOurs, sending_refusal, frame_at, sending_at, command_refused, command_found}
 use Rattle.fio_message.specs.declared.faults.DecodeError.{DecodeError}
 use Rattle.fio_message.specs.declared.faults.DecodeError.TheVariants.{TooLong}
 use Rattle.fio_message.specs.declared.limits.TheConstants.{FRAME_OCTETS}
-use Rattle.fio_message.proofs.MessageLaws.{command_refused}
-use Rattle.fio_world.specs.EventLines.{frame_at, sending_at}
 use Rattle.fio_world.specs.declared.script.ScriptError.TheVariants.{BadFrame}
 
 -- more octets than a frame holds are too long
@@ -25,15 +20,31 @@ refused_none : (found : Option Command) (fault other : DecodeError) → ok_or fo
 refused_none None fault other is = refl
 refused_none (Some command) fault other is = absurd (cc is)
 
-pub decodes_none : (octets : List ℕ) (fault : DecodeError) → decoded_command octets ≡ Err fault
-    → None ≡ command_in octets
-decodes_none octets fault is = sym (refused_none (command_in octets) _ fault is)
+decodes_none : (octets : List ℕ) (fault : DecodeError) → decoded_command octets ≡ Err fault
+    → command_in octets ≡ None
+decodes_none octets fault is = refused_none (command_in octets) _ fault is
 
--- no more do octets that are too many
-pub no_command : (found : Option (List ℕ)) (count : ℕ)
-    → option_map (length {A = ℕ}) found ≡ Some count → FRAME_OCTETS < count
-    → None ≡ option_and_then command_in found
-no_command None count counted long = absurd (cc counted)
-no_command (Some octets) count counted long =
-    let many : count ≡ length octets = cc counted in
-    decodes_none octets (TooLong count) ((command_refused octets (TooLong count)).1 (many, long))
+-- a command that is found is the one that was found
+found_command : (found : Option Command) (is_one : found ≢ None) → found ≡ Some (command_found found is_one)
+found_command None is_one = absurd (is_one refl)
+found_command (Some command) is_one = refl
+
+module _ (named : Option (List ℕ)) (is_command : option_and_then command_in named ≢ None) where
+  -- the octets of a command fit in a frame
+  pub fits : (count : ℕ) → Some count ≡ option_map (length {A = ℕ}) named → count ≤ FRAME_OCTETS
+  fits count counted = omega (arith, by_octets named refl)
+    where
+      by_octets : (octets : Option (List ℕ)) → named ≡ octets → FRAME_OCTETS < count → ⊥
+      by_octets None is long = cc (counted, is)
+      by_octets (Some octets) is long =
+          let many : count ≡ length octets = cc (counted, is) in
+          is_command (rw is (decodes_none octets (TooLong count) ((command_refused octets (TooLong count)).1 (many, long))))
+
+  -- they spell it
+  pub spells : (octets : List ℕ) → named ≡ Some octets
+      → command_in octets ≡ Some (command_found (option_and_then command_in named) is_command)
+  spells octets is = ap (λ found. option_and_then command_in found) (sym is) ∙ found_command (option_and_then command_in named) is_command
+
+-- the machine refuses polls alone
+pub refuses_polls : (command : Command) → sending_refusal command ≡ option_map (λ number. PollIsOurs) (polled_number (Some command))
+refuses_polls command = grind arith

@@ -1,23 +1,10 @@
-use Rattle.std.proofs.Common.{◌≡◌, ◌≢◌, ℕ, ◌+◌, ◌-◌, ◌<◌, ◌≤◌, length, map, take, zero, suc, Bool, true, false, List, [], ◌∷◌, ◌++◌, Option, Some, None, Result, Ok, Err, codes, refl, ap, sym, append_assoc, append-nil, arith, ◌∙◌}
-use Rattle.std.specs.Prelude.{IfSome}
-use Rattle.std.specs.Option.{option_map_or, ok_or}
-use Rattle.std.proofs.lemmas.List.{take_all, drop_all, length-map, map-append}
-use Rattle.fio_message.specs.Decoding.{decoded_command}
-use Rattle.fio_message.specs.declared.commands.Command.{Command}
+use Rattle.fio_world.proofs.Names.{◌≡◌, ◌≢◌, ℕ, ◌+◌, ◌-◌, ◌<◌, ◌≤◌, length, map, take, zero, suc, Bool, true, false, List, [], ◌∷◌, ◌++◌, Option, Some, None, Result, Ok, Err, codes, refl, ap, sym, append_assoc, append-nil, arith, ◌∙◌, IfSome, option_map_or, ok_or, take_all, drop_all, length-map, map-append, decoded_command, Command, settings_with, event_at, IsReadAs, plain_event, frame_at, sending_at, octets_in, is_skipped, numbered, Scenario, readings, script_events, HasGoodFront, HaveGoodFront, event_of, Event, MAX_EVENTS}
 use Rattle.fio_message.specs.declared.faults.DecodeError.{DecodeError}
-use Rattle.fio_module.specs.Settings.{settings_with}
-use Rattle.fio_world.specs.FirstFaults.{values_or_fault, with_first}
-use Rattle.fio_world.specs.EventLines.{event_at, IsReadAs, plain_event, frame_at, sending_at}
+use Rattle.fio_text.specs.FirstFaults.{values_or_fault, with_first}
 use Rattle.fio_world.specs.Headers.{header_of}
-use Rattle.fio_world.specs.Hexadecimal.{octets_in}
-use Rattle.fio_world.specs.Lines.{is_skipped, numbered}
-use Rattle.fio_world.specs.Scripts.{Scenario, readings, events_of, HasGoodFront, HaveGoodFront}
-use Rattle.fio_world.specs.Steps.{event_found, event_of}
-use Rattle.fio_world.specs.Words.{after_prefix}
-use Rattle.fio_world.specs.declared.event.Event.{Event}
-use Rattle.fio_world.specs.declared.script.events.TheConstants.{MAX_EVENTS}
+use Rattle.fio_text.specs.Words.{after_prefix}
 use Rattle.fio_world.specs.declared.script.header.Header.{Header}
-use Rattle.fio_world.specs.declared.script.steps.EventForm.{EventForm}
+use Rattle.fio_world.specs.declared.script.steps.ScriptStep.{ScriptStep}
 use Rattle.fio_world.specs.declared.script.ScriptError.{ScriptError}
 use Rattle.fio_world.specs.declared.script.ScriptError.TheVariants.{BadLine, Memory, TooManyEvents}
 
@@ -108,25 +95,19 @@ read_at number other None None event is = absurd (cc is)
 read_at number other None (Some plain) event is = is
 read_at number other (Some word) plain event is = framed_at number other (octets_in word) event is
 
-pub is_read_as : (restarts : Bool) (number : ℕ) (line : List ℕ) (found : Option Event) (is_one : found ≢ None)
-    → event_at restarts (number, line) ≡ Ok (event_found found is_one) → IsReadAs restarts line found
-is_read_as restarts number line None is_one is = absurd (is_one refl)
-is_read_as restarts number line (Some event) is_one is = λ other.
+pub is_read_as : (restarts : Bool) (number : ℕ) (line : List ℕ) (event : Event)
+    → event_at restarts (number, line) ≡ Ok event → IsReadAs restarts line event
+is_read_as restarts number line event is = λ other.
     read_at number other (after_prefix (codes "send ") line) (plain_event restarts line) event is
 
-read_again : (restarts : Bool) (number : ℕ) (line : List ℕ) (found : Option Event) → IsReadAs restarts line found
-    → (is_one : found ≢ None) → event_at restarts (number, line) ≡ Ok (event_found found is_one)
-read_again restarts number line None read is_one = absurd read
-read_again restarts number line (Some event) read is_one = read number
-
 -- the same line is read as the same event
-pub same_line : (restarts : Bool) (number : ℕ) (above line : List ℕ) (found : Option EventForm) (form : EventForm)
-    → IfSome found (λ form. IsReadAs restarts above (event_of form)) → found ≡ Some form → above ≡ line
-    → (is_one : event_of form ≢ None) → Ok (event_found (event_of form) is_one) ≡ event_at restarts (number, line)
-same_line restarts number above line None form read is same is_one = absurd (cc is)
-same_line restarts number above line (Some other) form read is same is_one =
-    let form_is : other ≡ form = cc is in
-    rw (← same) (sym (read_again restarts number above (event_of form) (rw (← form_is) read) is_one))
+pub same_line : (restarts : Bool) (number : ℕ) (above line : List ℕ) (found : Option ScriptStep) (step : ScriptStep)
+    → IfSome found (λ step. IsReadAs restarts above (event_of step)) → found ≡ Some step → above ≡ line
+    → Ok (event_of step) ≡ event_at restarts (number, line)
+same_line restarts number above line None step read is same = absurd (cc is)
+same_line restarts number above line (Some other) step read is same =
+    let step_is : other ≡ step = cc is in
+    rw (← same, ← step_is) (sym (read number))
 
 -- lines that give these events are above the lines that are left
 pub record HaveRead (restarts : Bool) (all left : List (ℕ × List ℕ)) (events : List Event) : Type 0 where
@@ -184,13 +165,13 @@ pub good_front : (restarts : Bool) (lines : List (List ℕ)) (left : List (ℕ �
 good_front restarts lines left events read few some =
     let front = numbered-front 2 lines read.above left read.all_are in
     let as_many : length read.above ≡ length events = sym (length-map read.above (event_at restarts)) ∙ ap length read.give ∙ length-map {A = Event} {B = Result Event ScriptError} events Ok in
-    let good : events_of restarts (take front.0 lines) ≡ Ok events =
+    let good : script_events restarts (take front.0 lines) ≡ Ok events =
     rw (front.1, readings-few restarts read.above (rw as_many few), read.give) (values_or_fault-values events) in
     (front.0, events, good, some)
 
 -- lines that give some event are a good front
 pub whole_front : (restarts : Bool) (lines : List (List ℕ)) (events : List Event)
-    → events_of restarts lines ≡ Ok events → events ≢ [] → HaveGoodFront restarts lines
+    → script_events restarts lines ≡ Ok events → events ≢ [] → HaveGoodFront restarts lines
 whole_front restarts lines events good some =
     (length lines, events, rw (take_all (length lines) lines (omega arith)) good, some)
 
@@ -222,3 +203,8 @@ no_memory restarts line is = reads line.0 (after_prefix (codes "send ") line.1) 
 pub more_than_none : (events : List Event) (event : Event) → events ++ event ∷ [] ≢ []
 more_than_none [] event none = cc none
 more_than_none (first ∷ events) event none = cc none
+
+-- some steps are some events
+pub some_events : (steps : List ScriptStep) → steps ≢ [] → map event_of steps ≢ []
+some_events [] some none = some refl
+some_events (step ∷ steps) some none = cc none

@@ -1,17 +1,6 @@
-use Rattle.std.proofs.Common.{◌≡◌, ℕ, ◌+◌, ◌<◌, ◌≤◌, suc, List, ◌∷◌, ◌++◌, Option, Some, None, true, false, drop, length, map, get_or, refl, sym, ◌∙◌, ap, add-one, drop-cons, append_assoc}
-use Rattle.std.specs.Prelude.{IsSomeAnd}
+use Rattle.fio_world.proofs.Names.{◌≡◌, ℕ, ◌+◌, ◌<◌, ◌≤◌, suc, List, ◌∷◌, ◌++◌, Option, Some, None, true, false, drop, length, map, get_or, refl, sym, ◌∙◌, ap, add-one, drop-cons, append_assoc, IsSomeAnd, drop_all, Event, WorldError, Ends, Machine, Refusal, NotSent, OutOfOrder, PollIsOurs, refusal, after, outcome_line, refused_line, refusal_in, ending_text, Report, after_text, report_from, unless_refused, Settings, ShowsMachine, IsDone, IsFault, outcome_of, error_of}
 use Rattle.std.proofs.Math.ListN.{get_or-map}
-use Rattle.std.proofs.lemmas.List.{drop_all}
-use Rattle.fio_world.specs.declared.event.Event.{Event}
 use Rattle.fio_world.specs.declared.outcome.Outcome.{Outcome}
-use Rattle.fio_world.specs.declared.outcome.WorldError.{WorldError}
-use Rattle.fio_world.specs.Ends.{Ends}
-use Rattle.fio_world.specs.Link.{Machine, Refusal, NotSent, OutOfOrder, PollIsOurs, refusal, after}
-use Rattle.fio_world.specs.ReportLines.{outcome_line, refused_line, refusal_in, ending_text}
-use Rattle.fio_world.specs.Reports.{Report, after_text, report_from, unless_refused}
-use Rattle.fio_module.specs.Settings.{Settings}
-use Rattle.fio_world.specs.Worlds.{ShowsMachine, IsDone, IsFault}
-use Rattle.fio_world.specs.Outcomes.{outcome_of, error_of}
 
 -- after so many of these events the world shows a machine, and what is reported from it on completes this text to the report
 pub record ReportGoesOn (settings : Settings) (first : ℕ) (events : List Event) (report : Report) (text : List ℕ) (place : ℕ) (world : Ends) : Type 0 where

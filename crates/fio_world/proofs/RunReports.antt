@@ -1,10 +1,4 @@
-use Rattle.std.proofs.Common.{◌≡◌, ℕ, ◌+◌, List, [], ◌∷◌, ◌++◌, Option, Some, None, true, refl, append_assoc}
-use Rattle.fio_module.specs.Settings.{Settings}
-use Rattle.fio_world.specs.declared.event.Event.{Event}
-use Rattle.fio_world.specs.Link.{Machine, Refusal, start, refusal, after, Leads}
-use Rattle.fio_world.specs.ReportLines.{ending_text}
-use Rattle.fio_world.specs.Reports.{Report, report_from, unless_refused, EndsWith, GoodReportIsOfWholeRun}
-use Rattle.fio_world.specs.Scripts.{Scenario}
+use Rattle.fio_world.proofs.Names.{◌≡◌, ℕ, ◌+◌, List, [], ◌∷◌, ◌++◌, Option, Some, None, true, refl, append_assoc, Settings, Event, Machine, Refusal, start, refusal, after, Leads, ending_text, Report, report_from, unless_refused, EndsWith, GoodReportIsOfWholeRun, Scenario}
 
 -- what is reported of events that are all done is good
 good_from : (settings : Settings) (first number : ℕ) (machine : Machine) (events : List Event) (last : Machine)

@@ -1,36 +1,28 @@
 -- A world shows the machine after each event.
-use Rattle.std.proofs.Common.{◌≡◌, ℕ, zero, suc, ◌+◌, ◌-◌, ◌%◌, ◌==◌, Bool, true, false, List, [], ◌∷◌, ◌++◌, length, map, Option, Some, None, Result, Ok, Err, slice_get, add-one, refl, ap, sym, subst, ◌∙◌, arith, if◌then◌else◌}
-use Rattle.std.specs.Option.{option_map, unwrap_or}
+use Rattle.fio_world.proofs.Names.{◌≡◌, ℕ, zero, suc, ◌+◌, ◌-◌, ◌%◌, ◌==◌, Bool, true, false, List, [], ◌∷◌, ◌++◌, length, map, Option, Some, None, Result, Ok, Err, slice_get, add-one, refl, ap, sym, subst, ◌∙◌, arith, if◌then◌else◌, unwrap_or, length-map, map-append, length_push, Command, decoded_answer, block_in, Settings, Event, WorldError, Machine, SentFrame, Refusal, start, number_of, item_numbered, delivery_refusal, refusal, sending_refusal, answer_frames, after_delivery_to_module, after_delivered_block, after_delivery_to_cpu, after, Leads, polling_of, Ends, octets_sent, ShowsMachine, AddsFrom, TakesMemory, IsFault, IsDone, Happens, IsWorldAfter, events_done, sent_after, replied_after, received_outcome, heard_outcome}
+use Rattle.std.specs.Option.{option_map}
+use Rattle.std.specs.Prelude.{IfOk, IfErr, OnOk}
 use Rattle.std.specs.Result.{OnErr}
-use Rattle.std.proofs.lemmas.List.{length-map, map-append, length_push}
 use Rattle.std.proofs.lemmas.Option.{slice_get-map}
 use Rattle.arrayvec.specs.ArrayVec.{ArrayVec}
 use Rattle.fio_message.specs.declared.answers.Answer.{Answer}
-use Rattle.fio_message.specs.declared.commands.Command.{Command}
 use Rattle.fio_message.specs.Answers.{answer_octets}
 use Rattle.fio_message.specs.Commands.{command_octets}
 use Rattle.fio_message.specs.Blocks.{Block}
-use Rattle.fio_message.specs.Decoding.{decoded_answer, block_in}
-use Rattle.fio_module.specs.Settings.{Settings}
 use Rattle.fio_module.specs.Life.{Received}
 use Rattle.fio_module.specs.Replies.{reply_to, Encodes}
-use Rattle.fio_module.specs.Module as modules
 use Rattle.fio_cpu.specs.Poller.{Polling}
 use Rattle.fio_cpu.specs.declared.record.Item.{Item}
 use Rattle.fio_cpu.specs.Record.{items_of_block}
 use Rattle.fio_cpu.specs.Hearing.{heard_as, after_hearing, AddsItems}
-use Rattle.fio_world.specs.declared.event.Event.{Event}
-use Rattle.fio_world.specs.declared.event.Event.TheVariants as events
 use Rattle.fio_world.specs.declared.outcome.Outcome.{Outcome}
+use Rattle.fio_world.specs.declared.world.effect.Effect.{Effect}
+use Rattle.fio_world.specs.Effects.{octets_numbered, outcome_in, result_in}
+use Rattle.fio_link.proofs.Places.{get_push}
+use Rattle.fio_module.specs.Module as modules
+use Rattle.fio_link.specs.declared.event.Event.TheVariants as events
 use Rattle.fio_world.specs.declared.outcome.Outcome.TheVariants as outcomes
-use Rattle.fio_world.specs.declared.outcome.WorldError.{WorldError}
 use Rattle.fio_world.specs.declared.outcome.WorldError.TheVariants as errors
-use Rattle.fio_world.specs.Link.{Machine, SentFrame, Refusal, start, number_of, item_numbered, delivery_refusal, refusal, after_sending, answer_frames, after_delivery_to_module, after_delivered_block, after_delivery_to_cpu, after, Leads}
-use Rattle.fio_world.specs.Effects.{octets_numbered}
-use Rattle.fio_world.specs.Ends.{Ends}
-use Rattle.fio_world.proofs.Places.{get_push}
-use Rattle.fio_world.specs.Worlds.{octets_sent, polling_of, ShowsMachine, AddsFrom, TakesMemory, IsFault, IsDone, Steps, IsWorldAfter, events_done}
-use Rattle.fio_world.specs.Outcomes.{sent_after, replied_after, received_outcome, heard_outcome}
 
 -- the frame with a number, and its octets where the octets of all frames are listed
 item_numbered-map : (frames : List SentFrame) (index : ℕ) → item_numbered (map octets_sent frames) index ≡ option_map octets_sent (item_numbered frames index)
@@ -124,16 +116,31 @@ module _ (settings : Settings) (first : ℕ) (machine : Machine) (world : Ends) 
   found_to_cpu : (index : ℕ) (octets : List ℕ) → item_numbered world.to_cpu index ≡ Some octets → (frame : SentFrame) × (item_numbered machine.to_cpu index ≡ Some frame) × (frame.octets ≡ octets)
   found_to_cpu index octets at = from_mapped (item_numbered machine.to_cpu index) octets (sym (item_numbered-map machine.to_cpu index) ∙ ap (λ fs. item_numbered fs index) (sym s.frames_to_cpu) ∙ at)
 
-  -- the CPU sent one more command
-  pub shown_sent : (command : Command) → ShowsMachine settings first (after_sending machine command) (record world { to_module = world.to_module ++ command_octets command ∷ [] })
-  shown_sent command = record {
-    history = s.history;
-    polling = s.polling;
-    frames_to_module = ap (λ fs. fs ++ command_octets command ∷ []) s.frames_to_module ∙ sym (map-append octets_sent machine.to_module (record { octets = command_octets command; round = machine.round } ∷ []));
-    frames_to_cpu = s.frames_to_cpu;
-    last_to_module = s.last_to_module;
-    last_to_cpu = s.last_to_cpu;
+  -- the CPU sent the octets of a command that is no poll, or there was no memory for them
+  pub sent_octets : (command : Command) (octets : List ℕ) (result : Result Effect WorldError) (new : Ends)
+      → sending_refusal command ≡ None → octets ≡ command_octets command
+      → IfOk result (λ effect. outcome_in new effect ≡ outcomes.Sent (length world.to_module + 1) (record { items = octets }))
+      → OnOk result (new ≡ record world { to_module = world.to_module ++ octets ∷ [] })
+      → IfErr result (λ fault. fault ≡ errors.Memory)
+      → Happens settings first machine (events.Send command) (result_in new result) new
+  sent_octets command octets (Ok effect) new allowed spelled outcome added fault = record {
+    fine = allowed;
+    outcome =
+        outcome ∙ ap (λ count. sent_after count octets) (ap length s.frames_to_module ∙ length-map machine.to_module octets_sent)
+        ∙ ap (sent_after (length machine.to_module)) spelled;
+    shown = rw added (record {
+      history = s.history;
+      polling = s.polling;
+      frames_to_module =
+          ap (λ frames. frames ++ octets ∷ []) s.frames_to_module
+          ∙ ap (λ os. map octets_sent machine.to_module ++ os ∷ []) spelled
+          ∙ sym (map-append octets_sent machine.to_module (record { octets = command_octets command; round = machine.round } ∷ []));
+      frames_to_cpu = s.frames_to_cpu;
+      last_to_module = s.last_to_module;
+      last_to_cpu = s.last_to_cpu;
+    });
   }
+  sent_octets command octets (Err fault) new allowed spelled outcome added is = rw allowed (is, tt)
 
   -- the module received the frame with this number
   pub done_received : (index : ℕ) (octets : List ℕ) (new : Ends)
@@ -248,11 +255,6 @@ module _ (settings : Settings) (first : ℕ) (machine : Machine) (world : Ends) 
       → IsFault (refusal machine (events.ToCpu index)) (TakesMemory first machine (events.ToCpu index)) fault
   fault_to_cpu index fault r = with_takes (refusal machine (events.ToCpu index)) (TakesMemory first machine (events.ToCpu index)) fault (subst (λ o. IsFault o ⊥ fault) (refusal-to_cpu index) r)
 
-  -- there was no place for the module's answer
-  pub fault_received : (index : ℕ) → delivery_refusal (length world.to_module) world.last_to_module index ≡ None
-      → IsFault (refusal machine (events.ToModule index)) (TakesMemory first machine (events.ToModule index)) errors.Memory
-  fault_received index fine = subst (λ r. IsFault r (Unit {0}) errors.Memory) (sym (sym (refusal-to_module index) ∙ fine)) (refl, tt)
-
 -- a run and one event more
 leads-push : (settings : Settings) (first : ℕ) (from to : Machine) (done : List Event) (event : Event) → Leads settings first from done to → refusal to event ≡ None → Leads settings first from (done ++ event ∷ []) (after settings first to event)
 leads-push settings first from to [] event is fine = subst (λ m. Leads settings first m (event ∷ []) (after settings first to event)) is (fine, refl)
@@ -261,7 +263,7 @@ leads-push settings first from to (e ∷ done) event is fine = (is.0, leads-push
 -- a world that stands for some events stands, after one more, for these and that one, or for these if it was refused
 pub stands_on : (settings : Settings) (first : ℕ) (done : List Event) (event : Event) (result : Result Outcome WorldError) (old new : Ends)
     → IsWorldAfter settings first done old
-    → ((machine : Machine) → ShowsMachine settings first machine old → Steps settings first machine event result new)
+    → ((machine : Machine) → ShowsMachine settings first machine old → Happens settings first machine event result new)
     → OnErr result (new ≡ old)
     → IsWorldAfter settings first (events_done done event result) new
 stands_on settings first done event (Ok outcome) old new s steps err =

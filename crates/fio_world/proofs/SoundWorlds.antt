@@ -1,12 +1,8 @@
 -- What stands for a run is sound.
-use Rattle.std.proofs.Common.{ℕ, List, ap, sym}
-use Rattle.fio_module.specs.Settings.{Settings}
+use Rattle.fio_world.proofs.Names.{ℕ, List, ap, sym, Settings, Event, Ends, IsWorldAfter, IsSoundWorld}
 use Rattle.fio_cpu.specs.Poller.{Polling}
-use Rattle.fio_world.specs.declared.event.Event.{Event}
-use Rattle.fio_world.specs.Headline.{Headline}
-use Rattle.fio_world.specs.Ends.{Ends}
-use Rattle.fio_world.specs.Worlds.{IsWorldAfter, IsSoundWorld}
-use Rattle.fio_world.proofs.Promises.{runs_are_sound}
+use Rattle.fio_link.specs.Headline.{Headline}
+use Rattle.fio_link.proofs.Promises.{runs_are_sound}
 
 -- all that is promised of runs holds of the machine that a world shows
 pub sound_world : (settings : Settings) (first : ℕ) (events : List Event) (world : Ends) → IsWorldAfter settings first events world → IsSoundWorld settings first events world

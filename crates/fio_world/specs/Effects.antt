@@ -6,8 +6,11 @@ use Rattle.fio_world.specs.declared.outcome.Outcome.TheVariants as outcomes
 use Rattle.fio_world.specs.declared.outcome.WorldError.{WorldError}
 use Rattle.fio_world.specs.declared.world.effect.Effect.{Effect}
 use Rattle.fio_world.specs.declared.world.effect.Effect.TheVariants.{ToModule, ToCpu, Heard, Quiet}
-use Rattle.fio_world.specs.Link.{item_numbered}
+use Rattle.fio_module.specs.Settings.{Settings}
+use Rattle.fio_link.specs.declared.event.Event.{Event}
+use Rattle.fio_link.specs.Link.{Machine, item_numbered}
 use Rattle.fio_world.specs.Ends.{Ends}
+use Rattle.fio_world.specs.Worlds.{ShowsMachine, Happens}
 
 -- the octets of the frame with this number, or none
 abbrev pub octets_numbered : List (List ℕ) → ℕ → List ℕ
@@ -26,3 +29,9 @@ outcome_in world Quiet = outcomes.Quiet
 abbrev pub result_in : Ends → Result Effect WorldError → Result Outcome WorldError
 result_in world (Ok effect) = Ok (outcome_in world effect)
 result_in world (Err fault) = Err fault
+
+-- an event happens to a world as to each machine that the world shows
+abbrev pub HappensTo : Event → Ends → Result Effect WorldError → Ends → Type 0
+HappensTo event world result new =
+    (settings : Settings) (first : ℕ) (machine : Machine) → ShowsMachine settings first machine world
+    → Happens settings first machine event (result_in new result) new

@@ -1,17 +1,17 @@
 -- A script's further lines: one event each.
-use Rattle.std.specs.Prelude.{◌≡◌, ℕ, Bool, List, Option, Some, None, Result, Ok, Err, option_map, codes}
+use Rattle.std.specs.Prelude.{◌≡◌, ◌≢◌, ℕ, Bool, List, Option, Some, None, Result, Ok, Err, option_map, option_and_then, codes, refl}
 use Rattle.std.specs.Bool.{then_some}
 use Rattle.std.specs.Option.{option_map_or, ok_or}
-use Rattle.fio_message.specs.Decoding.{decoded_command}
+use Rattle.fio_message.specs.Decoding.{command_in, decoded_command}
 use Rattle.fio_message.specs.declared.commands.Command.{Command}
 use Rattle.fio_message.specs.declared.faults.DecodeError.{DecodeError}
-use Rattle.fio_world.specs.declared.event.Event.{Event}
-use Rattle.fio_world.specs.declared.event.Event.TheVariants.{Scan, LineSync, Raise, Poll, Send, ToModule, ToCpu, Restart}
+use Rattle.fio_link.specs.declared.event.Event.{Event}
+use Rattle.fio_link.specs.declared.event.Event.TheVariants.{Scan, LineSync, Raise, Poll, Send, ToModule, ToCpu, Restart}
 use Rattle.fio_world.specs.declared.script.ScriptError.{ScriptError}
 use Rattle.fio_world.specs.declared.script.ScriptError.TheVariants.{TooManyEvents, BadLine, BadFrame}
 use Rattle.fio_world.specs.Forms.{exactly, begins}
-use Rattle.fio_world.specs.Hexadecimal.{octets_in, octet_of, inputs_of}
-use Rattle.fio_world.specs.Words.{after_prefix, number_in}
+use Rattle.fio_text.specs.Hexadecimal.{octets_in, octet_of, inputs_of}
+use Rattle.fio_text.specs.Words.{after_prefix, number_in}
 
 -- the event of a line that delivers a frame
 abbrev pub delivery_in : List ℕ → Option Event
@@ -34,6 +34,15 @@ plain_event restarts line =
     (exactly (codes "restart") (then_some restarts Restart) line
     (event_with_value line)))
 
+-- the command that the word of a `send` names, if its octets spell one
+abbrev pub command_named : List ℕ → Option Command
+command_named word = option_and_then command_in (octets_in word)
+
+-- the command that was found
+abbrev pub command_found : (found : Option Command) → found ≢ None → Command
+command_found None is_one = absurd (is_one refl)
+command_found (Some command) is_one = command
+
 -- the command is sent, or the frame has this fault
 abbrev pub sending_at : ℕ → Result Command DecodeError → Result Event ScriptError
 sending_at number (Ok command) = Ok (Send command)
@@ -51,9 +60,8 @@ event_at restarts line =
     (ok_or (plain_event restarts line.1) (BadLine line.0))
 
 -- a line is read as this event, whatever its number
-abbrev pub IsReadAs : Bool → List ℕ → Option Event → Type 0
-IsReadAs restarts line None = ⊥
-IsReadAs restarts line (Some event) = (number : ℕ) → event_at restarts (number, line) ≡ Ok event
+abbrev pub IsReadAs : Bool → List ℕ → Event → Type 0
+IsReadAs restarts line event = (number : ℕ) → event_at restarts (number, line) ≡ Ok event
 
 -- the fault of a line below as many events as a script may have
 abbrev pub too_many_at : ℕ × List ℕ → Result Event ScriptError

@@ -1,7 +1,8 @@
 -- The words of faults and of refusals, with decimal numbers (own profile).
 use Rattle.std.specs.Prelude.{ℕ, List, ◌++◌, codes, decimal}
 use Rattle.fio_message.specs.Texts.{fault_text, memory_text}
-use Rattle.fio_world.specs.Link.{Refusal, NotSent, OutOfOrder, PollIsOurs}
+use Rattle.fio_link.specs.Link.{Refusal, NotSent, OutOfOrder, PollIsOurs}
+use Rattle.fio_text.specs.LineFaults.{at_line, bad_line_text}
 use Rattle.fio_world.specs.declared.outcome.WorldError.{WorldError}
 use Rattle.fio_world.specs.declared.outcome.WorldError.TheVariants as errors
 use Rattle.fio_world.specs.declared.script.ScriptError.{ScriptError}
@@ -24,14 +25,6 @@ world_error_text errors.Memory = memory_text
 -- why a run stopped behind so many events
 abbrev pub run_error_text : ℕ → WorldError → List ℕ
 run_error_text place fault = codes "after " ++ (decimal place ++ (codes " events: " ++ world_error_text fault))
-
--- the fault of the line with this number, by its words
-abbrev pub at_line : ℕ → List ℕ → List ℕ
-at_line line fault = codes "line " ++ (decimal line ++ (codes ": " ++ fault))
-
--- a line has no form that its reader knows
-abbrev pub bad_line_text : ℕ → List ℕ
-bad_line_text line = at_line line (codes "bad line")
 
 -- why a text is no script
 abbrev pub script_error_text : ScriptError → List ℕ

@@ -2,7 +2,7 @@
 use Rattle.std.specs.Prelude.{ℕ, List, Option, Some, None, option_and_then, if◌then◌else◌}
 use Rattle.std.specs.Option.{option_map_or}
 use Rattle.std.specs.Str.{bytes_eq}
-use Rattle.fio_world.specs.Words.{after_prefix, halves_of}
+use Rattle.fio_text.specs.Words.{after_prefix, halves_of}
 
 -- the line is these words and nothing more
 abbrev pub exactly : {A : Type 0} → List ℕ → Option A → List ℕ → Option A → Option A

@@ -3,7 +3,7 @@ use Rattle.std.specs.Prelude.{ℕ, Bool, true, false, List, Option, Some, None, 
 use Rattle.fio_module.specs.Limits.{Limits, standard_limits, are_limits}
 use Rattle.fio_world.specs.declared.script.header.Header.{Header}
 use Rattle.fio_world.specs.Forms.{begins, both}
-use Rattle.fio_world.specs.Words.{number_in, small_number_in}
+use Rattle.fio_text.specs.Words.{number_in, small_number_in}
 
 -- the limits with these two numbers, where they are limits
 abbrev pub limits_with : ℕ × ℕ → Option Limits

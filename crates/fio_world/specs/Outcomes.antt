@@ -8,13 +8,13 @@ use Rattle.fio_message.specs.Decoding.{decoded_answer}
 use Rattle.fio_module.specs.Settings.{Settings}
 use Rattle.fio_module.specs.Replies.{reply_to}
 use Rattle.fio_cpu.specs.Hearing.{heard_as}
-use Rattle.fio_world.specs.declared.event.Event.{Event}
-use Rattle.fio_world.specs.declared.event.Event.TheVariants as events
+use Rattle.fio_link.specs.declared.event.Event.{Event}
+use Rattle.fio_link.specs.declared.event.Event.TheVariants as events
 use Rattle.fio_world.specs.declared.outcome.Outcome.{Outcome}
 use Rattle.fio_world.specs.declared.outcome.Outcome.TheVariants as outcomes
 use Rattle.fio_world.specs.declared.outcome.WorldError.{WorldError}
 use Rattle.fio_world.specs.declared.outcome.WorldError.TheVariants as errors
-use Rattle.fio_world.specs.Link.{Machine, SentFrame, Refusal, NotSent, OutOfOrder, PollIsOurs, number_of, item_numbered}
+use Rattle.fio_link.specs.Link.{Machine, SentFrame, Refusal, NotSent, OutOfOrder, PollIsOurs, number_of, item_numbered}
 
 -- a frame was sent after so many others
 abbrev pub sent_after : ℕ → List ℕ → Outcome

@@ -5,18 +5,17 @@ use Rattle.fio_message.specs.Texts.{fault_text}
 use Rattle.fio_cpu.specs.declared.poller.Heard.{Heard}
 use Rattle.fio_cpu.specs.declared.poller.Heard.TheVariants.{Unreadable, Other, Stale, Block}
 use Rattle.fio_cpu.specs.declared.record.Item.{Item}
-use Rattle.fio_cpu.specs.declared.record.Item.TheVariants.{Entry, Gap}
 use Rattle.fio_module.specs.Blocks.{waiting_of}
 use Rattle.fio_module.specs.Life.{life_of, counter_of}
 use Rattle.fio_module.specs.Settings.{Settings}
 use Rattle.fio_world.specs.Faults.{refusal_text}
-use Rattle.fio_show.specs.Digits.{digits_of, octet_digits}
+use Rattle.fio_text.specs.Digits.{digits_of, octet_digits}
 use Rattle.fio_world.specs.declared.outcome.Outcome.{Outcome}
 use Rattle.fio_world.specs.declared.outcome.Outcome.TheVariants as outcomes
 use Rattle.fio_world.specs.declared.outcome.WorldError.{WorldError}
 use Rattle.fio_world.specs.declared.outcome.WorldError.TheVariants as errors
-use Rattle.fio_world.specs.Link.{Machine, Refusal, NotSent, OutOfOrder, PollIsOurs, number_of}
-use Rattle.fio_show.specs.EntryLines.{entry_line}
+use Rattle.fio_link.specs.Link.{Machine, Refusal, NotSent, OutOfOrder, PollIsOurs, number_of}
+use Rattle.fio_show.specs.EntryLines.{item_line}
 
 -- ---- one event
 
@@ -57,11 +56,6 @@ refused_line number reason =
     decimal number ++ (codes " refused " ++ (refusal_text reason ++ codes "\n"))
 
 -- ---- the end of a run
-
--- an item of the record
-abbrev pub item_line : Item → List ℕ
-item_line Gap = codes "gap\n"
-item_line (Entry input level stamp wide) = entry_line input level stamp wide
 
 -- the module's counter, the CPU's number, how many entries wait, and how many items the record has
 abbrev pub count_lines : ℕ → ℕ → ℕ → ℕ → List ℕ

@@ -1,8 +1,8 @@
 -- The report of a script: a line for each event of its run, and then how it ended.
 use Rattle.std.specs.Prelude.{◌≡◌, ℕ, ◌+◌, Bool, true, false, List, [], ◌∷◌, ◌++◌, Option, Some, None}
 use Rattle.fio_module.specs.Settings.{Settings}
-use Rattle.fio_world.specs.declared.event.Event.{Event}
-use Rattle.fio_world.specs.Link.{Machine, Refusal, start, refusal, after, IsRun}
+use Rattle.fio_link.specs.declared.event.Event.{Event}
+use Rattle.fio_link.specs.Link.{Machine, Refusal, start, refusal, after, IsRun}
 use Rattle.fio_world.specs.Outcomes.{outcome_of}
 use Rattle.fio_world.specs.ReportLines.{outcome_line, refused_line, ending_text}
 use Rattle.fio_world.specs.Scripts.{Scenario}

@@ -2,15 +2,15 @@
 use Rattle.std.specs.Prelude.{◌≡◌, ◌≢◌, ℕ, Bool, List, [], ◌∷◌, ◌++◌, map, take, drop, Option, Some, None, Result, Ok, Err}
 use Rattle.fio_module.specs.Limits.{Limits}
 use Rattle.fio_module.specs.Settings.{Settings, settings_with}
-use Rattle.fio_world.specs.declared.event.Event.{Event}
+use Rattle.fio_link.specs.declared.event.Event.{Event}
 use Rattle.fio_world.specs.declared.script.Script.{Script}
 use Rattle.fio_world.specs.declared.script.ScriptError.{ScriptError}
 use Rattle.fio_world.specs.declared.script.ScriptError.TheVariants.{BadHeader}
-use Rattle.fio_world.specs.FirstFaults.{values_or_fault}
+use Rattle.fio_text.specs.FirstFaults.{values_or_fault}
 use Rattle.fio_world.specs.EventLines.{event_at, too_many_at}
 use Rattle.fio_world.specs.Headers.{header_of}
 use Rattle.fio_world.specs.declared.script.header.Header.{Header}
-use Rattle.fio_world.specs.Lines.{lines_of, numbered}
+use Rattle.fio_text.specs.Lines.{lines_of, numbered}
 use Rattle.fio_world.specs.declared.script.events.TheConstants.{MAX_EVENTS}
 
 -- what a module and a CPU are made with, and what then happens
@@ -25,8 +25,8 @@ readings most restarts lines =
     map (event_at restarts) (take most lines) ++ map too_many_at (drop most lines)
 
 -- the events of the lines below a header, 10,000 at most, or the fault of the first faulty line
-abbrev pub events_of : Bool → List (List ℕ) → Result (List Event) ScriptError
-events_of restarts lines = values_or_fault (readings MAX_EVENTS restarts (numbered 2 lines))
+abbrev pub script_events : Bool → List (List ℕ) → Result (List Event) ScriptError
+script_events restarts lines = values_or_fault (readings MAX_EVENTS restarts (numbered 2 lines))
 
 -- a module with this identification and these limits, a CPU with this first number, and what then
 -- happens
@@ -49,7 +49,7 @@ with_events header (Err fault) = Err fault
 -- the script that lines spell below this header, if it is one
 abbrev pub below : Option Header → List (List ℕ) → Result Scenario ScriptError
 below None lines = Err BadHeader
-below (Some header) lines = with_events header (events_of header.restarts lines)
+below (Some header) lines = with_events header (script_events header.restarts lines)
 
 -- the script that lines spell: a header, and the events below it
 abbrev pub scenario_in : List (List ℕ) → Result Scenario ScriptError
@@ -70,7 +70,7 @@ HasGoodFront lines =
 -- the same of the lines below a header
 abbrev pub HaveGoodFront : Bool → List (List ℕ) → Type 0
 HaveGoodFront restarts lines =
-    (count : ℕ) × (events : List Event) × (events_of restarts (take count lines) ≡ Ok events)
+    (count : ℕ) × (events : List Event) × (script_events restarts (take count lines) ≡ Ok events)
     × (events ≢ [])
 
 -- a script, wherever its events lie in memory

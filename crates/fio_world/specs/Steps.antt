@@ -1,30 +1,30 @@
 -- Steps of a script, and the events that they are.
-use Rattle.std.specs.Prelude.{◌≢◌, List, ℕ, Option, Some, None, option_map, refl}
-use Rattle.std.specs.Option.{option_and_then}
-use Rattle.fio_message.specs.Decoding.{command_in}
+use Rattle.std.specs.Prelude.{Result, Ok, Err}
 use Rattle.fio_message.specs.declared.commands.Command.{Command}
-use Rattle.fio_world.specs.Hexadecimal.{octets_in}
-use Rattle.fio_world.specs.declared.event.Event.{Event}
-use Rattle.fio_world.specs.declared.event.Event.TheVariants as events
-use Rattle.fio_world.specs.declared.script.steps.EventForm.{EventForm}
-use Rattle.fio_world.specs.declared.script.steps.EventForm.TheVariants as forms
+use Rattle.fio_link.specs.declared.event.Event.{Event}
+use Rattle.fio_link.specs.declared.event.Event.TheVariants as events
+use Rattle.fio_world.specs.declared.script.ScriptError.{ScriptError}
+use Rattle.fio_world.specs.EventLines.{command_found, command_named}
+use Rattle.fio_world.specs.declared.script.command_word.CommandWord.{CommandWord}
+use Rattle.fio_world.specs.declared.script.steps.ScriptStep.{ScriptStep}
+use Rattle.fio_world.specs.declared.script.steps.ScriptStep.TheVariants as steps
 
--- the command that a word's octets spell, if they spell one
-abbrev pub command_named : List ℕ → Option Command
-command_named word = option_and_then command_in (octets_in word)
+-- the command that a word names
+abbrev pub command_of : CommandWord → Command
+command_of word = command_found (command_named word.word.now) word.is_command
 
--- the event in this form, if there is one: a word that spells no command is sent in none
-abbrev pub event_of : EventForm → Option Event
-event_of (forms.Scan raw) = Some (events.Scan raw)
-event_of forms.LineSync = Some events.LineSync
-event_of (forms.Raise mask) = Some (events.Raise mask)
-event_of forms.Poll = Some events.Poll
-event_of (forms.Send word) = option_map events.Send (command_named word.now)
-event_of (forms.ToModule index) = Some (events.ToModule index)
-event_of (forms.ToCpu index) = Some (events.ToCpu index)
-event_of forms.Restart = Some events.Restart
+-- the event that a step is
+abbrev pub event_of : ScriptStep → Event
+event_of (steps.Scan raw) = events.Scan raw
+event_of steps.LineSync = events.LineSync
+event_of (steps.Raise mask) = events.Raise mask
+event_of steps.Poll = events.Poll
+event_of (steps.Send word) = events.Send (command_of word)
+event_of (steps.ToModule index) = events.ToModule index
+event_of (steps.ToCpu index) = events.ToCpu index
+event_of steps.Restart = events.Restart
 
--- the event that was found
-abbrev pub event_found : (found : Option Event) → found ≢ None → Event
-event_found None is_one = absurd (is_one refl)
-event_found (Some event) is_one = event
+-- the event of the step that a line is read as, or the fault of the line
+abbrev pub event_read : Result ScriptStep ScriptError → Result Event ScriptError
+event_read (Ok step) = Ok (event_of step)
+event_read (Err fault) = Err fault

@@ -5,14 +5,14 @@ use Rattle.fio_module.specs.Settings.{Settings, AreInRange}
 use Rattle.fio_module.specs.Module as modules
 use Rattle.fio_cpu.specs.Poller.{Polling}
 use Rattle.fio_cpu.specs.Hearing.{AddsItems}
-use Rattle.fio_world.specs.declared.event.Event.{Event}
-use Rattle.fio_world.specs.declared.event.Event.TheVariants as events
+use Rattle.fio_link.specs.declared.event.Event.{Event}
+use Rattle.fio_link.specs.declared.event.Event.TheVariants as events
 use Rattle.fio_world.specs.declared.outcome.Outcome.{Outcome}
 use Rattle.fio_world.specs.declared.outcome.RunError.{RunError}
 use Rattle.fio_world.specs.declared.outcome.WorldError.{WorldError}
 use Rattle.fio_world.specs.declared.outcome.WorldError.TheVariants as errors
-use Rattle.fio_world.specs.Link.{Machine, SentFrame, Refusal, refusal, after, number_of, item_numbered, IsRun}
-use Rattle.fio_world.specs.Sound.{IsSoundRun}
+use Rattle.fio_link.specs.Link.{Machine, SentFrame, Refusal, refusal, after, item_numbered, IsRun, polling_of}
+use Rattle.fio_link.specs.Sound.{IsSoundRun}
 use Rattle.fio_world.specs.Ends.{Ends}
 use Rattle.fio_world.specs.Outcomes.{outcome_of, error_of}
 
@@ -21,10 +21,6 @@ use Rattle.fio_world.specs.Outcomes.{outcome_of, error_of}
 -- the octets of a frame
 abbrev pub octets_sent : SentFrame → List ℕ
 octets_sent frame = frame.octets
-
--- what the machine has of the CPU
-abbrev pub polling_of : ℕ → Machine → Polling
-polling_of first machine = record { number = number_of first machine.round; items = machine.items }
 
 -- the world shows what the machine has, but for the rounds
 pub record ShowsMachine (settings : Settings) (first : ℕ) (machine : Machine) (world : Ends) : Type 0 where
@@ -68,8 +64,8 @@ pub record IsDone (settings : Settings) (first : ℕ) (machine : Machine) (event
 
 -- one event on a world that shows a machine: it is done, or it is refused exactly as the machine
 -- refuses it, or memory runs out
-abbrev pub Steps : Settings → ℕ → Machine → Event → Result Outcome WorldError → Ends → Type 0
-Steps settings first machine event result world =
+abbrev pub Happens : Settings → ℕ → Machine → Event → Result Outcome WorldError → Ends → Type 0
+Happens settings first machine event result world =
     MatchResult result
     (λ outcome. IsDone settings first machine event outcome world)
     (λ fault. IsFault (refusal machine event) (TakesMemory first machine event) fault)

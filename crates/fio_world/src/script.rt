@@ -1,21 +1,24 @@
 //! Scripts: what they are, why a text is none, and how a text is read as one.
-ghost use Rattle.std.specs.Prelude.{◌≡◌, ◌≢◌, [], Ok, Some, IfOk, IfErr, OnErr};
+ghost use Rattle.std.specs.Prelude.{◌≡◌, ◌≢◌, [], map, Ok, Some, IfOk, IfErr, OnErr};
 ghost use Rattle.fio_world.specs.Faults.{script_error_text};
-ghost use Rattle.fio_world.specs.Lines.{lines_of};
+ghost use Rattle.fio_text.specs.Lines.{lines_of};
 ghost use Rattle.fio_world.specs.Scripts.{scenario_below, scenario_of, script_in, HasGoodFront};
+ghost use Rattle.fio_world.specs.Steps.{event_of};
 
+mod command_word;
 mod events;
 mod header;
 mod steps;
 
+pub(crate) use self::command_word::CommandWord;
 use self::events::read_steps;
 pub(crate) use self::header::Header;
 use self::header::read_header;
-pub(crate) use self::steps::{EventForm, Step, command_named};
-use crate::event::Event;
-use crate::text::{BadLine, split_line};
+pub(crate) use self::steps::ScriptStep;
+use fio_link::Event;
 use fio_message::{DecodeError, Memory};
 use fio_module::Limits;
+use fio_text::{BadLine, split_line};
 use std::alloc::{AllocFailed, Global};
 use std::fmt;
 use std::fmt::{Display, Formatter};
@@ -95,7 +98,7 @@ impl<T: Drop> From<AllocFailed<T>> for ScriptError {
     }
 }
 
-/// The script that a text spells.
+/// Returns the script that a text spells.
 ///
 /// # Errors
 /// The fault of the first faulty line; `Memory` where the list of events had to grow above it and no
@@ -116,16 +119,16 @@ pub fn read_script(alloc: Global, text: &[u8]) -> Result<Script, ScriptError>
     })
 }
 
-/// The header of the script that a text spells, and its events, each kept as a step.
+/// Returns the header of the script that a text spells, and its steps.
 ///
 /// # Errors
 /// Those of `read_script`.
 pub(crate) fn read_header_and_steps(
     alloc: Global,
     text: &[u8],
-) -> Result<(Header, Vec<Step<'_>>), ScriptError>
+) -> Result<(Header, Vec<ScriptStep<'_>>), ScriptError>
     ensures ok { IfOk result (λ read.
-        script_in text.now ≡ Ok (scenario_below read.0 read.1.items)) }
+        script_in text.now ≡ Ok (scenario_below read.0 (map event_of read.1.items))) }
     ensures front { IfOk result (λ read.
         read.1.items ≢ [] → HasGoodFront (lines_of text.now)) }
     ensures err { IfErr result (λ fault. fault ≢ ScriptError.Memory
@@ -142,9 +145,9 @@ pub(crate) fn read_header_and_steps(
     Ok((header, steps))
 }
 
-/// The events that steps are.
-fn events_of(alloc: Global, steps: &[Step<'_>]) -> Result<Vec<Event>, Memory>
-    ensures ok { IfOk result (λ events. events.items ≡ steps.now) }
+/// Returns the events that steps are.
+fn events_of(alloc: Global, steps: &[ScriptStep<'_>]) -> Result<Vec<Event>, Memory>
+    ensures ok { IfOk result (λ events. events.items ≡ map event_of steps.now) }
     ensures err { OnErr result (steps.now ≢ []) }
 {
     let mut events = Vec::with_capacity(alloc, steps.len())?;

@@ -2,26 +2,22 @@
 ghost use Rattle.std.specs.Prelude.{◌≡◌, ◌≢◌, ◌⊎◌, ◌++◌, ℕ, Err, map, IfOk, IfErr, OnOk, IsOkAnd};
 ghost use Rattle.fio_module.specs.Settings.{Settings};
 ghost use Rattle.fio_world.specs.Effects.{outcome_in};
-ghost use Rattle.fio_world.specs.Lines.{lines_of};
-ghost use Rattle.fio_world.specs.Link.{Machine};
+ghost use Rattle.fio_text.specs.Lines.{lines_of};
+ghost use Rattle.fio_link.specs.Link.{Machine};
 ghost use Rattle.fio_world.specs.ReportLines.{outcome_line};
 ghost use Rattle.fio_world.specs.Reports.{after_text, report_from, report_of};
 ghost use Rattle.fio_world.specs.Scripts.{scenario_of, scenario_with, script_in, HasGoodFront, IsScript};
 ghost use Rattle.fio_world.specs.Worlds.{ShowsMachine};
 
-mod endings;
-mod fronts;
 mod lines;
-mod record_lines;
 
 use self::lines::{push_ending, push_heard, push_quiet, push_refusal, push_sent};
-pub use self::record_lines::push_items;
 use crate::outcome::WorldError;
 use crate::script::{Script, ScriptError, read_header_and_steps};
-use crate::text::Report;
 use crate::world::{Effect, World, WorldEvent};
 use fio_message::Memory;
 use fio_module::Limits;
+use fio_text::Report;
 use std::alloc::{AllocError, Global};
 
 /// Runs a script, and reports the outcome of each event: a line for each, and below the last one the
@@ -45,7 +41,7 @@ pub fn report(alloc: Global, script: &Script) -> Result<Report, Memory>
     )
 }
 
-/// The report of the script that a text spells: `read_script` and `report` in one, without a list of
+/// Returns the report of the script that a text spells: `read_script` and `report` in one, without a list of
 /// events. It reads the whole text before it runs anything.
 ///
 /// # Errors
@@ -73,7 +69,7 @@ pub fn report_text(alloc: Global, text: &[u8]) -> Result<Report, ScriptError>
     }
 }
 
-/// The report of what happens to a module and a CPU that are made so.
+/// Returns the report of what happens to a module and a CPU that are made so.
 fn report_run<T: WorldEvent>(
     alloc: Global,
     id: u8,
@@ -92,7 +88,7 @@ fn report_run<T: WorldEvent>(
     }
 }
 
-/// The report of what happens to a world.
+/// Returns the report of what happens to a world.
 // Inlined, so that the world stays a local of the run.
 #[inline(always)]
 fn report_on<T: WorldEvent>(
@@ -140,7 +136,7 @@ fn push_run<T: WorldEvent>(
     Ok(true)
 }
 
-/// What the event with this number did, in the world after it.
+/// Appends what the event with this number did, in the world after it.
 fn push_effect(
     text: &mut Vec<u8>,
     number: usize,

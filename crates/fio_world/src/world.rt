@@ -3,10 +3,10 @@ ghost use Rattle.std.specs.Prelude.{◌≡◌, [], List, ℕ, IfOk, IfErr, OnErr
 ghost use Rattle.std.specs.Option.{option_map};
 ghost use Rattle.std.specs.Borrow.{Bor};
 ghost use Rattle.fio_module.specs.Settings.{Settings, standard_settings, settings_with};
-ghost use Rattle.fio_world.specs.declared.event.Event.{Event as Happening};
-ghost use Rattle.fio_world.specs.Link.{Machine, item_numbered};
-ghost use Rattle.fio_world.specs.Headline.{Headline};
-ghost use Rattle.fio_world.specs.Worlds.{ShowsMachine, Steps, IsWorldAfter, IsSoundWorld, HasStopped, HasStoppedAt, all_done, events_done};
+ghost use Rattle.fio_link.specs.declared.event.Event.{Event};
+ghost use Rattle.fio_link.specs.Link.{Machine, item_numbered};
+ghost use Rattle.fio_link.specs.Headline.{Headline};
+ghost use Rattle.fio_world.specs.Worlds.{ShowsMachine, Happens, IsWorldAfter, IsSoundWorld, HasStopped, HasStoppedAt, all_done, events_done};
 
 mod effect;
 mod frames;
@@ -15,9 +15,9 @@ mod happening;
 pub(crate) use self::effect::Effect;
 use self::frames::StoredFrames;
 pub(crate) use self::happening::WorldEvent;
-use crate::event::Event;
 use crate::outcome::{Outcome, RunError, WorldError};
 use fio_cpu::Poller;
+use fio_link::Event;
 use fio_message::Memory;
 use fio_module::{Limits, Module};
 use std::alloc::Global;
@@ -51,8 +51,8 @@ impl Model for World {
 }
 
 impl World {
-    /// A world in which nothing has happened: a module with this identification octet and the
-    /// limits of TEES 2009, and a CPU with this first block number.
+    /// Returns a world in which nothing has happened: a module with this identification octet and
+    /// the limits of TEES 2009, and a CPU with this first block number.
     ///
     /// # Errors
     /// `Memory` where there is none for the module's waiting entries.
@@ -83,7 +83,7 @@ impl World {
         })
     }
 
-    /// A new world to which these events have happened in order. It stops at the first that is
+    /// Makes a new world and lets these events happen to it in order. It stops at the first that is
     /// refused.
     ///
     /// # Errors
@@ -141,12 +141,12 @@ impl World {
     pub fn step(&mut self, event: &Event) -> Result<Outcome, WorldError>
         ensures row { (settings : Settings) (first : ℕ) (machine : Machine)
             → ShowsMachine settings first machine self.old
-            → Steps settings first machine event.now result self.new }
+            → Happens settings first machine event.now result self.new }
         ensures err { OnErr result (self.new ≡ self.old) }
-        ensures stands { (settings : Settings) (first : ℕ) (events : List Happening)
+        ensures stands { (settings : Settings) (first : ℕ) (events : List Event)
             → IsWorldAfter settings first events self.old
             → IsSoundWorld settings first (events_done events event.now result) self.new }
-        ensures headline { (settings : Settings) (first : ℕ) (events : List Happening)
+        ensures headline { (settings : Settings) (first : ℕ) (events : List Event)
             → IsWorldAfter settings first events self.old
             → Headline settings first (events_done events event.now result)
             self.new.poller_end.items }
@@ -163,15 +163,15 @@ impl World {
     /// # Errors
     /// How many of these events were done, and why the next one was not: the errors of `step`.
     pub fn step_all(&mut self, events: &[Event]) -> Result<(), RunError>
-        ensures stands { (settings : Settings) (first : ℕ) (before : List Happening)
+        ensures stands { (settings : Settings) (first : ℕ) (before : List Event)
             → IsWorldAfter settings first before self.old
             → IsSoundWorld settings first (all_done before events.now result) self.new }
-        ensures headline { (settings : Settings) (first : ℕ) (before : List Happening)
+        ensures headline { (settings : Settings) (first : ℕ) (before : List Event)
             → IsWorldAfter settings first before self.old
             → Headline settings first (all_done before events.now result)
             self.new.poller_end.items }
         ensures err { IfErr result (λ e. (settings : Settings) (first : ℕ)
-            (before : List Happening) → IsWorldAfter settings first before self.old
+            (before : List Event) → IsWorldAfter settings first before self.old
             → HasStoppedAt settings first before events.now e.place e.fault self.new) }
     {
         for (place, event) in events.iter().enumerate() {
@@ -182,50 +182,50 @@ impl World {
         Ok(())
     }
 
-    /// The module.
+    /// Returns the module.
     pub fn module(&self) -> &Module
         ensures { result.now ≡ self.now.module_end }
     {
         &self.module
     }
 
-    /// The CPU's end, with its record.
+    /// Returns the CPU's end, with its record.
     pub fn poller(&self) -> &Poller
         ensures { result.now ≡ self.now.poller_end }
     {
         &self.poller
     }
 
-    /// How many frames were ever sent to the module.
+    /// Returns how many frames were ever sent to the module.
     pub fn sent_to_module(&self) -> usize
         ensures { result ≡ length self.now.to_module }
     {
         self.to_module.len()
     }
 
-    /// How many frames were ever sent to the CPU.
+    /// Returns how many frames were ever sent to the CPU.
     pub fn sent_to_cpu(&self) -> usize
         ensures { result ≡ length self.now.to_cpu }
     {
         self.to_cpu.len()
     }
 
-    /// The number of the frame that was delivered to the module last, 0 if none was.
+    /// Returns the number of the frame that was delivered to the module last, 0 if none was.
     pub fn last_to_module(&self) -> usize
         ensures { result ≡ self.now.last_to_module }
     {
         self.last_to_module
     }
 
-    /// The number of the frame that was delivered to the CPU last, 0 if none was.
+    /// Returns the number of the frame that was delivered to the CPU last, 0 if none was.
     pub fn last_to_cpu(&self) -> usize
         ensures { result ≡ self.now.last_to_cpu }
     {
         self.last_to_cpu
     }
 
-    /// The octets of the frame with this number, from 1, among those sent to the module; `None`
-    /// where none has it.
+    /// Returns the octets of the frame with this number, from 1, among those sent to the module; `None`
+    /// if none has it.
     pub fn frame_to_module(&self, index: usize) -> Option<&[u8]>
         ensures { option_map (λ (octets : Bor (List ℕ)). octets.now) result
             ≡ item_numbered self.now.to_module index }
@@ -233,7 +233,7 @@ impl World {
         self.to_module.get(index)
     }
 
-    /// The octets of the frame with this number, from 1, among those sent to the CPU; `None` where
+    /// Returns the octets of the frame with this number, from 1, among those sent to the CPU; `None` if
     /// none has it.
     pub fn frame_to_cpu(&self, index: usize) -> Option<&[u8]>
         ensures { option_map (λ (octets : Bor (List ℕ)). octets.now) result

@@ -241,27 +241,74 @@ static void hears(void) {
 
 /* ---- The rules of a transcript ---- */
 
-static int is_breach(struct fio2070_breach breach, int rule, int has_due, int due, int got) {
-    return breach.rule == rule && breach.has_due == has_due && breach.due == due && breach.got == got;
-}
+/* A frame that the CPU's end sent or heard, its breach, and the checker below it: each octet of both structs, in the
+ * order of their fields. A row without a direction starts the checker. */
+struct judged {
+    char direction;
+    const char *octets;
+    size_t length;
+    uint8_t breach[4], checker[9];
+};
+
+#define START 0, "", 0
+#define SENT(octets) '>', octets, sizeof octets - 1
+#define HEARD(octets) '<', octets, sizeof octets - 1
+#define BELOW_A_BREACH {0, 0, 0, 0, 0, 0, 0, 0, 1}
+
+/* A block with C, as `checks` fills it. */
+static char full_block[8 + 3 * 255];
+
+static const struct judged judged[] = {
+    {START, {0}, {0}},
+    {SENT("\x36\xff"), {0}, {1, 182, 0, 1, 255}},
+    {SENT("\x36\0"), {FIO2070_RULE_ADVANCE, 1, 255, 0}, BELOW_A_BREACH},
+    {HEARD("\xb6\1\0\0\0\0\0\5"), {0}, BELOW_A_BREACH},
+    {SENT("\x36\2"), {0}, {1, 182, 0, 1, 2}},
+    {HEARD("\xb6\1\0\0\0\0\0\5"), {FIO2070_RULE_NUMBER, 1, 2, 1}, BELOW_A_BREACH},
+    {SENT("\x36\2"), {0}, {1, 182, 0, 1, 2}},
+    {HEARD("\xb3\0"), {FIO2070_RULE_PAIR, 1, 182, 179}, BELOW_A_BREACH},
+    {SENT("\x36\6"), {0}, {1, 182, 0, 1, 6}},
+    {HEARD("\xb6\6\0\0\0\0\0\6"), {0}, {0, 0, 0, 1, 6, 1, 0, 1}},
+    {SENT("\x36\7"), {0}, {1, 182, 0, 1, 7, 0, 1, 1}},
+    {'<', full_block, sizeof full_block, {0}, {0, 0, 0, 1, 7, 1, 1, 2}},
+    {SENT("\x36\x08"), {0}, {1, 182, 0, 1, 8, 0, 1, 2}},
+    {HEARD("\xb6\x08\0\0\0\0\0\6"), {FIO2070_RULE_REST}, BELOW_A_BREACH},
+    {START, {0}, {0}},
+    {SENT("\x34"), {0}, {1, 180}},
+    {HEARD("\xb6\5\0\0\0\0\0\5"), {FIO2070_RULE_PAIR, 1, 180, 182}, BELOW_A_BREACH},
+    {START, {0}, {0}},
+    {HEARD("\xb3\0"), {FIO2070_RULE_PAIR}, BELOW_A_BREACH},
+    {START, {0}, {0}},
+    {SENT("\x33\1\x40\1\1"), {0}, {1, 179, 1}},
+    {HEARD("\xb3\1"), {0}, {0}},
+    {SENT("\x33\1\x40\1\1"), {0}, {1, 179, 1}},
+    {HEARD("\xb3\0"), {FIO2070_RULE_REFUSAL}, BELOW_A_BREACH},
+    {START, {0}, {0}},
+    {SENT(""), {FIO2070_RULE_READABLE}, BELOW_A_BREACH},
+};
 
 static void checks(void) {
-    static const uint8_t empty[] = {182, 1, 0, 0, 0, 0, 0, 5};
     struct fio2070_checker checker;
     struct fio2070_breach breach;
-    memset(&checker, 0xa5, sizeof checker);
-    fio2070_checker_start(&checker);
-    CHECK(fio2070_checker_sent(&checker, (const uint8_t *)"\x36\xff", 2, &breach) == 0);
-    CHECK(is_breach(breach, 0, 0, 0, 0));
-    CHECK(fio2070_checker_sent(&checker, (const uint8_t *)"\x36\0", 2, &breach) == FIO2070_RULE_ADVANCE);
-    CHECK(is_breach(breach, FIO2070_RULE_ADVANCE, 1, 255, 0));
-    CHECK(fio2070_checker_heard(&checker, empty, sizeof empty, &breach) == 0);
-    CHECK(fio2070_checker_sent(&checker, (const uint8_t *)"\x36\2", 2, &breach) == 0);
-    CHECK(fio2070_checker_heard(&checker, empty, sizeof empty, &breach) == FIO2070_RULE_NUMBER);
-    CHECK(is_breach(breach, FIO2070_RULE_NUMBER, 1, 2, 1));
-    CHECK(fio2070_checker_sent(&checker, (const uint8_t *)"\x36\2", 2, &breach) == 0);
-    CHECK(fio2070_checker_heard(&checker, (const uint8_t *)"\xb3\0", 2, &breach) == FIO2070_RULE_PAIR);
-    CHECK(is_breach(breach, FIO2070_RULE_PAIR, 1, 182, 179));
+    size_t place;
+    memcpy(full_block, "\xb6\7\xff", 3);
+    full_block[3 + 3 * 255] = FIO2070_BIT_MORE;
+    for (place = 0; place < sizeof judged / sizeof *judged; place++) {
+        const struct judged *row = &judged[place];
+        const uint8_t *octets = (const uint8_t *)row->octets;
+        uint8_t rule = 0;
+        memset(&breach, row->direction ? 0xa5 : 0, sizeof breach);
+        if (!row->direction) {
+            memset(&checker, 0xa5, sizeof checker);
+            fio2070_checker_start(&checker);
+        } else if (row->direction == '>') {
+            rule = fio2070_checker_sent(&checker, octets, row->length, &breach);
+        } else {
+            rule = fio2070_checker_heard(&checker, octets, row->length, &breach);
+        }
+        check(rule == row->breach[0] && memcmp(&breach, row->breach, sizeof breach) == 0, "the breach of row", (unsigned)place);
+        check(memcmp(&checker, row->checker, sizeof checker) == 0, "the checker below row", (unsigned)place);
+    }
 }
 
 /* ---- The rules on content ---- */

@@ -83,6 +83,71 @@ static void has_values() {
     CHECK(poller.record().empty() && poller.number() == 6);
 }
 
+// Values that differ in one bit of a field are not equal.
+template <typename Value, typename Field>
+static void tells(Field Value::*field, const char *name, int line) {
+    bool holds = true;
+    for (unsigned bit = 0; bit < 8 * sizeof(Field); bit++) {
+        Value one{}, other{};
+        other.*field = static_cast<Field>(Field(1) << bit);
+        holds = holds && one == Value{} && !(one == other) && one != other;
+    }
+    check(holds, name, line);
+}
+
+template <typename Value>
+static void tells(std::uint8_t (Value::*field)[8], const char *name, int line) {
+    bool holds = true;
+    for (int place = 0; place < 8; place++) {
+        Value one{}, other{};
+        (other.*field)[place] = 1;
+        holds = holds && one == Value{} && !(one == other) && one != other;
+    }
+    check(holds, name, line);
+}
+#define TELLS(field) tells(&fio2070_##field, #field, __LINE__)
+
+static void tells_values() {
+    TELLS(entry::input), TELLS(entry::state), TELLS(entry::stamp);
+    TELLS(configuration_item::input), TELLS(configuration_item::ignore);
+    TELLS(configuration_item::leading), TELLS(configuration_item::trailing);
+    TELLS(record_item::gap), TELLS(record_item::input), TELLS(record_item::state);
+    TELLS(record_item::stamp), TELLS(record_item::wide);
+    TELLS(block_header::number), TELLS(block_header::status), TELLS(block_header::count), TELLS(block_header::stamp);
+    TELLS(outputs::levels), TELLS(outputs::controls);
+    TELLS(error_counts::receive), TELLS(error_counts::transmit);
+    TELLS(breach::rule), TELLS(breach::has_due), TELLS(breach::due), TELLS(breach::got);
+    TELLS(content_breach::rule), TELLS(content_breach::entry), TELLS(content_breach::input);
+    TELLS(command::code), TELLS(command::clear), TELLS(command::block), TELLS(command::timeout), TELLS(command::count);
+    TELLS(command::body), TELLS(command::load), TELLS(command::levels), TELLS(command::controls);
+    TELLS(answer::code), TELLS(answer::flags), TELLS(answer::receive_errors), TELLS(answer::transmit_errors);
+    TELLS(answer::status), TELLS(answer::block), TELLS(answer::count), TELLS(answer::body);
+    TELLS(answer::stamp), TELLS(answer::inputs);
+}
+
+/* The words of the longest fault, and a block that says that entries were lost. */
+static void has_the_most() {
+    const fio2070::Fault fault({FIO2070_FAULT_WRONG_LENGTH, 0, 65535, {}, SIZE_MAX});
+    CHECK(fault.text() == "wrong length needed 65535 got 18446744073709551615");
+    CHECK(fault.needed() == 65535 && fault.got() == SIZE_MAX);
+    CHECK(fio2070::FaultError(fault).what() == fault.text() && fio2070::FaultError(fault).fault().got() == SIZE_MAX);
+    fio2070::Poller poller(5);
+    auto heard = poller.hear(List({0xb6, 5, 1, 0x8c, 3, 0xe7, 0x0c, 0, 0, 3, 0xe8}));
+    CHECK(heard.is_taken() && heard.status() == 0x0c && heard.entries() == 1 && heard.items() == 2);
+    CHECK(poller.record() == std::vector<fio2070::RecordItem>({{1, 0, 0, {}, 0, 0}, {0, 12, 1, {}, 999, 999}}));
+}
+
+static void checks() {
+    fio2070::Checker checker;
+    CHECK(checker.sent(fio2070::encode::poll(255)) == fio2070_breach());
+    CHECK(checker.sent(fio2070::encode::poll(0)) == fio2070_breach({FIO2070_RULE_ADVANCE, 1, 255, 0}));
+    CHECK(checker.sent(fio2070::encode::poll(5)) == fio2070_breach());
+    CHECK(checker.heard(BLOCK) == fio2070_breach());
+    CHECK(checker.heard(BLOCK) == fio2070_breach({FIO2070_RULE_PAIR, 0, 0, 0}));
+    CHECK(checker.sent(fio2070::encode::poll(6)) == fio2070_breach());
+    CHECK(checker.heard(BLOCK) == fio2070_breach({FIO2070_RULE_NUMBER, 1, 6, 5}));
+}
+
 template <typename Module>
 static void polls_a_module() {
     CHECK(!Module::start(2, 0));
@@ -171,6 +236,9 @@ static void judges_content() {
 int main() {
     reads_and_writes();
     has_values();
+    tells_values();
+    has_the_most();
+    checks();
     polls_a_module<fio2070::Module>();
     polls_a_module<fio2070::SizedModule<1>>();
     has_little_room();

@@ -3,42 +3,40 @@
 //
 // A message is given by its address and length in the machine's memory: `place` puts octets there.
 
+import { LONGEST_FAULT_TEXT, LONGEST_FRAME, MOST_RECORD_ITEMS } from './constants.js';
+import { AT, SIZE } from './layouts.js';
+
 const FAULTS = { none: 0, unknownType: 3 };
 export const LOAD = 50, POLL = 54, BLOCK = POLL + 128;
 export const HEARD = { taken: 0, unreadable: 1, other: 2, stale: 3, noRoom: 4 };
 export const STATUS_BITS = { more: 8, lost: 4, again: 2, outOfSequence: 1 };
 
-const MOST_FRAME = 773, MOST_RECORD_ITEMS = 256, MOST_FAULT_TEXT = 65;
-const SIZE = { result: 32, message: 32, element: 4, recordItem: 12, module: 4112, checker: 4096, content: 1168, text: 32768 };
-
-// The rules of `check`, by their numbers in a breach.
-export const RULES = ['', 'readable', 'pair', 'number', 'advance', 'same', 'sequence', 'limits', 'rest', 'refusal'];
-// The rules on content, likewise.
-export const CONTENT_RULES = ['', 'order', 'alternate', 'apart'];
+// Room for the text of a message.
+const TEXT_ROOM = 32768;
 
 export class Library {
   constructor(machine) {
     this.machine = machine;
     this.calls = machine.exports;
-    this.result = machine.reserve(SIZE.result);
-    this.message = machine.reserve(SIZE.message);
-    this.frame = machine.reserve(MOST_FRAME + 1);
-    this.out = machine.reserve(MOST_FRAME);
+    this.result = machine.reserve(SIZE.heard);
+    this.message = machine.reserve(Math.max(SIZE.command, SIZE.answer));
+    this.frame = machine.reserve(LONGEST_FRAME + 1);
+    this.out = machine.reserve(LONGEST_FRAME);
     this.elements = machine.reserve(MOST_RECORD_ITEMS * SIZE.recordItem);
-    this.text = machine.reserve(SIZE.text);
+    this.text = machine.reserve(TEXT_ROOM);
     this.decoder = new TextDecoder('latin1');
   }
 
   // Puts octets where a call can read them, and returns their address. No call looks behind the 774th octet.
   place(octets) {
-    this.machine.octets(this.frame, MOST_FRAME + 1).set(octets.subarray(0, MOST_FRAME + 1));
+    this.machine.octets(this.frame, LONGEST_FRAME + 1).set(octets.subarray(0, LONGEST_FRAME + 1));
     return this.frame;
   }
 
   faultAt(address) {
     const { data } = this.machine;
-    return { kind: data.getUint8(address), code: data.getUint8(address + 1), needed: data.getUint16(address + 2, true),
-      got: Number(data.getBigUint64(address + 8, true)) };
+    return { kind: data.getUint8(address + AT.fault.kind), code: data.getUint8(address + AT.fault.code),
+      needed: data.getUint16(address + AT.fault.needed, true), got: Number(data.getBigUint64(address + AT.fault.got, true)) };
   }
 
   // Reads a message as a command or, where no command has its type, as an answer: its fields, or its fault.
@@ -56,38 +54,41 @@ export class Library {
   }
 
   command() {
-    const { all } = this.machine, at = this.message;
-    return { fault: null, isAnswer: false, code: all[at], block: all[at + 2] };
+    const { all } = this.machine, at = this.message, place = AT.command;
+    return { fault: null, isAnswer: false, code: all[at + place.code], block: all[at + place.block] };
   }
 
   answer() {
-    const { data, all } = this.machine, at = this.message;
-    return { fault: null, isAnswer: true, code: all[at], status: all[at + 4], block: all[at + 5], count: all[at + 6],
-      stamp: data.getUint32(at + 12, true) };
+    const { data, all } = this.machine, at = this.message, place = AT.answer;
+    return { fault: null, isAnswer: true, code: all[at + place.code], status: all[at + place.status], block: all[at + place.block],
+      count: all[at + place.count], stamp: data.getUint32(at + place.stamp, true) };
   }
 
   faultText(fault) {
-    const { data } = this.machine;
-    data.setUint8(this.result, fault.kind);
-    data.setUint8(this.result + 1, fault.code);
-    data.setUint16(this.result + 2, fault.needed, true);
-    data.setBigUint64(this.result + 8, BigInt(fault.got), true);
-    const length = Number(this.calls.fio2070_fault_text(BigInt(this.result), BigInt(this.text), BigInt(MOST_FAULT_TEXT)));
+    const { data } = this.machine, at = this.result;
+    data.setUint8(at + AT.fault.kind, fault.kind);
+    data.setUint8(at + AT.fault.code, fault.code);
+    data.setUint16(at + AT.fault.needed, fault.needed, true);
+    data.setBigUint64(at + AT.fault.got, BigInt(fault.got), true);
+    const length = Number(this.calls.fio2070_fault_text(BigInt(this.result), BigInt(this.text), BigInt(LONGEST_FAULT_TEXT)));
     return this.decoder.decode(this.machine.octets(this.text, length));
   }
 
   // The octets of a configuration with these items.
   encodeConfiguration(items) {
     const { all } = this.machine;
-    items.forEach((it, place) => all.set([it.input, it.ignore, it.leading, it.trailing], this.elements + place * SIZE.element));
+    for (const [index, item] of items.entries()) {
+      const at = this.elements + index * SIZE.configurationItem;
+      for (const [name, place] of Object.entries(AT.configurationItem)) all[at + place] = item[name];
+    }
     const length = Number(this.calls.fio2070_encode_configure_inputs(BigInt(this.elements), BigInt(items.length), BigInt(this.out),
-      BigInt(MOST_FRAME)));
+      BigInt(LONGEST_FRAME)));
     return this.machine.octets(this.out, length).slice();
   }
 
   // The text that `show` writes of a message, or the words of its fault.
   show(address, length) {
-    const size = Number(this.calls.fio2070_show(BigInt(address), BigInt(length), BigInt(this.text), BigInt(SIZE.text)));
+    const size = Number(this.calls.fio2070_show(BigInt(address), BigInt(length), BigInt(this.text), BigInt(TEXT_ROOM)));
     return this.decoder.decode(this.machine.octets(this.text, size));
   }
 
@@ -116,22 +117,22 @@ export class Library {
 class Poller {
   constructor(library, number) {
     this.library = library;
-    this.address = library.machine.reserve(16);
+    this.address = library.machine.reserve(SIZE.poller);
     this.number = number;
   }
 
   get number() {
-    return this.library.machine.octets(this.address, 1)[0];
+    return this.library.machine.all[this.address + AT.poller.number];
   }
 
   set number(number) {
-    this.library.machine.octets(this.address, 1)[0] = number;
+    this.library.machine.all[this.address + AT.poller.number] = number;
   }
 
   // The octets of a poll.
   poll() {
     const { library } = this;
-    const length = Number(library.calls.fio2070_poller_poll(BigInt(this.address), BigInt(library.out), BigInt(MOST_FRAME)));
+    const length = Number(library.calls.fio2070_poller_poll(BigInt(this.address), BigInt(library.out), BigInt(LONGEST_FRAME)));
     return library.machine.octets(library.out, length).slice();
   }
 
@@ -140,19 +141,19 @@ class Poller {
     const { library } = this, { all, data } = library.machine, at = library.result;
     library.calls.fio2070_poller_hear(BigInt(at), BigInt(this.address), BigInt(address), BigInt(length),
       BigInt(library.elements), BigInt(MOST_RECORD_ITEMS));
-    const kind = all[at];
+    const place = AT.heard, kind = all[at + place.kind];
     return {
-      kind, code: all[at + 1], number: all[at + 2], status: all[at + 3], entries: all[at + 4],
-      items: kind === HEARD.taken ? data.getUint16(at + 6, true) : 0,
-      fault: kind === HEARD.unreadable ? library.faultAt(at + 8) : null,
+      kind, code: all[at + place.code], number: all[at + place.number], status: all[at + place.status],
+      entries: all[at + place.entries], items: kind === HEARD.taken ? data.getUint16(at + place.items, true) : 0,
+      fault: kind === HEARD.unreadable ? library.faultAt(at + place.fault) : null,
     };
   }
 
-  recordItem(place) {
-    const { all, data } = this.library.machine, at = this.library.elements + place * SIZE.recordItem;
+  recordItem(index) {
+    const { all, data } = this.library.machine, at = this.library.elements + index * SIZE.recordItem, place = AT.recordItem;
     return {
-      isGap: all[at] !== 0, input: all[at + 1], state: all[at + 2],
-      stamp: data.getUint16(at + 6, true), wide: data.getUint32(at + 8, true),
+      isGap: all[at + place.gap] !== 0, input: all[at + place.input], state: all[at + place.state],
+      stamp: data.getUint16(at + place.stamp, true), wide: data.getUint32(at + place.wide, true),
     };
   }
 }
@@ -221,15 +222,15 @@ class Checker {
     const call = isSent ? library.calls.fio2070_checker_sent : library.calls.fio2070_checker_heard;
     const rule = call(this.at, BigInt(address), BigInt(length), BigInt(library.result));
     if (rule === 0) return null;
-    const [, hasDue, due, got] = library.machine.octets(library.result, 4);
-    return { rule, hasDue: hasDue !== 0, due, got };
+    const { all } = library.machine, at = library.result, place = AT.breach;
+    return { rule, hasDue: all[at + place.has_due] !== 0, due: all[at + place.due], got: all[at + place.got] };
   }
 }
 
 class ContentChecker {
   constructor(library) {
     this.library = library;
-    this.at = BigInt(library.machine.reserve(SIZE.content));
+    this.at = BigInt(library.machine.reserve(SIZE.contentChecker));
   }
 
   start() {
@@ -244,8 +245,9 @@ class ContentChecker {
   // none does.
   heard(address, length) {
     const { library } = this;
-    if (library.calls.fio2070_content_heard(this.at, BigInt(address), BigInt(length), BigInt(library.result)) === 0) return null;
-    const [rule, entry, input] = library.machine.octets(library.result, 3);
-    return { rule, entry, input };
+    const rule = library.calls.fio2070_content_heard(this.at, BigInt(address), BigInt(length), BigInt(library.result));
+    if (rule === 0) return null;
+    const { all } = library.machine, at = library.result, place = AT.contentBreach;
+    return { rule, entry: all[at + place.entry], input: all[at + place.input] };
   }
 }

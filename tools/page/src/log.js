@@ -1,7 +1,8 @@
 // A log that is open: its messages in the machine's memory, each decoded and judged once by the proved library, and
 // counts of what was found.
 
-import { BLOCK, CONTENT_RULES, LOAD, POLL, RULES, STATUS_BITS } from './library.js';
+import { CONTENT_RULES, RULES } from './constants.js';
+import { BLOCK, LOAD, POLL, STATUS_BITS } from './library.js';
 import { DIRECTION } from './messagelist.js';
 import { wordsOf } from './words.js';
 import { recordOf } from './record.js';

@@ -1,27 +1,28 @@
 // The view Plan: how often to poll, how late a transition can be, how long an outage may last.
 
+import { INPUTS, STANDARD_WAITING } from './constants.js';
 import { counted, element, labelled, withCommas } from './dom.js';
-import { longestPace, planOf, rowOf } from './planning.js';
+import { WAITING, planOf, rowOf } from './planning.js';
 
 const SLIDERS = [
-  ['inputs', 'open inputs', 1, 64, 64],
+  ['inputs', 'open inputs', 1, INPUTS, INPUTS],
   ['filter', 'smallest filter in samples', 1, 255, 5],
   ['pace', 'a round every so many ms', 1, 255, 19],
   ['lost', 'rounds lost in a row', 0, 8, 0],
   ['outage', 'an outage of so many ms', 0, 3000, 80],
 ];
 const HEADS = ['Open inputs', 'Filter', 'Poll every', 'Waiting', 'Late', 'Waiting, answers lost', 'Late, answers lost',
-  'Outage, 1,024 wait', 'Outage, 8,192 wait'];
+  ...WAITING.map((count) => `Outage, ${withCommas(count)} wait`)];
 
 export class PlanView {
   constructor(root) {
-    this.chosen = { waiting: 1024 };
+    this.chosen = { waiting: STANDARD_WAITING };
     this.sliders = SLIDERS.map((slider) => this.slider(...slider));
     this.answers = element('tbody');
     this.row = element('tr', { id: 'plan-row' });
     this.verdict = element('p', { id: 'plan-verdict', role: 'status' });
     const waiting = element('select', { id: 'plan-waiting', onchange: () => this.choose('waiting', Number(waiting.value)) },
-      element('option', { value: '1024' }, '1,024'), element('option', { value: '8192' }, '8,192'));
+      ...WAITING.map((count) => element('option', { value: String(count) }, withCommas(count))));
     root.append(element('div', { class: 'plan' },
       element('form', { class: 'sliders', onsubmit: (event) => event.preventDefault() }, ...this.sliders,
         labelled('entries that may wait', waiting)),

@@ -1,20 +1,23 @@
 // The formulas of docs/PLANNING.md, with the clause of each.
 
-const MOST_ENTRIES_OF_A_BLOCK = 255;
+import { BLOCK_ENTRIES, MOST_WAITING, STANDARD_WAITING } from './constants.js';
+
+// How many entries may wait: the standard limit, and the largest.
+export const WAITING = [STANDARD_WAITING, MOST_WAITING];
 const upTo = (number, divisor) => Math.ceil(number / divisor);
 const down = (number, divisor) => Math.floor(number / divisor);
 
 // The longest pace: a clean round at least every so many scans.
-export const longestPace = (inputs, filter) => down(MOST_ENTRIES_OF_A_BLOCK * filter, inputs);
+export const longestPace = (inputs, filter) => down(BLOCK_ENTRIES * filter, inputs);
 
 const largest = (count, number) => Math.max(...Array.from({ length: count }, (_, j) => number(j)));
 
 // The most that wait, and the most scans that one is late, with blocks and filters counted whole: rounds so far apart, and
 // blocks so many scans behind.
 const mostWait = (inputs, filter, apart, behind) =>
-  largest(filter + 1, (j) => inputs * upTo(j * apart + behind, filter) - MOST_ENTRIES_OF_A_BLOCK * j);
+  largest(filter + 1, (j) => inputs * upTo(j * apart + behind, filter) - BLOCK_ENTRIES * j);
 const latest = (inputs, filter, apart, behind) =>
-  behind - 1 + largest(inputs, (j) => j * apart - filter * down(MOST_ENTRIES_OF_A_BLOCK * j, inputs));
+  behind - 1 + largest(inputs, (j) => j * apart - filter * down(BLOCK_ENTRIES * j, inputs));
 
 // What follows for `inputs` open inputs with filters of at least `filter`, rounds `pace` scans apart of which `lost` in a
 // row are lost, `waiting` entries that may wait, and an outage of so many scans.
@@ -33,16 +36,14 @@ export function planOf({ inputs, filter, pace, lost, waiting, outage }) {
     hasRoom: inputs * (filter + longest - 1) <= waiting * filter,
     after,
     isRiddenOut: outage <= filter * down(waiting, inputs),
-    caughtUpIn: 1 + upTo(after, MOST_ENTRIES_OF_A_BLOCK),
+    caughtUpIn: 1 + upTo(after, BLOCK_ENTRIES),
   };
 }
 
 // The row of docs/PLANNING.md for so many inputs and such a filter.
 export function rowOf(inputs, filter) {
   const pace = longestPace(inputs, filter);
-  const with1024 = planOf({ inputs, filter, pace, lost: 0, waiting: 1024, outage: 0 });
-  const with8192 = planOf({ inputs, filter, pace, lost: 0, waiting: 8192, outage: 0 });
-  const lostAnswers = { waits: mostWait(inputs, filter, pace, 2 * pace), late: latest(inputs, filter, pace, 2 * pace) };
-  return [inputs, filter, pace, with1024.waits, with1024.late, lostAnswers.waits, lostAnswers.late,
-    with1024.longestOutage, with8192.longestOutage];
+  const plans = WAITING.map((waiting) => planOf({ inputs, filter, pace, lost: 0, waiting, outage: 0 }));
+  return [inputs, filter, pace, plans[0].waits, plans[0].late, mostWait(inputs, filter, pace, 2 * pace),
+    latest(inputs, filter, pace, 2 * pace), ...plans.map((plan) => plan.longestOutage)];
 }

@@ -1,14 +1,15 @@
 // The view Play: both ends and a bus. What is done is a script for `simulate`, which a link in the address holds.
 
-import { element, say, select } from './dom.js';
+import { BLOCK_ENTRIES, INPUTS, STANDARD_WAITING } from './constants.js';
+import { element, say, select, withCommas } from './dom.js';
 import { hexText } from './hex.js';
-import { headerOf, itemText, levelsText, readScript, Run, WAITING } from './script.js';
+import { headerOf, itemText, levelsText, readScript, Run } from './script.js';
 import { wordsOf } from './words.js';
 
 const FIRST = 'fio2070 script 2 2 0';
 const FILTER = 2;
 const SHOWN = 12, SHOWN_LINES = 400;
-const ALL_ONES = 2n ** 64n - 1n;
+const ALL_ONES = 2n ** BigInt(INPUTS) - 1n;
 
 // A text in the address's fragment: base64 with the letters of an address.
 const toFragment = (text) => btoa(text).replace(/\+/g, '-').replace(/\//g, '_').replace(/=+$/, '');
@@ -16,15 +17,15 @@ const fromFragment = (text) => atob(text.replace(/-/g, '+').replace(/_/g, '/'));
 
 // The command that opens all inputs, with both filters the same: octets by the library.
 function configuration(library, filter) {
-  const items = Array.from({ length: 64 }, (_, input) => ({ input, ignore: 0, leading: filter, trailing: filter }));
+  const items = Array.from({ length: INPUTS }, (_, input) => ({ input, ignore: 0, leading: filter, trailing: filter }));
   return hexText(library.encodeConfiguration(items));
 }
 
 export class PlayView {
   constructor(root, library, examples) {
-    Object.assign(this, { library, module: library.module(0, 255), poller: library.poller(0), levels: ALL_ONES, lost: new Set() });
-    this.grid = element('div', { class: 'levels', role: 'group', 'aria-label': 'Levels of the 64 inputs' },
-      ...Array.from({ length: 64 }, (_, input) => this.levelButton(input)));
+    Object.assign(this, { library, module: library.module(0, BLOCK_ENTRIES), poller: library.poller(0), levels: ALL_ONES, lost: new Set() });
+    this.grid = element('div', { class: 'levels', role: 'group', 'aria-label': `Levels of the ${INPUTS} inputs` },
+      ...Array.from({ length: INPUTS }, (_, input) => this.levelButton(input)));
     this.toModule = element('ol', { id: 'to-module', 'aria-label': 'Frames to the module' });
     this.toCpu = element('ol', { id: 'to-cpu', 'aria-label': 'Frames to the CPU' });
     this.ends = element('tbody');
@@ -114,8 +115,9 @@ export class PlayView {
     if (read.fault) {
       this.report.textContent = read.fault + '\n';
       this.trouble.textContent = read.fault;
-    } else if (read.header.waiting !== WAITING) {
-      this.trouble.textContent = `The module of this page has the standard limit of 1,024 waiting entries, and not ${read.header.waiting}.`;
+    } else if (read.header.waiting !== STANDARD_WAITING) {
+      this.trouble.textContent = `The module of this page has the standard limit of ${withCommas(STANDARD_WAITING)} waiting entries, `
+        + `and not ${read.header.waiting}.`;
     } else {
       this.begin(read.header, read.events);
     }

@@ -1,7 +1,8 @@
 // The record that the CPU of a log has, by the proved poller: transitions in order, and gap marks where the module said
 // that entries are missing. Times go on from one another, where the counter wraps, is loaded or starts anew.
 
-import { BLOCK, CONTENT_RULES, HEARD, POLL } from './library.js';
+import { CONTENT_RULES } from './constants.js';
+import { BLOCK, HEARD, POLL } from './library.js';
 import { itemText } from './script.js';
 
 const WRAP = 2 ** 32;

@@ -1,11 +1,11 @@
 // Scripts of `simulate`, run by the proved module and the proved poller. The bus between them is here: frames of each
 // direction have numbers, and a delivery is refused as docs/FORMATS.md says. The report has the words of `simulate`.
 
+import { BLOCK_ENTRIES, MOST_WAITING, STANDARD_WAITING } from './constants.js';
 import { fromHex, hexText } from './hex.js';
 import { HEARD, POLL } from './library.js';
 
 const MOST_EVENTS = 10_000;
-export const WAITING = 1024;
 const B = '(\\d{1,9})';
 const HEADERS = {
   1: new RegExp(`^fio2070 script 1 ${B} ${B}$`),
@@ -27,8 +27,9 @@ export function headerOf(line) {
   for (const version of [1, 2, 3]) {
     const found = HEADERS[version].exec(line);
     if (!found) continue;
-    const [id, number, perBlock = 255, waiting = WAITING] = found.slice(1).map(Number);
-    const isInRange = id <= 255 && number <= 255 && perBlock >= 1 && perBlock <= 255 && waiting >= WAITING && waiting <= 8192;
+    const [id, number, perBlock = BLOCK_ENTRIES, waiting = STANDARD_WAITING] = found.slice(1).map(Number);
+    const isInRange = id <= 255 && number <= 255 && perBlock >= 1 && perBlock <= BLOCK_ENTRIES
+      && waiting >= STANDARD_WAITING && waiting <= MOST_WAITING;
     return isInRange ? { version, id, number, perBlock, waiting, line } : null;
   }
   return null;

@@ -2,7 +2,7 @@
 
 import { lineEvent, PASSED } from './events.js';
 
-const MOST_WAITING = 256;
+const MOST_HELD = 256;
 // So many lines above the first frame may be a heading.
 const MOST_HEADINGS = 20;
 
@@ -59,7 +59,7 @@ export class Queue {
     while (this.held.length > 0) {
       const [first] = this.held;
       if (first instanceof Waiting && first.events === null) {
-        if (this.held.length <= MOST_WAITING) break;
+        if (this.held.length <= MOST_HELD) break;
         close(first);
       }
       events.push(...first instanceof Waiting ? first.events : [first]);

@@ -81,7 +81,7 @@ pub struct Checker(RawChecker);
 
 impl Default for Checker {
     fn default() -> Checker {
-        let mut checker = RawChecker([0; 9]);
+        let mut checker = RawChecker::default();
         unsafe { raw::fio2070_checker_start(&mut checker) };
         Checker(checker)
     }
@@ -90,19 +90,21 @@ impl Default for Checker {
 impl Checker {
     /// The breach of a frame that the CPU sent.
     pub fn sent(&mut self, octets: &[u8]) -> Option<Breach> {
-        let mut breach = Breach::default();
-        let rule = unsafe {
-            raw::fio2070_checker_sent(&mut self.0, octets.as_ptr(), octets.len(), &mut breach)
-        };
-        (rule != 0).then_some(breach)
+        self.breach_by(raw::fio2070_checker_sent, octets)
     }
 
     /// The breach of a frame that the CPU heard.
     pub fn heard(&mut self, octets: &[u8]) -> Option<Breach> {
+        self.breach_by(raw::fio2070_checker_heard, octets)
+    }
+
+    fn breach_by(
+        &mut self,
+        take: unsafe extern "C" fn(&mut RawChecker, *const u8, usize, &mut Breach) -> u8,
+        octets: &[u8],
+    ) -> Option<Breach> {
         let mut breach = Breach::default();
-        let rule = unsafe {
-            raw::fio2070_checker_heard(&mut self.0, octets.as_ptr(), octets.len(), &mut breach)
-        };
+        let rule = unsafe { take(&mut self.0, octets.as_ptr(), octets.len(), &mut breach) };
         (rule != 0).then_some(breach)
     }
 }
@@ -114,7 +116,7 @@ pub struct ContentChecker(RawContentChecker);
 
 impl Default for ContentChecker {
     fn default() -> ContentChecker {
-        let mut content = RawContentChecker([0; 146]);
+        let mut content = RawContentChecker::default();
         unsafe { raw::fio2070_content_start(&mut content) };
         ContentChecker(content)
     }
@@ -182,7 +184,7 @@ pub struct Filters(RawFilters);
 
 impl Default for Filters {
     fn default() -> Filters {
-        let mut filters = RawFilters([0; 27]);
+        let mut filters = RawFilters::default();
         unsafe { raw::fio2070_filters_start(&mut filters) };
         Filters(filters)
     }
@@ -315,7 +317,7 @@ impl Module {
 
     /// It answers `id` to command 60; its blocks have at most `per_block` entries. `None` where that is 0.
     pub fn new(id: u8, per_block: u8) -> Option<Module> {
-        let mut module = RawModule([0; 514]);
+        let mut module = RawModule::default();
         match unsafe { raw::fio2070_module_start(&mut module, id, per_block) } {
             0 => Some(Module(module)),
             _ => None,
@@ -372,7 +374,7 @@ impl<const CAPACITY: usize> SizedModule<CAPACITY> {
 
     /// It answers `id` to command 60; its blocks have at most `per_block` entries. `None` where that is 0.
     pub fn new(id: u8, per_block: u8) -> Option<Self> {
-        let mut raw = RawSizedModule([0; 132]);
+        let mut raw = RawSizedModule::default();
         match unsafe { raw::fio2070_sized_module_start(&mut raw, id, per_block) } {
             0 => Some(SizedModule {
                 raw,

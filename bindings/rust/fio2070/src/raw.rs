@@ -134,9 +134,19 @@ pub struct Breach {
     pub got: u8,
 }
 
-#[derive(Clone)]
+#[derive(Clone, Default)]
 #[repr(C)]
-pub(crate) struct RawChecker(pub [u8; 9]);
+pub(crate) struct RawChecker {
+    pub has_awaited: u8,
+    pub awaited: u8,
+    pub absent_named: u8,
+    pub has_polled: u8,
+    pub polled: u8,
+    pub answered: u8,
+    pub advanced: u8,
+    pub more: u8,
+    pub skips: u8,
+}
 
 /// The first entry of a block that breaks a rule on content: the rule, from 1, the index of the entry in its block, and its
 /// input.
@@ -148,164 +158,163 @@ pub struct ContentBreach {
     pub input: u8,
 }
 
-#[derive(Clone)]
-#[repr(C)]
-pub(crate) struct RawContentChecker(pub [u64; 146]);
+/// Structs that the calls alone read, as words of 64 bits.
+macro_rules! opaque {
+    ($($name:ident: $words:literal,)*) => {$(
+        #[derive(Clone)]
+        #[repr(C)]
+        pub(crate) struct $name([u64; $words]);
 
-#[derive(Clone)]
-#[repr(C)]
-pub(crate) struct RawFilters(pub [u64; 27]);
+        impl Default for $name {
+            fn default() -> $name {
+                $name([0; $words])
+            }
+        }
+    )*};
+}
 
-#[derive(Clone)]
-#[repr(C)]
-pub(crate) struct RawModule(pub [u64; 514]);
+opaque! {
+    RawContentChecker: 146,
+    RawFilters: 27,
+    RawModule: 514,
+    RawSizedModule: 132,
+}
 
-#[derive(Clone)]
-#[repr(C)]
-pub(crate) struct RawSizedModule(pub [u64; 132]);
-
+// The calls: written by tools/generate-layouts. Not each is used here.
+#[allow(dead_code)]
 extern "C" {
-    pub(crate) fn fio2070_fault_text(fault: &Fault, out: *mut u8, room: usize) -> usize;
-    pub(crate) fn fio2070_decode_command(
-        octets: *const u8,
-        length: usize,
-        command: &mut Command,
-    ) -> Fault;
-    pub(crate) fn fio2070_command_items(
-        octets: *const u8,
-        length: usize,
-        items: *mut ConfigurationItem,
-        room: usize,
-    ) -> usize;
-    pub(crate) fn fio2070_show(
-        octets: *const u8,
-        length: usize,
-        text: *mut u8,
-        room: usize,
-    ) -> usize;
-    pub(crate) fn fio2070_show_length(octets: *const u8, length: usize) -> usize;
-    pub(crate) fn fio2070_decode_answer(
-        octets: *const u8,
-        length: usize,
-        answer: &mut Answer,
-    ) -> Fault;
-    pub(crate) fn fio2070_block_entries(
-        octets: *const u8,
-        length: usize,
-        entries: *mut Entry,
-        room: usize,
-    ) -> usize;
-    pub(crate) fn fio2070_widen(answer_stamp: u32, stamp: u16) -> u32;
-    pub(crate) fn fio2070_encode_status(clear: u8, out: *mut u8, room: usize) -> usize;
-    pub(crate) fn fio2070_encode_load_counter(load: u32, out: *mut u8, room: usize) -> usize;
-    pub(crate) fn fio2070_encode_configure_inputs(
-        items: *const ConfigurationItem,
-        count: usize,
-        out: *mut u8,
-        room: usize,
-    ) -> usize;
-    pub(crate) fn fio2070_encode_configure_inputs_length(
-        items: *const ConfigurationItem,
-        count: usize,
-    ) -> usize;
-    pub(crate) fn fio2070_encode_other_command_length(code: u8, length: usize) -> usize;
-    pub(crate) fn fio2070_encode_other_answer_length(code: u8, length: usize) -> usize;
-    pub(crate) fn fio2070_encode_block_answer_length(entries: *const Entry, count: usize) -> usize;
-    pub(crate) fn fio2070_encode_raw_inputs(out: *mut u8, room: usize) -> usize;
-    pub(crate) fn fio2070_encode_filtered_inputs(out: *mut u8, room: usize) -> usize;
-    pub(crate) fn fio2070_encode_poll(block: u8, out: *mut u8, room: usize) -> usize;
-    pub(crate) fn fio2070_encode_set_outputs(
-        levels: &[u8; 8],
-        controls: &[u8; 8],
-        out: *mut u8,
-        room: usize,
-    ) -> usize;
-    pub(crate) fn fio2070_encode_watchdog(timeout: u8, out: *mut u8, room: usize) -> usize;
-    pub(crate) fn fio2070_encode_identify(out: *mut u8, room: usize) -> usize;
-    pub(crate) fn fio2070_encode_other_command(
-        code: u8,
-        body: *const u8,
-        length: usize,
-        out: *mut u8,
-        room: usize,
-    ) -> usize;
     pub(crate) fn fio2070_encode_status_answer(
         flags: u8,
         receive_errors: u8,
         transmit_errors: u8,
         stamp: u32,
         out: *mut u8,
-        room: usize,
+        out_count: usize,
     ) -> usize;
     pub(crate) fn fio2070_encode_load_counter_answer(
         status: u8,
         out: *mut u8,
-        room: usize,
+        out_count: usize,
     ) -> usize;
     pub(crate) fn fio2070_encode_configure_inputs_answer(
         status: u8,
         out: *mut u8,
-        room: usize,
+        out_count: usize,
     ) -> usize;
     pub(crate) fn fio2070_encode_raw_inputs_answer(
         inputs: u64,
         stamp: u32,
         out: *mut u8,
-        room: usize,
+        out_count: usize,
     ) -> usize;
     pub(crate) fn fio2070_encode_filtered_inputs_answer(
         inputs: u64,
         stamp: u32,
         out: *mut u8,
-        room: usize,
-    ) -> usize;
-    pub(crate) fn fio2070_encode_watchdog_answer(status: u8, out: *mut u8, room: usize) -> usize;
-    pub(crate) fn fio2070_encode_other_answer(
-        code: u8,
-        body: *const u8,
-        length: usize,
-        out: *mut u8,
-        room: usize,
+        out_count: usize,
     ) -> usize;
     pub(crate) fn fio2070_encode_block_answer(
         block: u8,
         entries: *const Entry,
-        count: usize,
+        entries_count: usize,
         status: u8,
         stamp: u32,
         out: *mut u8,
-        room: usize,
+        out_count: usize,
     ) -> usize;
-    pub(crate) fn fio2070_poller_hear(
-        poller: &mut RawPoller,
+    pub(crate) fn fio2070_encode_block_answer_length(
+        entries: *const Entry,
+        entries_count: usize,
+    ) -> usize;
+    pub(crate) fn fio2070_encode_watchdog_answer(
+        status: u8,
+        out: *mut u8,
+        out_count: usize,
+    ) -> usize;
+    pub(crate) fn fio2070_encode_other_answer(
+        code: u8,
+        body: *const u8,
+        body_count: usize,
+        out: *mut u8,
+        out_count: usize,
+    ) -> usize;
+    pub(crate) fn fio2070_encode_other_answer_length(code: u8, count: usize) -> usize;
+    pub(crate) fn fio2070_decode_answer(
         octets: *const u8,
-        length: usize,
-        items: *mut RecordItem,
-        room: usize,
-    ) -> RawHeard;
+        octets_count: usize,
+        answer: &mut Answer,
+    ) -> Fault;
+    pub(crate) fn fio2070_block_entries(
+        octets: *const u8,
+        octets_count: usize,
+        entries: *mut Entry,
+        entries_count: usize,
+    ) -> usize;
     pub(crate) fn fio2070_checker_start(checker: &mut RawChecker);
     pub(crate) fn fio2070_checker_sent(
         checker: &mut RawChecker,
         octets: *const u8,
-        length: usize,
+        octets_count: usize,
         breach: &mut Breach,
     ) -> u8;
     pub(crate) fn fio2070_checker_heard(
         checker: &mut RawChecker,
         octets: *const u8,
-        length: usize,
+        octets_count: usize,
         breach: &mut Breach,
     ) -> u8;
+    pub(crate) fn fio2070_encode_status(clear: u8, out: *mut u8, out_count: usize) -> usize;
+    pub(crate) fn fio2070_encode_load_counter(load: u32, out: *mut u8, out_count: usize) -> usize;
+    pub(crate) fn fio2070_encode_configure_inputs(
+        items: *const ConfigurationItem,
+        items_count: usize,
+        out: *mut u8,
+        out_count: usize,
+    ) -> usize;
+    pub(crate) fn fio2070_encode_configure_inputs_length(
+        items: *const ConfigurationItem,
+        items_count: usize,
+    ) -> usize;
+    pub(crate) fn fio2070_encode_raw_inputs(out: *mut u8, out_count: usize) -> usize;
+    pub(crate) fn fio2070_encode_filtered_inputs(out: *mut u8, out_count: usize) -> usize;
+    pub(crate) fn fio2070_encode_poll(block: u8, out: *mut u8, out_count: usize) -> usize;
+    pub(crate) fn fio2070_encode_set_outputs(
+        levels: &[u8; 8],
+        controls: &[u8; 8],
+        out: *mut u8,
+        out_count: usize,
+    ) -> usize;
+    pub(crate) fn fio2070_encode_watchdog(timeout: u8, out: *mut u8, out_count: usize) -> usize;
+    pub(crate) fn fio2070_encode_identify(out: *mut u8, out_count: usize) -> usize;
+    pub(crate) fn fio2070_encode_other_command(
+        code: u8,
+        body: *const u8,
+        body_count: usize,
+        out: *mut u8,
+        out_count: usize,
+    ) -> usize;
+    pub(crate) fn fio2070_encode_other_command_length(code: u8, count: usize) -> usize;
+    pub(crate) fn fio2070_decode_command(
+        octets: *const u8,
+        octets_count: usize,
+        command: &mut Command,
+    ) -> Fault;
+    pub(crate) fn fio2070_command_items(
+        octets: *const u8,
+        octets_count: usize,
+        items: *mut ConfigurationItem,
+        items_count: usize,
+    ) -> usize;
     pub(crate) fn fio2070_content_start(content: &mut RawContentChecker);
     pub(crate) fn fio2070_content_sent(
         content: &mut RawContentChecker,
         octets: *const u8,
-        length: usize,
+        octets_count: usize,
     );
     pub(crate) fn fio2070_content_heard(
         content: &mut RawContentChecker,
         octets: *const u8,
-        length: usize,
+        octets_count: usize,
         breach: &mut ContentBreach,
     ) -> u8;
     pub(crate) fn fio2070_counter_start(counter: &mut RawCounter);
@@ -313,68 +322,86 @@ extern "C" {
     pub(crate) fn fio2070_counter_ask_load(counter: &mut RawCounter, number: u32);
     pub(crate) fn fio2070_counter_line_sync(counter: &mut RawCounter);
     pub(crate) fn fio2070_counter_now(counter: &RawCounter) -> u32;
+    pub(crate) fn fio2070_widen(answer_stamp: u32, low: u16) -> u32;
+    pub(crate) fn fio2070_fault_text(fault: &Fault, out: *mut u8, out_count: usize) -> usize;
     pub(crate) fn fio2070_filters_start(filters: &mut RawFilters);
-    pub(crate) fn fio2070_filters_configure(
-        filters: &mut RawFilters,
-        items: *const ConfigurationItem,
-        count: usize,
-    ) -> RawConfigured;
     pub(crate) fn fio2070_filters_scan(filters: &mut RawFilters, raw: u64) -> u64;
     pub(crate) fn fio2070_filters_filtered(filters: &RawFilters) -> u64;
     pub(crate) fn fio2070_filters_raw(filters: &RawFilters) -> u64;
-    pub(crate) fn fio2070_module_start(module: &mut RawModule, id: u8, per_block: u8) -> u8;
-    pub(crate) fn fio2070_module_restart(module: &mut RawModule);
-    pub(crate) fn fio2070_module_scan(module: &mut RawModule, raw: u64);
-    pub(crate) fn fio2070_module_line_sync(module: &mut RawModule);
-    pub(crate) fn fio2070_module_raise(module: &mut RawModule, mask: u8);
+    pub(crate) fn fio2070_filters_configure(
+        filters: &mut RawFilters,
+        items: *const ConfigurationItem,
+        items_count: usize,
+    ) -> RawConfigured;
+    pub(crate) fn fio2070_module_start(device: &mut RawModule, id: u8, per_block: u8) -> u8;
+    pub(crate) fn fio2070_module_restart(device: &mut RawModule);
+    pub(crate) fn fio2070_module_scan(device: &mut RawModule, raw: u64);
+    pub(crate) fn fio2070_module_line_sync(device: &mut RawModule);
+    pub(crate) fn fio2070_module_raise(device: &mut RawModule, mask: u8);
+    pub(crate) fn fio2070_module_set_errors(device: &mut RawModule, receive: u8, transmit: u8);
     pub(crate) fn fio2070_module_receive(
-        module: &mut RawModule,
+        device: &mut RawModule,
         octets: *const u8,
-        length: usize,
+        octets_count: usize,
         out: &mut [u8; 773],
     ) -> usize;
-    pub(crate) fn fio2070_module_set_errors(module: &mut RawModule, receive: u8, transmit: u8);
-    pub(crate) fn fio2070_module_raw(module: &RawModule) -> u64;
-    pub(crate) fn fio2070_module_flags(module: &RawModule) -> u8;
-    pub(crate) fn fio2070_module_errors(module: &RawModule) -> ErrorCounts;
-    pub(crate) fn fio2070_module_outputs(module: &RawModule) -> Outputs;
-    pub(crate) fn fio2070_module_watchdog_ms(module: &RawModule) -> u8;
-    pub(crate) fn fio2070_module_counter(module: &RawModule) -> u32;
-    pub(crate) fn fio2070_module_filtered(module: &RawModule) -> u64;
-    pub(crate) fn fio2070_module_waiting(module: &RawModule) -> usize;
+    pub(crate) fn fio2070_module_flags(device: &RawModule) -> u8;
+    pub(crate) fn fio2070_module_errors(device: &RawModule) -> ErrorCounts;
+    pub(crate) fn fio2070_module_outputs(device: &RawModule) -> Outputs;
+    pub(crate) fn fio2070_module_watchdog_ms(device: &RawModule) -> u8;
+    pub(crate) fn fio2070_module_counter(device: &RawModule) -> u32;
+    pub(crate) fn fio2070_module_filtered(device: &RawModule) -> u64;
+    pub(crate) fn fio2070_module_raw(device: &RawModule) -> u64;
+    pub(crate) fn fio2070_module_waiting(device: &RawModule) -> usize;
+    pub(crate) fn fio2070_poller_poll(poller: &RawPoller, out: *mut u8, out_count: usize) -> usize;
+    pub(crate) fn fio2070_poller_hear(
+        poller: &mut RawPoller,
+        octets: *const u8,
+        octets_count: usize,
+        items: *mut RecordItem,
+        items_count: usize,
+    ) -> RawHeard;
+    pub(crate) fn fio2070_show(
+        octets: *const u8,
+        octets_count: usize,
+        text: *mut u8,
+        text_count: usize,
+    ) -> usize;
+    pub(crate) fn fio2070_show_length(octets: *const u8, octets_count: usize) -> usize;
     pub(crate) fn fio2070_sized_module_start(
-        module: &mut RawSizedModule,
+        device: &mut RawSizedModule,
         id: u8,
         per_block: u8,
     ) -> u8;
-    pub(crate) fn fio2070_sized_module_restart(module: &mut RawSizedModule);
+    pub(crate) fn fio2070_sized_module_restart(device: &mut RawSizedModule);
     pub(crate) fn fio2070_sized_module_scan(
-        module: &mut RawSizedModule,
+        device: &mut RawSizedModule,
         ring: *mut [u8; 3],
-        capacity: usize,
+        ring_count: usize,
         raw: u64,
     );
-    pub(crate) fn fio2070_sized_module_line_sync(module: &mut RawSizedModule);
-    pub(crate) fn fio2070_sized_module_raise(module: &mut RawSizedModule, mask: u8);
-    pub(crate) fn fio2070_sized_module_receive(
-        module: &mut RawSizedModule,
-        ring: *mut [u8; 3],
-        capacity: usize,
-        octets: *const u8,
-        length: usize,
-        out: &mut [u8; 773],
-    ) -> usize;
+    pub(crate) fn fio2070_sized_module_line_sync(device: &mut RawSizedModule);
+    pub(crate) fn fio2070_sized_module_raise(device: &mut RawSizedModule, mask: u8);
     pub(crate) fn fio2070_sized_module_set_errors(
-        module: &mut RawSizedModule,
+        device: &mut RawSizedModule,
         receive: u8,
         transmit: u8,
     );
-    pub(crate) fn fio2070_sized_module_raw(module: &RawSizedModule) -> u64;
-    pub(crate) fn fio2070_sized_module_flags(module: &RawSizedModule) -> u8;
-    pub(crate) fn fio2070_sized_module_errors(module: &RawSizedModule) -> ErrorCounts;
-    pub(crate) fn fio2070_sized_module_outputs(module: &RawSizedModule) -> Outputs;
-    pub(crate) fn fio2070_sized_module_watchdog_ms(module: &RawSizedModule) -> u8;
-    pub(crate) fn fio2070_sized_module_counter(module: &RawSizedModule) -> u32;
-    pub(crate) fn fio2070_sized_module_filtered(module: &RawSizedModule) -> u64;
-    pub(crate) fn fio2070_sized_module_waiting(module: &RawSizedModule, capacity: usize) -> usize;
+    pub(crate) fn fio2070_sized_module_receive(
+        device: &mut RawSizedModule,
+        ring: *mut [u8; 3],
+        ring_count: usize,
+        octets: *const u8,
+        octets_count: usize,
+        out: &mut [u8; 773],
+    ) -> usize;
+    pub(crate) fn fio2070_sized_module_flags(device: &RawSizedModule) -> u8;
+    pub(crate) fn fio2070_sized_module_errors(device: &RawSizedModule) -> ErrorCounts;
+    pub(crate) fn fio2070_sized_module_outputs(device: &RawSizedModule) -> Outputs;
+    pub(crate) fn fio2070_sized_module_watchdog_ms(device: &RawSizedModule) -> u8;
+    pub(crate) fn fio2070_sized_module_counter(device: &RawSizedModule) -> u32;
+    pub(crate) fn fio2070_sized_module_filtered(device: &RawSizedModule) -> u64;
+    pub(crate) fn fio2070_sized_module_raw(device: &RawSizedModule) -> u64;
+    pub(crate) fn fio2070_sized_module_waiting(device: &RawSizedModule, capacity: usize) -> usize;
+    pub(crate) fn fio2070_version() -> u32;
 }

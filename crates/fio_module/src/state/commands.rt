@@ -31,7 +31,7 @@ const SHORT_OCTETS: usize = 13;
 /// The octets of an answer that is no block: 2 to 13.
 pub type ShortAnswer = ArrayVec<u8, SHORT_OCTETS>;
 
-/// What a command is answered.
+/// The reply to a command.
 #[derive(Debug, Drop)]
 pub enum Reply {
     /// Nothing.
@@ -42,7 +42,7 @@ pub enum Reply {
     Block,
 }
 
-/// A short answer: its type, and the octets after it.
+/// Returns a short answer: its type, and the octets after it.
 fn short_answer(code: u8, fields: &[u8]) -> ShortAnswer
     requires { length fields.now < SHORT_OCTETS }
     ensures written { result.items ≡ code ∷ fields.now }
@@ -83,7 +83,7 @@ impl ModuleState {
         self.write_reply(&reply, frame)
     }
 
-    /// Carries out a command as `obey` does, and says what the answer is. It needs no frame.
+    /// Carries out a command as `obey` does, and returns its reply. It needs no frame.
     // Inlined into `obey`, which it makes a third shorter to run.
     #[inline(always)]
     pub fn carry_out<R: EntryRing>(&mut self, ring: &mut R, command: CommandView<'_>) -> Reply
@@ -110,7 +110,7 @@ impl ModuleState {
         }
     }
 
-    /// The octets of a reply that `carry_out` gave last, `None` where there is no answer.
+    /// Returns the octets of a reply that `carry_out` gave last, `None` if there is no answer.
     pub fn octets_of<'a>(&'a self, reply: &'a Reply) -> Option<&'a [u8]>
         ensures { MatchOption result
             (reply_frame self.now reply.now ≡ None)

@@ -4,7 +4,7 @@ ghost use Rattle.circular_buffer.specs.Buffer.{Buffer};
 ghost use Rattle.fio_message.specs.declared.commands.Command.TheVariants.{Poll};
 ghost use Rattle.fio_module.specs.Settings.{Settings};
 ghost use Rattle.fio_module.specs.Life.{Life, Commanded};
-ghost use Rattle.fio_module.specs.Blocks.{latest_poll};
+ghost use Rattle.fio_module.specs.Blocks.{newest_poll};
 ghost use Rattle.fio_module.specs.Blocks as blocks;
 ghost use Rattle.fio_module.specs.State.{IsAfter, Obeys, sent_frame};
 
@@ -14,7 +14,7 @@ use crate::ring::EntryRing;
 use fio_message::BlockStatus;
 
 impl ModuleState {
-    /// The octets of the block that was sent last, at most 773, none before the first.
+    /// Returns the octets of the block that was sent last, at most 773, none before the first.
     pub fn block(&self) -> &[u8]
         ensures { result.now ≡ (sent_frame self.now).items }
     {
@@ -39,7 +39,7 @@ impl ModuleState {
     fn send_new<R: EntryRing>(&mut self, ring: &mut R, number: u8)
         ensures carried { (settings : Settings) (life : Life)
             → IsAfter settings self.old (R.held ring.old) life
-            → blocks.is_new (latest_poll life) number ≡ true
+            → blocks.is_new (newest_poll life) number ≡ true
             → IsAfter settings self.new (R.held ring.new)
             (Commanded (Poll number) ∷ life) }
         ensures same_memory { R.memory ring.new ≡ R.memory ring.old }
@@ -60,7 +60,7 @@ impl ModuleState {
     fn send_again(&mut self, number: u8)
         ensures { (settings : Settings) (ring : Buffer (List ℕ)) (life : Life)
             → IsAfter settings self.old ring life
-            → blocks.is_new (latest_poll life) number ≡ false
+            → blocks.is_new (newest_poll life) number ≡ false
             → IsAfter settings self.new ring (Commanded (Poll number) ∷ life) }
     {
         self.sent.mark_again();

@@ -4,7 +4,7 @@ ghost use Rattle.fio_tool.specs.Transcript.{HasFrameToKeep, frame_in, frame_with
 
 use fio_check::Line;
 use fio_message::Memory;
-use fio_world::text::{BadLine, after_prefix, is_octets, numbered_lines, read_octets};
+use fio_text::{BadLine, after_prefix, is_octets, numbered_lines, read_octets};
 use std::alloc::{AllocFailed, Global};
 use std::fmt;
 use std::fmt::{Display, Formatter};
@@ -56,8 +56,9 @@ impl<T: Drop> From<AllocFailed<T>> for TraceError {
     }
 }
 
-/// The lines of a transcript: each line of the text that is neither empty nor begins with `#` is
-/// `> HEX`, a frame that the CPU sent, or `< HEX`, one that it heard. A text of any length is read.
+/// Returns the lines of a transcript: each line of the text that is neither empty nor begins with
+/// `#` is `> HEX`, a frame that the CPU sent, or `< HEX`, one that it heard. A text of any length
+/// is read.
 ///
 /// # Errors
 /// The first that applies: `BadLine` for the first line that is neither; `Memory` where the room for
@@ -77,7 +78,7 @@ pub fn read_trace(alloc: Global, text: &[u8]) -> Result<Vec<Line>, TraceError>
     Ok(lines)
 }
 
-/// The line of a transcript that a line with this number writes.
+/// Returns the line of a transcript that a line with this number writes.
 fn read_line(alloc: Global, number: usize, line: &[u8]) -> Result<Line, TraceError>
     ensures ok { IfOk result (λ found. line_in (number, line.now) ≡ Ok found) }
     ensures err { IfErr result (λ fault. fault ≢ TraceError.Memory
@@ -101,8 +102,8 @@ fn read_line(alloc: Global, number: usize, line: &[u8]) -> Result<Line, TraceErr
     })
 }
 
-/// Whether the CPU sent the frame of a line, and the digits of its octets; `None` for a line that
-/// begins neither with `> ` nor with `< `.
+/// Returns whether the CPU sent the frame of a line, and the digits of its octets; `None` for a
+/// line that begins neither with `> ` nor with `< `.
 pub(crate) fn frame_word(line: &[u8]) -> Option<(bool, &[u8])>
     ensures none { IfNone result (frame_in line.now ≡ None) }
     ensures some { IfSome result (λ found. frame_in line.now ≡ frame_with found.0 found.1.now) }

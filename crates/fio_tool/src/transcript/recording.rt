@@ -1,15 +1,16 @@
 //! The record of a transcript's CPU, and the first entry of it that breaks a rule on content, frame by frame.
-ghost use Rattle.std.specs.Prelude.{◌≡◌, Some, true, false, OnOk, length};
+ghost use Rattle.std.specs.Prelude.{◌≡◌, Some, None, IfOk, OnOk, length, true, false};
 ghost use Rattle.std.specs.Option.{option_or};
+ghost use Rattle.fio_message.specs.Decoding.{answer_in, command_in};
+ghost use Rattle.fio_message.specs.Views.{answer_of, command_of};
 ghost use Rattle.fio_check.specs.Lines.{TranscriptLine};
-ghost use Rattle.fio_check.specs.Observations.{observation_on};
+ghost use Rattle.fio_check.specs.Pollers.{poller_below};
 ghost use Rattle.fio_tool.specs.Record.{items_of_cpu};
-ghost use Rattle.fio_tool.specs.Recordings.{IsNoRecording, IsStep, item_broken};
+ghost use Rattle.fio_tool.specs.Recordings.{IsNoRecording, RecordsLine, entries_taken, item_broken};
 
-use super::cpu::TranscriptCpu;
-use fio_check::{ContentBreach, ContentChecker, ContentRule, Observation};
-use fio_cpu::Item;
-use fio_message::Memory;
+use fio_check::{ContentBreach, ContentChecker, ContentRule};
+use fio_cpu::{Heard, Item, Poller};
+use fio_message::{AnswerView, CommandView, Memory};
 use std::alloc::Global;
 
 /// An entry of the record that breaks a rule on content.
@@ -29,7 +30,7 @@ pub(crate) struct BrokenItem {
 #[derive(Drop)]
 pub(crate) struct Recording {
     /// The CPU: it starts at the first poll, and hears each frame below. `None` where nothing is polled.
-    pub(crate) cpu: Option<TranscriptCpu>,
+    pub(crate) cpu: Option<Poller>,
     /// What the rules on content keep.
     checker: ContentChecker,
     /// The first entry that breaks one.
@@ -37,7 +38,7 @@ pub(crate) struct Recording {
 }
 
 impl Recording {
-    /// What is kept above the first line.
+    /// Returns what is kept above the first line.
     pub(crate) fn new() -> Recording
         ensures { IsNoRecording result }
     {
@@ -48,30 +49,33 @@ impl Recording {
         }
     }
 
-    /// Adds a frame that the CPU sent or heard, of the line with this number. It says this to the rules.
+    /// Adds a command that the CPU sent.
+    pub(super) fn send(&mut self, alloc: Global, command: &CommandView<'_>)
+        ensures { (line : TranscriptLine) → line.from_cpu ≡ true
+            → command_in line.octets ≡ Some (command_of command.now)
+            → RecordsLine self.old line self.new }
+    {
+        self.checker.send(command);
+        self.start(alloc, command);
+    }
+
+    /// Adds an answer of the line with this number that the CPU heard.
     ///
     /// # Errors
     /// `Memory` where the record could not grow. Nothing else allocates.
-    pub(super) fn add(
-        &mut self,
-        alloc: Global,
-        number: usize,
-        from_cpu: bool,
-        said: Observation,
-        octets: &[u8],
-    ) -> Result<(), Memory>
-        ensures { (line : TranscriptLine) → line.number ≡ number → line.from_cpu ≡ from_cpu
-            → line.octets ≡ octets.now → said ≡ observation_on line
-            → OnOk result (IsStep self.old line self.new) }
+    pub(super) fn hear(&mut self, number: usize, answer: &AnswerView<'_>) -> Result<(), Memory>
+        ensures { (line : TranscriptLine) → line.number ≡ number → line.from_cpu ≡ false
+            → answer_in line.octets ≡ Some (answer_of answer.now)
+            → OnOk result (RecordsLine self.old line self.new) }
     {
-        if from_cpu {
-            self.send(alloc, said, octets);
-            return Ok(());
+        let entries = self.take(answer)?;
+        if let Some(breach) = self.checker.hear(answer) {
+            self.add_breach(number, entries, breach);
         }
-        self.hear(number, said, octets)
+        Ok(())
     }
 
-    /// The record of the CPU.
+    /// Returns the record of the CPU.
     pub(crate) fn items(&self) -> &[Item]
         ensures { result.now ≡ items_of_cpu self.now.cpu }
     {
@@ -81,33 +85,34 @@ impl Recording {
         }
     }
 
-    /// Adds a frame that the CPU sent.
-    fn send(&mut self, alloc: Global, said: Observation, octets: &[u8])
-        ensures { (line : TranscriptLine) → line.from_cpu ≡ true → line.octets ≡ octets.now
-            → said ≡ observation_on line → IsStep self.old line self.new }
+    /// Starts the CPU at the first poll.
+    fn start(&mut self, alloc: Global, command: &CommandView<'_>)
+        ensures { self.new ≡ (record self.old {
+          cpu = poller_below self.old.cpu (Some (command_of command.now)) None;
+        }) }
     {
-        self.checker.sent(octets);
-        if let Observation::Poll { number } = said {
+        if let CommandView::Poll { block } = *command {
             if self.cpu.is_none() {
-                self.cpu = Some(TranscriptCpu::new(alloc, number));
+                self.cpu = Some(Poller::new(alloc, block));
             }
         }
     }
 
-    /// Adds a frame of the line with this number that the CPU heard.
-    fn hear(&mut self, number: usize, said: Observation, octets: &[u8]) -> Result<(), Memory>
-        ensures { (line : TranscriptLine) → line.number ≡ number → line.from_cpu ≡ false
-            → line.octets ≡ octets.now → said ≡ observation_on line
-            → OnOk result (IsStep self.old line self.new) }
+    /// Hears an answer, as the CPU does, and returns how many entries it takes.
+    fn take(&mut self, answer: &AnswerView<'_>) -> Result<usize, Memory>
+        ensures cpu { OnOk result (self.new ≡ (record self.old {
+          cpu = poller_below self.old.cpu None (Some (answer_of answer.now));
+        })) }
+        ensures entries { IfOk result (λ entries.
+            entries ≡ entries_taken self.old.cpu (Some (answer_of answer.now))) }
     {
-        let entries = match &mut self.cpu {
-            Some(cpu) => cpu.hear(said, octets)?,
-            None => 0,
+        let Some(cpu) = &mut self.cpu else {
+            return Ok(0);
         };
-        if let Some(breach) = self.checker.heard(octets) {
-            self.add_breach(number, entries, breach);
+        match cpu.hear_answer(answer)? {
+            Heard::Block { entries, .. } => Ok(entries),
+            _ => Ok(0),
         }
-        Ok(())
     }
 
     /// Adds a breach in the line with this number, of whose block so many entries were taken.
@@ -124,8 +129,8 @@ impl Recording {
     }
 }
 
-/// A breach in a line, where the record has so many items below the line and its block has so many
-/// entries.
+/// Returns a breach in a line, where the record has so many items below the line and its block has
+/// so many entries.
 fn broken_item(line: usize, items: usize, entries: usize, breach: ContentBreach) -> BrokenItem
     ensures { result ≡ item_broken line items entries breach }
 {

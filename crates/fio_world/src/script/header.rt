@@ -2,8 +2,8 @@
 ghost use Rattle.std.specs.Prelude.{◌≡◌, option_map};
 ghost use Rattle.fio_world.specs.Headers.{header_of, limited_header, limits_in, standard_header};
 
-use crate::text::{after_prefix, read_number, read_small_number, split_at_blank};
 use fio_module::Limits;
+use fio_text::{after_prefix, read_number, read_small_number, split_at_blank};
 
 /// What a script's first line says.
 #[derive(Clone, Copy)]
@@ -18,7 +18,7 @@ pub(crate) struct Header {
     pub restarts: bool,
 }
 
-/// The header that a line is, in one of the three versions.
+/// Returns the header that a line is, in one of the three versions.
 pub(crate) fn read_header(line: &[u8]) -> Option<Header>
     ensures { result ≡ header_of line.now }
 {
@@ -32,7 +32,7 @@ pub(crate) fn read_header(line: &[u8]) -> Option<Header>
     read_limited(words)
 }
 
-/// B B: the identification octet and the first number, with the standard limits.
+/// Reads B B: the identification octet and the first number, with the standard limits.
 fn read_standard(words: &[u8], restarts: bool) -> Option<Header>
     ensures { result ≡ standard_header restarts words.now }
 {
@@ -46,7 +46,7 @@ fn read_standard(words: &[u8], restarts: bool) -> Option<Header>
     })
 }
 
-/// B B N N: the same, then the limits.
+/// Reads B B N N: the identification octet and the first number, then the limits.
 fn read_limited(words: &[u8]) -> Option<Header>
     ensures { result ≡ limited_header words.now }
 {
@@ -62,7 +62,7 @@ fn read_limited(words: &[u8]) -> Option<Header>
     })
 }
 
-/// N N: the limits with these numbers, read whole.
+/// Reads N N: the limits with these numbers, read whole.
 fn read_limits(words: &[u8]) -> Option<Limits>
     ensures { result ≡ limits_in words.now }
 {

@@ -1,20 +1,19 @@
 //! The lines of a report, appended to its text.
 ghost use Rattle.std.specs.Prelude.{◌≡◌, ◌≤◌, ℕ, ◌++◌, IsSomeAnd, OnOk, codes, decimal};
 ghost use Rattle.fio_module.specs.Settings.{Settings};
-ghost use Rattle.fio_world.specs.Link.{Machine};
+ghost use Rattle.fio_link.specs.Link.{Machine};
 ghost use Rattle.fio_world.specs.ReportLines.{ending_lines, ending_text, heard_line, outcome_line, refusal_in, refused_line, sent_line};
 ghost use Rattle.fio_world.specs.Worlds.{ShowsMachine};
 ghost use Rattle.fio_world.specs.declared.outcome.Outcome.TheVariants as outcomes;
 ghost use Rattle.fio_cpu.specs.declared.poller.Heard.TheVariants as heards;
-ghost use Rattle.fio_show.specs.declared.pieces.TheConstants.{NAME_OCTETS};
+ghost use Rattle.fio_text.specs.declared.pieces.TheConstants.{NAME_OCTETS};
 
-use super::record_lines::push_items;
 use crate::outcome::WorldError;
-use crate::push_line;
-use crate::text::push_hexadecimal;
 use crate::world::World;
 use fio_cpu::{Heard, Item};
 use fio_message::Memory;
+use fio_show::push_items;
+use fio_text::{push_hexadecimal, push_line};
 use std::alloc::AllocError;
 
 pub(crate) fn push_quiet(text: &mut Vec<u8>, number: usize) -> Result<(), AllocError>
@@ -24,7 +23,7 @@ pub(crate) fn push_quiet(text: &mut Vec<u8>, number: usize) -> Result<(), AllocE
     push_line!(text; {number as u64} b" quiet\n")
 }
 
-/// A frame was sent.
+/// Appends that a frame was sent.
 pub(crate) fn push_sent(
     text: &mut Vec<u8>,
     number: usize,
@@ -39,7 +38,7 @@ pub(crate) fn push_sent(
     text.extend_from_slice(b"\n")
 }
 
-/// The CPU received a frame.
+/// Appends what the CPU received.
 pub(crate) fn push_heard(text: &mut Vec<u8>, number: usize, heard: Heard) -> Result<(), AllocError>
     ensures { OnOk result (text.new.items
         ≡ text.old.items ++ heard_line number heard) }
@@ -55,7 +54,7 @@ pub(crate) fn push_heard(text: &mut Vec<u8>, number: usize, heard: Heard) -> Res
     }
 }
 
-/// The CPU received a frame that it does not take: why, in words of at most `NAME_OCTETS`, and the octet
+/// Appends that the CPU received a frame that it does not take: why, in words of at most `NAME_OCTETS`, and the octet
 /// that says so.
 fn push_untaken<const N: usize>(
     text: &mut Vec<u8>,
@@ -70,7 +69,7 @@ fn push_untaken<const N: usize>(
     push_line!(text; {number as u64} (words) {octet} b"\n")
 }
 
-/// A block was taken.
+/// Appends that a block was taken.
 fn push_taken(
     text: &mut Vec<u8>,
     number: usize,
@@ -86,7 +85,7 @@ fn push_taken(
     )
 }
 
-/// Why the event with this number did not happen, where that is a refusal.
+/// Appends why the event with this number did not happen, if that is a refusal.
 ///
 /// # Errors
 /// `Memory` where the event ran out of memory, or the text could not grow.
@@ -106,7 +105,7 @@ pub(crate) fn push_refusal(
     Ok(())
 }
 
-/// How a run ended: the module's counter, the CPU's number, how many entries wait, and the record.
+/// Appends how a run ended: the module's counter, the CPU's number, how many entries wait, and the record.
 pub(crate) fn push_ending(text: &mut Vec<u8>, world: &World) -> Result<(), AllocError>
     ensures { (settings : Settings) (first : ℕ) (machine : Machine)
         → ShowsMachine settings first machine world.now

@@ -4,7 +4,7 @@ ghost use Rattle.fio_message.specs.declared.limits.TheConstants.{FRAME_OCTETS};
 ghost use Rattle.std.specs.Option.{option_map};
 ghost use Rattle.std.specs.Borrow.{Bor};
 ghost use Rattle.fio_world.specs.Effects.{octets_numbered};
-ghost use Rattle.fio_world.specs.Link.{item_numbered};
+ghost use Rattle.fio_link.specs.Link.{item_numbered};
 ghost use Rattle.fio_world.specs.EndToEnd.{between, start_at};
 
 use fio_message::{FRAME_OCTETS, Frame, Memory};
@@ -38,7 +38,7 @@ impl Model for StoredFrames {
 }
 
 impl StoredFrames {
-    /// No frames. Takes no memory.
+    /// Returns a list of no frames. Takes no memory.
     pub(crate) fn new(alloc: Global) -> StoredFrames
         ensures { result.frames ≡ [] }
     {
@@ -48,7 +48,7 @@ impl StoredFrames {
         }
     }
 
-    /// How many frames there are.
+    /// Returns how many frames there are.
     pub(crate) fn len(&self) -> usize
         ensures { result ≡ length self.now.frames }
     {
@@ -75,7 +75,7 @@ impl StoredFrames {
         self.ends.push(self.octets.len()).unwrap();
     }
 
-    /// The octets of the frame with this number.
+    /// Returns the octets of the frame with this number.
     pub(crate) fn octets_of(&self, index: usize) -> &[u8]
         requires { (index ≢ 0) × (index ≤ length self.now.frames) }
         ensures is { Some result.now ≡ item_numbered self.now.frames index }
@@ -85,7 +85,7 @@ impl StoredFrames {
         part(self.octets.as_slice(), start, self.ends[index - 1])
     }
 
-    /// The octets of the frame with this number, or none where there is no such frame.
+    /// Returns the octets of the frame with this number, or none if there is no such frame.
     pub(crate) fn octets_or_none(&self, index: usize) -> &[u8]
         ensures is { result.now ≡ octets_numbered self.now.frames index }
         ensures short { length result.now ≤ FRAME_OCTETS }
@@ -96,7 +96,7 @@ impl StoredFrames {
         }
     }
 
-    /// The octets of the frame with this number, or `None` where none has it.
+    /// Returns the octets of the frame with this number, or `None` if none has it.
     pub(crate) fn get(&self, index: usize) -> Option<&[u8]>
         ensures is { option_map (λ (octets : Bor (List ℕ)). octets.now) result
             ≡ item_numbered self.now.frames index }
@@ -112,7 +112,7 @@ impl StoredFrames {
     }
 }
 
-/// Where the frame with this place starts.
+/// Returns where the frame with this place starts.
 fn start_of(ends: &[usize], place: usize) -> usize
     requires { place < length ends.now }
     ensures { result ≡ start_at 0 ends.now place }
@@ -120,7 +120,7 @@ fn start_of(ends: &[usize], place: usize) -> usize
     if place == 0 { 0 } else { ends[place - 1] }
 }
 
-/// The octets between two places.
+/// Returns the octets between two places.
 fn part(octets: &[u8], start: usize, end: usize) -> &[u8]
     requires { (start ≤ end) × (end ≤ length octets.now) }
     ensures { result.now ≡ between octets.now start end }
@@ -128,7 +128,7 @@ fn part(octets: &[u8], start: usize, end: usize) -> &[u8]
     &octets[start..end]
 }
 
-/// A frame of these octets.
+/// Returns a frame of these octets.
 pub(crate) fn frame_of(octets: &[u8]) -> Frame
     requires { length octets.now ≤ FRAME_OCTETS }
     ensures { result ≡ record { items = octets.now } }

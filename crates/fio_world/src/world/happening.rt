@@ -1,32 +1,31 @@
 //! One event on a world.
-ghost use Rattle.std.specs.Prelude.{◌≡◌, ◌≢◌, ◌+◌, ◌≤◌, ◌∷◌, ◌++◌, [], ℕ, None, Some, IfSome, IfOk, IfErr, OnOk, OnErr, length};
+ghost use Rattle.std.specs.Prelude.{◌≡◌, ◌+◌, ◌≤◌, ◌∷◌, ◌++◌, [], None, Some, IfOk, IfErr, OnOk, OnErr, length};
+ghost use Rattle.fio_message.specs.Decoding.{command_in};
+ghost use Rattle.fio_message.specs.declared.commands.Command.{Command};
 ghost use Rattle.fio_message.specs.declared.limits.TheConstants.{FRAME_OCTETS};
-ghost use Rattle.fio_module.specs.Settings.{Settings};
-ghost use Rattle.fio_world.specs.declared.event.Event.{Event as Happening};
-ghost use Rattle.fio_world.specs.declared.event.Event.TheVariants as events;
-ghost use Rattle.fio_world.specs.Effects.{octets_numbered, outcome_in, result_in};
-ghost use Rattle.fio_world.specs.Link.{delivery_refusal, item_numbered, Machine};
-ghost use Rattle.fio_world.specs.Steps.{command_named, event_of};
-ghost use Rattle.fio_world.specs.Worlds.{IsFault, ShowsMachine, Steps};
+ghost use Rattle.fio_link.specs.declared.event.Event.{Event};
+ghost use Rattle.fio_link.specs.declared.event.Event.TheVariants as events;
+ghost use Rattle.fio_link.specs.Link.{delivery_refusal, item_numbered};
+ghost use Rattle.fio_world.specs.Effects.{HappensTo, octets_numbered, outcome_in};
+ghost use Rattle.fio_world.specs.Steps.{command_of, event_of};
+ghost use Rattle.fio_world.specs.Worlds.{IsFault};
 
 use super::World;
 use super::effect::Effect;
 use super::frames::{StoredFrames, frame_of};
-use crate::event::Event;
 use crate::outcome::{Outcome, WorldError};
-use crate::script::{EventForm, Step, command_named};
-use fio_message::{Command, Memory, encode_command};
+use crate::script::{CommandWord, ScriptStep};
+use fio_link::Event;
+use fio_message::{Command, FRAME_OCTETS, Memory, encode_command, read_poll};
 
 /// What may happen to a world: an event, or a step of a script.
 pub(crate) trait WorldEvent {
-    ghost event: { Self → Happening };
+    ghost event: { Self → Event };
 
     /// Lets the event happen, or refuses it and changes nothing: `World::step` without what follows
     /// for runs.
     fn happen(&self, world: &mut World) -> Result<Effect, WorldError>
-        ensures row { (settings : Settings) (first : ℕ) (machine : Machine)
-            → ShowsMachine settings first machine world.old
-            → Steps settings first machine (event self.now) (result_in world.new result) world.new }
+        ensures row { HappensTo (event self.now) world.old result world.new }
         ensures err { OnErr result (world.new ≡ world.old) };
 }
 
@@ -35,107 +34,121 @@ impl WorldEvent for Event {
 
     fn happen(&self, world: &mut World) -> Result<Effect, WorldError> {
         match self {
-            Event::Scan(raw) => world.take(&EventForm::Scan(*raw)),
-            Event::LineSync => world.take(&EventForm::LineSync),
-            Event::Raise(mask) => world.take(&EventForm::Raise(*mask)),
-            Event::Poll => world.take(&EventForm::Poll),
+            Event::Scan(raw) => world.scan(*raw),
+            Event::LineSync => world.line_sync(),
+            Event::Raise(mask) => world.raise(*mask),
+            Event::Poll => world.send_poll(),
             Event::Send(command) => world.send_command(command),
-            Event::ToModule(index) => world.take(&EventForm::ToModule(*index)),
-            Event::ToCpu(index) => world.take(&EventForm::ToCpu(*index)),
-            Event::Restart => world.take(&EventForm::Restart),
+            Event::ToModule(index) => world.deliver_to_module(*index),
+            Event::ToCpu(index) => world.deliver_to_cpu(*index),
+            Event::Restart => world.restart(),
         }
     }
 }
 
-impl WorldEvent for Step<'_> {
-    ghost event = { λ step. step };
+impl WorldEvent for ScriptStep<'_> {
+    ghost event = { λ step. event_of step };
 
     fn happen(&self, world: &mut World) -> Result<Effect, WorldError> {
-        world.take(&self.form)
+        match self {
+            ScriptStep::Scan(raw) => world.scan(*raw),
+            ScriptStep::LineSync => world.line_sync(),
+            ScriptStep::Raise(mask) => world.raise(*mask),
+            ScriptStep::Poll => world.send_poll(),
+            ScriptStep::Send(word) => world.send_word(word),
+            ScriptStep::ToModule(index) => world.deliver_to_module(*index),
+            ScriptStep::ToCpu(index) => world.deliver_to_cpu(*index),
+            ScriptStep::Restart => world.restart(),
+        }
     }
 }
 
+// What needs room for a frame or a command is not inlined: the room would be cleared for each event.
 impl World {
-    /// Lets an event in the form of its line happen, or refuses it and changes nothing. What needs
-    /// room for a frame or a command is apart: the room would be cleared for each event.
-    // Inlined, so that an event of a known form goes straight to what it does.
+    /// Steps the module's counter and samples its inputs.
     #[inline(always)]
-    fn take(&mut self, form: &EventForm<'_>) -> Result<Effect, WorldError>
-        requires { event_of form.now ≢ None }
-        ensures row { (settings : Settings) (first : ℕ) (machine : Machine)
-            → ShowsMachine settings first machine self.old
-            → IfSome (event_of form.now) (λ event.
-            Steps settings first machine event (result_in self.new result) self.new) }
+    fn scan(&mut self, raw: u64) -> Result<Effect, WorldError>
+        ensures row { HappensTo (events.Scan raw) self.old result self.new }
         ensures err { OnErr result (self.new ≡ self.old) }
     {
-        match form {
-            EventForm::Scan(raw) => {
-                self.module.scan(*raw);
-                Ok(Effect::Quiet)
-            }
-            EventForm::LineSync => {
-                self.module.line_sync();
-                Ok(Effect::Quiet)
-            }
-            EventForm::Raise(mask) => {
-                self.module.raise(*mask);
-                Ok(Effect::Quiet)
-            }
-            EventForm::Restart => {
-                self.module.restart();
-                Ok(Effect::Quiet)
-            }
-            EventForm::Poll => self.send_poll(),
-            EventForm::Send(word) => self.send_word(word),
-            EventForm::ToModule(index) => self.deliver_to_module(*index),
-            EventForm::ToCpu(index) => self.deliver_to_cpu(*index),
-        }
+        self.module.scan(raw);
+        Ok(Effect::Quiet)
     }
 
-    /// The CPU polls.
-    // Not inlined: its frame or command would be cleared for each event.
+    /// Raises LINESYNC from 0 to 1 at the module.
+    #[inline(always)]
+    fn line_sync(&mut self) -> Result<Effect, WorldError>
+        ensures row { HappensTo events.LineSync self.old result self.new }
+        ensures err { OnErr result (self.new ≡ self.old) }
+    {
+        self.module.line_sync();
+        Ok(Effect::Quiet)
+    }
+
+    /// Raises the module's status flags whose bits are set.
+    #[inline(always)]
+    fn raise(&mut self, mask: u8) -> Result<Effect, WorldError>
+        ensures row { HappensTo (events.Raise mask) self.old result self.new }
+        ensures err { OnErr result (self.new ≡ self.old) }
+    {
+        self.module.raise(mask);
+        Ok(Effect::Quiet)
+    }
+
+    /// Restarts the module.
+    #[inline(always)]
+    fn restart(&mut self) -> Result<Effect, WorldError>
+        ensures row { HappensTo events.Restart self.old result self.new }
+        ensures err { OnErr result (self.new ≡ self.old) }
+    {
+        self.module.restart();
+        Ok(Effect::Quiet)
+    }
+
+    /// Sends the CPU's poll.
     #[inline(never)]
     fn send_poll(&mut self) -> Result<Effect, WorldError>
-        ensures row { (settings : Settings) (first : ℕ) (machine : Machine)
-            → ShowsMachine settings first machine self.old
-            → Steps settings first machine events.Poll (result_in self.new result) self.new }
+        ensures row { HappensTo events.Poll self.old result self.new }
         ensures err { OnErr result (self.new ≡ self.old) }
     {
         let frame = self.poller.poll();
         self.send(&frame)
     }
 
-    /// The CPU sends the command that the word's octets spell.
-    // Not inlined: its frame or command would be cleared for each event.
+    /// Sends the command that the word names, unless it is a poll.
     #[inline(never)]
-    fn send_word(&mut self, word: &[u8]) -> Result<Effect, WorldError>
-        requires { command_named word.now ≢ None }
-        ensures row { (settings : Settings) (first : ℕ) (machine : Machine)
-            → ShowsMachine settings first machine self.old
-            → IfSome (command_named word.now) (λ command.
-            Steps settings first machine (events.Send command) (result_in self.new result) self.new) }
+    fn send_word(&mut self, word: &CommandWord<'_>) -> Result<Effect, WorldError>
+        ensures row { HappensTo (events.Send (command_of word.now)) self.old result self.new }
         ensures err { OnErr result (self.new ≡ self.old) }
     {
-        self.send_command(&command_named(word).unwrap())
+        let mut room = [0; FRAME_OCTETS];
+        let count = word.octets_to(&mut room);
+        self.send_octets(&room[..count])
     }
 
-    /// The CPU sends a command, unless it is a poll.
-    // Not inlined: its frame or command would be cleared for each event.
+    /// Sends a command, unless it is a poll.
     #[inline(never)]
     fn send_command(&mut self, command: &Command) -> Result<Effect, WorldError>
-        ensures row { (settings : Settings) (first : ℕ) (machine : Machine)
-            → ShowsMachine settings first machine self.old
-            → Steps settings first machine (events.Send command.now) (result_in self.new result)
-            self.new }
+        ensures row { HappensTo (events.Send command.now) self.old result self.new }
         ensures err { OnErr result (self.new ≡ self.old) }
     {
-        match command {
-            Command::Poll { .. } => Err(WorldError::PollIsOurs),
-            command => self.send(&encode_command(command)),
+        self.send_octets(&encode_command(command))
+    }
+
+    /// Sends the octets of a command, unless they are a poll.
+    fn send_octets(&mut self, octets: &[u8]) -> Result<Effect, WorldError>
+        requires { length octets.now ≤ FRAME_OCTETS }
+        ensures row { (command : Command) → command_in octets.now ≡ Some command
+            → HappensTo (events.Send command) self.old result self.new }
+        ensures err { OnErr result (self.new ≡ self.old) }
+    {
+        match read_poll(octets) {
+            Some(_) => Err(WorldError::PollIsOurs),
+            None => self.send(octets),
         }
     }
 
-    /// The outcome that this is.
+    /// Returns the outcome that this is.
     // Inlined, so that a caller who reads no frame copies none.
     #[inline(always)]
     pub(crate) fn outcome(&self, effect: Effect) -> Outcome
@@ -155,7 +168,7 @@ impl World {
         }
     }
 
-    /// The octets of the frame to the module with this number, or none where there is no such frame.
+    /// Returns the octets of the frame to the module with this number, or none if there is no such frame.
     pub(crate) fn octets_to_module(&self, index: usize) -> &[u8]
         ensures is { result.now ≡ octets_numbered self.now.to_module index }
         ensures short { length result.now ≤ FRAME_OCTETS }
@@ -163,7 +176,7 @@ impl World {
         self.to_module.octets_or_none(index)
     }
 
-    /// The octets of the frame to the CPU with this number, or none where there is no such frame.
+    /// Returns the octets of the frame to the CPU with this number, or none if there is no such frame.
     pub(crate) fn octets_to_cpu(&self, index: usize) -> &[u8]
         ensures is { result.now ≡ octets_numbered self.now.to_cpu index }
         ensures short { length result.now ≤ FRAME_OCTETS }
@@ -171,7 +184,7 @@ impl World {
         self.to_cpu.octets_or_none(index)
     }
 
-    /// The CPU sends a frame: it joins those to the module.
+    /// Sends a frame of the CPU: it joins those to the module.
     pub(crate) fn send(&mut self, frame: &[u8]) -> Result<Effect, WorldError>
         requires { length frame.now ≤ FRAME_OCTETS }
         ensures outcome { IfOk result (λ effect. outcome_in self.new effect
@@ -188,15 +201,11 @@ impl World {
         Ok(Effect::ToModule(self.to_module.len()))
     }
 
-    /// The module receives the frame with this number, and its answer, if any, joins those to the
-    /// CPU. Room for it is asked for first: what the module has received can't be taken back.
-    // Not inlined: its frame or command would be cleared for each event.
+    /// Delivers the frame with this number to the module. Its answer, if any, joins those to the CPU.
+    /// Room for it is asked for first: what the module has received can't be taken back.
     #[inline(never)]
     fn deliver_to_module(&mut self, index: usize) -> Result<Effect, WorldError>
-        ensures row { (settings : Settings) (first : ℕ) (machine : Machine)
-            → ShowsMachine settings first machine self.old
-            → Steps settings first machine (events.ToModule index) (result_in self.new result)
-            self.new }
+        ensures row { HappensTo (events.ToModule index) self.old result self.new }
         ensures err { OnErr result (self.new ≡ self.old) }
     {
         let octets = to_deliver(&self.to_module, self.last_to_module, index)?;
@@ -214,12 +223,9 @@ impl World {
         }
     }
 
-    /// The CPU hears the frame with this number.
+    /// Delivers the frame with this number to the CPU.
     fn deliver_to_cpu(&mut self, index: usize) -> Result<Effect, WorldError>
-        ensures row { (settings : Settings) (first : ℕ) (machine : Machine)
-            → ShowsMachine settings first machine self.old
-            → Steps settings first machine (events.ToCpu index) (result_in self.new result)
-            self.new }
+        ensures row { HappensTo (events.ToCpu index) self.old result self.new }
         ensures err { OnErr result (self.new ≡ self.old) }
     {
         let octets = to_deliver(&self.to_cpu, self.last_to_cpu, index)?;
@@ -233,7 +239,7 @@ impl World {
     }
 }
 
-/// The octets of the frame with this number among those sent in its direction. The delivery is refused
+/// Returns the octets of the frame with this number among those sent in its direction. The delivery is refused
 /// where none has it, or where the frame delivered last has a higher one.
 fn to_deliver(frames: &StoredFrames, last: usize, index: usize) -> Result<&[u8], WorldError>
     ensures fine { OnOk result (delivery_refusal (length frames.now.frames) last index ≡ None) }

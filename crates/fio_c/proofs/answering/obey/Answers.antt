@@ -1,4 +1,5 @@
-use Rattle.fio_c.proofs.Replies.{writes-spelled}
+use Rattle.std.proofs.Common.{subst, ◌∙◌}
+use Rattle.fio_flat.specs.Written.{Writes}
 use Rattle.fio_c.proofs.answering.obey.Goals as goal
 
 pub returns-in-Status-clause-carried : goal.returns-in-Status-clause-carried
@@ -8,5 +9,5 @@ returns-in-Status-clause-carried g c settings life after =
 pub returns-in-Status-clause-answer : goal.returns-in-Status-clause-answer
 returns-in-Status-clause-answer g c settings life after =
     rw c.in-Status.is
-    (writes-spelled _ c.clear_flags-answer.result c.as_slice.result.now _ _ _
-    (c.clear_flags-answer.ensures settings _ life after).1 c.as_slice.ensures.value c.write_front.ensures)
+    (subst (λ octets. Writes octets c.args.out.now c.write_front.new.out c.write_front.result)
+    (c.as_slice.ensures.value ∙ (c.clear_flags-answer.ensures settings _ life after).1.spelled) c.write_front.ensures)

@@ -1,5 +1,5 @@
 use Rattle.fio_module.specs.Rings.{held_in}
-use Rattle.fio_c.specs.Module.{events_reached}
+use Rattle.fio_flat.specs.Module.{events_reached}
 use Rattle.fio_c.proofs.module.fio2070_module_raw.Goals as goal
 
 pub returns : goal.returns

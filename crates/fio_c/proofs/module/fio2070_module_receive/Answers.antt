@@ -1,4 +1,4 @@
-use Rattle.fio_c.specs.Module.{events_reached}
+use Rattle.fio_flat.specs.Module.{events_reached}
 use Rattle.fio_c.proofs.module.fio2070_module_receive.Goals as goal
 
 pub returns-clause-stands : goal.returns-clause-stands

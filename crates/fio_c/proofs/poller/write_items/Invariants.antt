@@ -1,5 +1,5 @@
 use Rattle.std.proofs.Common.{◌≡◌, ◌≤◌, ◌+◌, length, map, take, drop, ◌++◌}
-use Rattle.fio_c.specs.Hearing.{flat_record_item}
+use Rattle.fio_flat.specs.Hearing.{flat_record_item}
 use Rattle.fio_c.proofs.poller.write_items.Given as goal
 
 -- the iterator is the list of the items that are left

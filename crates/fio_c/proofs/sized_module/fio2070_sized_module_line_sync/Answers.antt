@@ -1,5 +1,5 @@
 use Rattle.fio_module.specs.Rings.{ring_in}
-use Rattle.fio_c.specs.Module.{events_reached}
+use Rattle.fio_flat.specs.Module.{events_reached}
 use Rattle.fio_c.proofs.sized_module.fio2070_sized_module_line_sync.Goals as goal
 
 pub returns : goal.returns

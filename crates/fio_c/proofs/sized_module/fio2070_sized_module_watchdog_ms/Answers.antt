@@ -1,7 +1,7 @@
 use Rattle.std.proofs.Common.{ap, ◌∙◌}
 use Rattle.std.specs.Prelude.{unwrap_or}
 use Rattle.fio_module.specs.Rings.{ring_in}
-use Rattle.fio_c.specs.Module.{events_reached}
+use Rattle.fio_flat.specs.Module.{events_reached}
 use Rattle.fio_c.proofs.sized_module.fio2070_sized_module_watchdog_ms.Goals as goal
 
 pub returns : goal.returns

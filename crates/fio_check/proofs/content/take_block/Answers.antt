@@ -1,9 +1,4 @@
-use Rattle.std.proofs.Common.{◌∙◌, ap}
-use Rattle.fio_message.specs.Status.{says_more}
-use Rattle.fio_message.specs.Views.{entries_of}
-use Rattle.fio_check.specs.ContentAbove.{content_with}
-use Rattle.fio_check.specs.ContentEvents.{Ended}
-use Rattle.fio_check.specs.ContentKept.{facts_kept}
+use Rattle.fio_check.proofs.Names.{◌∙◌, ap, says_more, entries_of, content_with, Ended, facts_kept}
 use Rattle.fio_check.proofs.KeptContent.{block_found, block_next}
 use Rattle.fio_check.proofs.content.take_block.Goals as goal
 

@@ -1,12 +1,4 @@
-use Rattle.std.proofs.Common.{◌≡◌, ◌≤◌, ◌+◌, length, map}
-use Rattle.std.specs.Prelude.{fold}
-use Rattle.std.specs.Option.{option_or}
-use Rattle.fio_message.specs.Views.{entries_of}
-use Rattle.fio_cpu.specs.Record.{item_of}
-use Rattle.fio_check.specs.ContentAbove.{content_with}
-use Rattle.fio_check.specs.ContentCheckers.{breach_among}
-use Rattle.fio_check.specs.ContentEvents.{Recorded}
-use Rattle.fio_check.specs.ContentKept.{facts_kept}
+use Rattle.fio_check.proofs.Names.{◌≡◌, ◌≤◌, ◌+◌, length, map, fold, option_or, entries_of, item_of, content_with, breach_among, Recorded, facts_kept}
 use Rattle.fio_check.proofs.content.take_entries.Given as goal
 
 abbrev pub invariant-entries : goal.invariant-entries

@@ -1,10 +1,4 @@
-use Rattle.std.proofs.Common.{◌∙◌, ap}
-use Rattle.std.specs.Option.{option_or}
-use Rattle.fio_cpu.specs.declared.record.Item.TheVariants.{Entry}
-use Rattle.fio_check.specs.ContentAbove.{content_with}
-use Rattle.fio_check.specs.ContentCheckers.{breach_found}
-use Rattle.fio_check.specs.ContentEvents.{Recorded}
-use Rattle.fio_check.specs.ContentKept.{facts_kept}
+use Rattle.fio_check.proofs.Names.{◌∙◌, ap, option_or, Entry, content_with, breach_found, Recorded, facts_kept}
 use Rattle.fio_check.proofs.content.take_entry.Goals as goal
 
 pub returns-clause-found : goal.returns-clause-found

@@ -1,5 +1,4 @@
-use Rattle.fio_check.specs.Facts.{is_answering, number_polled, status_of_block}
-use Rattle.fio_check.specs.Observations.{observation_at}
+use Rattle.fio_check.proofs.Names.{is_answering, number_polled, status_of_block, observation_at}
 use Rattle.fio_check.proofs.Places.{is_the_latest}
 use Rattle.fio_check.proofs.laws.latest_is_latest_above.Goals as goal
 

@@ -1,7 +1,4 @@
-use Rattle.std.proofs.Common.{◌≡◌}
-use Rattle.std.specs.List.{list_any}
-use Rattle.fio_message.specs.Views.{entries_of}
-use Rattle.fio_check.specs.Observations.{is_absent}
+use Rattle.fio_check.proofs.Names.{◌≡◌, list_any, entries_of, is_absent}
 use Rattle.fio_check.proofs.observation.names_absent_entry.Given as goal
 
 abbrev pub invariant-loop-entry : goal.invariant-loop-entry

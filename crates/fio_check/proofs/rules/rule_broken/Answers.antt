@@ -1,5 +1,4 @@
-use Rattle.std.proofs.Common.{◌∙◌, sym}
-use Rattle.fio_check.specs.Rules.{breaks, rules}
+use Rattle.fio_check.proofs.Names.{◌∙◌, sym, breaks, rules}
 use Rattle.fio_check.specs.declared.rules.Rule.TheVariants.{Readable}
 use Rattle.fio_check.proofs.FirstFound.{find-more}
 use Rattle.fio_check.proofs.rules.rule_broken.Goals as goal

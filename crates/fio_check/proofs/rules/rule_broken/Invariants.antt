@@ -1,6 +1,4 @@
-use Rattle.std.proofs.Common.{◌≡◌, drop}
-use Rattle.std.specs.Prelude.{find}
-use Rattle.fio_check.specs.Rules.{breaks, rules, first_broken}
+use Rattle.fio_check.proofs.Names.{◌≡◌, drop, find, breaks, rules, first_broken}
 use Rattle.fio_check.proofs.rules.rule_broken.Given as goal
 
 abbrev pub invariant-rules : goal.invariant-rules

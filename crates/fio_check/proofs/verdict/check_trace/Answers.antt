@@ -1,9 +1,4 @@
-use Rattle.std.proofs.Common.{◌≡◌, ◌∙◌, suc, sym, ap, refl, add-one, arith, None, Some}
-use Rattle.std.proofs.lemmas.Option.{slice_get_read}
-use Rattle.fio_check.specs.Facts.{facts_with}
-use Rattle.fio_check.specs.Observations.{observation_on}
-use Rattle.fio_check.specs.Rules.{first_broken}
-use Rattle.fio_check.specs.declared.verdict.Verdict.TheVariants.{Broken}
+use Rattle.fio_check.proofs.Names.{◌≡◌, ◌∙◌, suc, sym, ap, refl, add-one, arith, None, Some, slice_get_read, facts_with, observation_on, first_broken, Broken}
 use Rattle.fio_check.proofs.BreachesSoFar.{stands_with_line, verdict_of_breach}
 use Rattle.fio_check.proofs.verdict.check_trace.Goals as goal
 

@@ -1,4 +1,4 @@
-use Rattle.std.proofs.Common.{None}
+use Rattle.fio_check.proofs.Names.{None}
 use Rattle.fio_check.proofs.BreachesSoFar.{StandsSoFar}
 use Rattle.fio_check.proofs.verdict.check_trace.Given as goal
 

@@ -1,12 +1,7 @@
-use Rattle.std.proofs.Common.{◌≡◌, ◌<◌, ◌^◌, ℕ, true, get_or, refl, ap, sym, ◌∙◌, inl, inr, subst, arith}
-use Rattle.std.specs.Int.{w64, trailing_zeros}
-use Rattle.std.proofs.lemmas.Bool.Decides.{eqb_tells}
-use Rattle.fio_message.specs.Bits.{is_set}
-use Rattle.fio_message.proofs.Bits.{is_set-zero, is_set-set_same, is_set-set_other}
+use Rattle.fio_input.proofs.Names.{◌≡◌, ◌<◌, ◌^◌, ℕ, true, get_or, refl, ap, sym, ◌∙◌, inl, inr, subst, arith, w64, trailing_zeros, eqb_tells, is_set, is_set-zero, is_set-set_same, is_set-set_other, next_length, meets_filter}
 use Rattle.fio_input.proofs.LowestBit.{less_without, lowest_of, without}
-use Rattle.fio_input.specs.Runs.{next_length, meets_filter}
-use Rattle.fio_input.proofs.few.step_few.Goals as goal
 use Rattle.fio_input.proofs.few.step_few.Goals.{then-step_run, else-step_run}
+use Rattle.fio_input.proofs.few.step_few.Goals as goal
 
 pub inputs-init : goal.inputs-init
 inputs-init c =

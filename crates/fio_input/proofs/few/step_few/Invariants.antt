@@ -1,6 +1,4 @@
-use Rattle.std.proofs.Common.{◌≡◌, ℕ, ◌<◌, true, false, length, get_or}
-use Rattle.fio_message.specs.Bits.{is_set}
-use Rattle.fio_input.specs.Runs.{next_length, meets_filter}
+use Rattle.fio_input.proofs.Names.{◌≡◌, ℕ, ◌<◌, true, false, length, get_or, is_set, next_length, meets_filter}
 use Rattle.fio_input.proofs.few.step_few.Given as goal
 
 abbrev pub invariant-inputs : goal.invariant-inputs

@@ -1,4 +1,4 @@
-use Rattle.std.proofs.Common.{sym, arith}
+use Rattle.fio_input.proofs.Names.{sym, arith}
 use Rattle.fio_input.proofs.Present.{front-more, position-front, position-none}
 use Rattle.fio_input.proofs.filters.first_bad_item.Goals as goal
 

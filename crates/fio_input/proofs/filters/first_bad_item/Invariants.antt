@@ -1,4 +1,4 @@
-use Rattle.std.proofs.Common.{◌≤◌}
+use Rattle.fio_input.proofs.Names.{◌≤◌}
 use Rattle.fio_input.proofs.Present.{front}
 use Rattle.fio_input.proofs.filters.first_bad_item.Given as goal
 

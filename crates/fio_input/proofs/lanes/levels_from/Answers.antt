@@ -1,5 +1,4 @@
-use Rattle.std.proofs.Common.{◌/◌, ◌^◌, ◌∙◌}
-use Rattle.fio_message.proofs.Bits.{is_set-low, is_set-shr}
+use Rattle.fio_input.proofs.Names.{◌/◌, ◌^◌, ◌∙◌, is_set-low, is_set-shr}
 use Rattle.fio_input.proofs.lanes.levels_from.Goals as goal
 
 pub returns-clause-bits : goal.returns-clause-bits

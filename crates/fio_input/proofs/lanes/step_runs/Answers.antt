@@ -1,8 +1,4 @@
-use Rattle.std.proofs.Common.{◌≡◌, ℕ, ◌+◌, ◌-◌, ◌*◌, ◌%◌, ◌^◌, ◌<◌, ◌≤◌, false, leb, get_or, refl, sym, ap, ap₂, ◌∙◌, subst, arith}
-use Rattle.std.specs.Int.Bits.{bit_or}
-use Rattle.fio_message.specs.Bits.{is_set, bit_of}
-use Rattle.fio_message.proofs.Bits.{is_set-zero, is_set-above, is_set-placed_below, is_set-placed_at}
-use Rattle.fio_input.specs.Runs.{next_length, meets_filter}
+use Rattle.fio_input.proofs.Names.{◌≡◌, ℕ, ◌+◌, ◌-◌, ◌*◌, ◌%◌, ◌^◌, ◌<◌, ◌≤◌, false, leb, get_or, refl, sym, ap, ap₂, ◌∙◌, subst, arith, bit_or, is_set, bit_of, is_set-zero, is_set-above, is_set-placed_below, is_set-placed_at, next_length, meets_filter}
 use Rattle.fio_input.proofs.Groups.{group_more}
 use Rattle.fio_input.proofs.LevelLanes.{next_in_lanes, meets_in_lanes}
 use Rattle.fio_input.proofs.Stepped.{IsStepped, IsMet, differing_is_set}

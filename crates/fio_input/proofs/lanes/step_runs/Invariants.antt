@@ -1,5 +1,4 @@
-use Rattle.std.proofs.Common.{◌≡◌, ℕ, ◌*◌, ◌<◌, ◌≤◌, false, length, get_or}
-use Rattle.fio_message.specs.Bits.{is_set}
+use Rattle.fio_input.proofs.Names.{◌≡◌, ℕ, ◌*◌, ◌<◌, ◌≤◌, false, length, get_or, is_set}
 use Rattle.fio_input.proofs.Stepped.{IsStepped, IsMet}
 use Rattle.fio_input.proofs.lanes.step_runs.Given as goal
 

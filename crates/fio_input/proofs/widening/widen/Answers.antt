@@ -1,4 +1,4 @@
-use Rattle.std.proofs.Common.{arith}
+use Rattle.fio_input.proofs.Names.{arith}
 use Rattle.std.proofs.lemmas.Nat.{and_mask}
 use Rattle.fio_input.specs.Widening.{wide_time_of}
 use Rattle.fio_input.proofs.widening.widen.Goals as goal

@@ -1,38 +1,25 @@
-use Rattle.std.proofs.Common.{◌≡◌, Ok, Err, ap, sym, ◌∙◌, arith}
-use Rattle.std.proofs.lemmas.Result.{err_from_is_err_and}
-use Rattle.fio_message.specs.Commands.{command_length}
-use Rattle.fio_message.specs.Reading.{command_at}
-use Rattle.fio_message.specs.Refusals.{IsWhole, Refuses}
-use Rattle.fio_message.specs.Decoding.{decoded_command}
-use Rattle.fio_message.specs.Views.{command_read}
+use Rattle.fio_message.proofs.Names.{Ok, Err, ap, sym, ◌∙◌, arith, err_from_is_err_and, command_length, command_at, command_read}
 use Rattle.fio_message.proofs.Numbers.{octets_from_each}
-use Rattle.fio_message.proofs.DecodingLaws.{decoded-refused, decoded-whole}
+use Rattle.fio_message.proofs.DecodingLaws.{refused-by, whole-by}
 use Rattle.fio_message.proofs.Accepting.{accepts}
 use Rattle.fio_message.proofs.CommandLaws.{command_grammar}
 use Rattle.fio_message.proofs.command_view.read_command.Goals as goal
 
 pub returns-in_err-code-clause-exact : goal.returns-in_err-code-clause-exact
 returns-in_err-code-clause-exact c =
-    let octets = c.args.octets.now in
     let p = err_from_is_err_and c.from_residual.result c.from_residual.ensures.1 in
-    let fault : Refuses (command_length octets) octets c.in_err-code.field-0.0 = rw (← c.command_length.ensures) c.in_err-code.ensures in
-    rw p.1 (decoded-refused command_length command_at octets c.in_err-code.field-0.0 fault ∙ ap Err (sym p.2))
+    rw p.1 (refused-by command_length command_at _ _ _ c.command_length.ensures c.in_err-code.ensures ∙ ap Err (sym p.2))
 
 pub returns-in_err-code-clause-accepted : goal.returns-in_err-code-clause-accepted
 returns-in_err-code-clause-accepted c =
-    let octets = c.args.octets.now in
-    let each = octets_from_each octets (λ i. omega (arith, c.type_inv.octets i)) in
+    let octets = octets_from_each c.args.octets.now (λ i. omega (arith, c.type_inv.octets i)) in
     let p = err_from_is_err_and c.from_residual.result c.from_residual.ensures.1 in
-    let fault : Refuses (command_length octets) octets c.in_err-code.field-0.0 = rw (← c.command_length.ensures) c.in_err-code.ensures in
-    let same : command_read c.from_residual.result ≡ decoded_command octets =
-    ap command_read p.1 ∙ ap Err p.2 ∙ sym (decoded-refused command_length command_at octets c.in_err-code.field-0.0 fault) in
-    accepts command_grammar octets (command_read c.from_residual.result) each same
+    let refused = refused-by command_length command_at _ _ _ c.command_length.ensures c.in_err-code.ensures in
+    accepts command_grammar c.args.octets.now _ octets (ap command_read p.1 ∙ ap Err p.2 ∙ sym refused)
 
 pub returns-clause-exact : goal.returns-clause-exact
 returns-clause-exact c =
-    let octets = c.args.octets.now in
-    let whole : IsWhole (command_length octets) octets c.in_ok-code.code c.in_ok-code.fields.now = rw (← c.command_length.ensures) c.in_ok-code.ensures in
-    decoded-whole command_length command_at octets c.in_ok-code.code c.in_ok-code.fields.now whole ∙ ap Ok (sym c.view_of.ensures)
+    whole-by command_length command_at _ _ _ _ c.command_length.ensures c.in_ok-code.ensures ∙ ap Ok (sym c.view_of.ensures)
 
 pub returns-clause-accepted : goal.returns-clause-accepted
 returns-clause-accepted c =

@@ -1,4 +1,4 @@
-use Rattle.std.proofs.Common.{List, ℕ, ◌++◌, ap, ◌∙◌}
+use Rattle.fio_message.proofs.Names.{List, ℕ, ◌++◌, ap, ◌∙◌}
 use Rattle.fio_message.proofs.encoding.append_answer_fields.Goals as goal
 
 pub returns-in-RawInputs-clause-appended : goal.returns-in-RawInputs-clause-appended

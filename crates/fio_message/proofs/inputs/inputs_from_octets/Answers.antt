@@ -1,4 +1,4 @@
-use Rattle.std.proofs.lemmas.Nat.{le_bytes_8}
+use Rattle.fio_message.proofs.Names.{le_bytes_8}
 use Rattle.fio_message.proofs.inputs.inputs_from_octets.Goals as goal
 
 pub returns-clause-undone : goal.returns-clause-undone

@@ -1,4 +1,4 @@
-use Rattle.std.proofs.Common.{◌≡◌, ◌-◌, length, min, arith}
+use Rattle.fio_message.proofs.Names.{◌≡◌, ◌-◌, length, min, arith}
 use Rattle.fio_message.proofs.Fronts.{take-two_parts}
 use Rattle.fio_message.proofs.kept_block.front.Goals as goal
 

@@ -1,17 +1,17 @@
 use Rattle.std.proofs.Common.{◌++◌, codes, decimal, drop, ap, ap₂, ◌∙◌, arith, length-drop}
 use Rattle.fio_show.proofs.EndingLemmas.{front, front-before, front-short}
-use Rattle.fio_show.proofs.RoomLemmas.{start-of}
+use Rattle.fio_text.proofs.RoomLemmas.{start-of}
 use Rattle.fio_show.proofs.entry_lines.put_front.Goals as goal
 
 pub returns-clause-put : goal.returns-clause-put
 returns-clause-put g c =
-    c.put.ensures.put
+    c.put_pieces.ensures.put
     ∙ ap (λ more. c.args.margin.now ++ more)
-    (c.put-end.ensures.put
+    (c.put_pieces-put.ensures.put
     ∙ ap (λ more. codes "input " ++ more)
-    (c.put_number-end.ensures.put
-    ∙ ap₂ (λ input more. decimal input ++ (codes " state " ++ more)) (c.from-2.ensures ∙ c.get.ensures.same)
-    (c.put_decimal-end.ensures.put ∙ ap (λ level. decimal level ++ drop 64 c.args.line.now) c.from.ensures)))
+    (c.put_pieces-put_number.ensures.put
+    ∙ ap₂ (λ input more. decimal input ++ (codes " state " ++ more)) (c.put_pieces-from-2.ensures ∙ c.get.ensures.same)
+    (c.put_pieces-put_decimal.ensures.put ∙ ap (λ level. decimal level ++ drop 64 c.args.line.now) c.put_pieces-from.ensures)))
 
 pub returns-clause-start : goal.returns-clause-start
 returns-clause-start g c =
@@ -20,11 +20,11 @@ returns-clause-start g c =
     let rest = drop 64 c.args.line.now in
     let is = returns-clause-put g c ∙ front-before margin entry.input entry.level rest in
     let short = front-short margin entry.input entry.level (omega arith) (omega (arith, c.get.ensures.same, c.get.ensures.below)) in
-    omega (arith, short, start-of c.put.new.line (front margin entry.input entry.level) rest c.put.result is (omega arith), length-drop 64 c.args.line.now)
+    omega (arith, short, start-of c.put_pieces.new.line (front margin entry.input entry.level) rest c.put_pieces.result is (omega arith), length-drop 64 c.args.line.now)
 
 pub returns-clause-kept : goal.returns-clause-kept
 returns-clause-kept g c =
-    c.put.ensures.kept 64 (omega arith)
-    ∙ c.put-end.ensures.kept 64 (omega arith)
-    ∙ c.put_number-end.ensures.kept 64 (omega arith)
-    ∙ c.put_decimal-end.ensures.kept 64 (omega arith)
+    c.put_pieces.ensures.kept 64 (omega arith)
+    ∙ c.put_pieces-put.ensures.kept 64 (omega arith)
+    ∙ c.put_pieces-put_number.ensures.kept 64 (omega arith)
+    ∙ c.put_pieces-put_decimal.ensures.kept 64 (omega arith)

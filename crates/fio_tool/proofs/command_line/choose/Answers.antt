@@ -1,8 +1,6 @@
-use Rattle.std.proofs.Common.{◌≡◌, ◌∙◌, sym, ap, subst, option_map, map, List, ℕ, []}
+use Rattle.fio_tool.proofs.Names.{◌≡◌, ◌∙◌, sym, ap, subst, option_map, map, List, ℕ, [], App, is_simple, subcommand_of, chosen_name}
 use Rattle.clap.specs.Matches.{subcommand_name_of}
-use Rattle.clap.specs.Simple.{App, is_simple, subcommand_of}
 use Rattle.clap.specs.Faults.{fault_of, is_simple_and_free}
-use Rattle.fio_tool.specs.CommandLine.{chosen_name}
 use Rattle.fio_tool.proofs.CommandLineLemmas.{command_line-is_simple, command_line-is_simple_and_free, name-of_rows, chosen-tool}
 use Rattle.fio_tool.proofs.command_line.choose.Goals as goal
 

@@ -1,9 +1,4 @@
-use Rattle.std.proofs.Common.{◌≡◌, ◌∙◌, sym, ap, get_or, take}
-use Rattle.std.specs.Prelude.{fold}
-use Rattle.clap.specs.Simple.{app_of, new_shape, shape_of, with_subcommand}
-use Rattle.fio_tool.specs.CommandLine.{program, with_tool}
-use Rattle.fio_tool.specs.CommandLine.{name_of, tools}
-use Rattle.fio_tool.specs.declared.tools.Tool.TheVariants.{Show}
+use Rattle.fio_tool.proofs.Names.{◌≡◌, ◌∙◌, sym, ap, get_or, take, fold, app_of, new_shape, shape_of, with_subcommand, program, with_tool, name_of, tools, Show}
 use Rattle.fio_tool.proofs.CommandLineLemmas.{with_tools-more}
 use Rattle.fio_tool.proofs.command_line.command_line.Goals as goal
 

@@ -1,6 +1,4 @@
-use Rattle.std.proofs.Common.{◌≡◌, ◌<◌, ℕ, get_or}
-use Rattle.fio_tool.specs.CommandLine.{name_of, tools}
-use Rattle.fio_tool.specs.declared.tools.Tool.TheVariants.{Show}
+use Rattle.fio_tool.proofs.Names.{◌≡◌, ◌<◌, ℕ, get_or, name_of, tools, Show}
 use Rattle.fio_tool.proofs.command_line.tool_named.Given as goal
 
 -- no tool so far has the name

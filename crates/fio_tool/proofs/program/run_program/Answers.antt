@@ -1,4 +1,4 @@
-use Rattle.std.proofs.Common.{◌≡◌, map, sym}
+use Rattle.fio_tool.proofs.Names.{◌≡◌, map, sym}
 use Rattle.fio_tool.proofs.CommandLineLemmas.{only_tool, some_tool, no_tool}
 use Rattle.fio_tool.proofs.program.run_program.Goals as goal
 

@@ -1,4 +1,4 @@
-use Rattle.std.proofs.Common.{◌≡◌, ◌++◌, take, drop, arith}
+use Rattle.fio_tool.proofs.Names.{◌≡◌, ◌++◌, take, drop, arith}
 use Rattle.std.proofs.lemmas.Grind.{common_steps}
 use Rattle.std.proofs.KnownBytes.{Consumes-trans}
 use Rattle.fio_tool.proofs.streams.read_input.Goals as goal

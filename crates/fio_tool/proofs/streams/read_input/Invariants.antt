@@ -1,4 +1,4 @@
-use Rattle.std.proofs.Common.{◌-◌, ◌≤◌, vec_len}
+use Rattle.fio_tool.proofs.Names.{◌-◌, ◌≤◌, vec_len}
 use Rattle.std.specs.Io.KnownBytes.{Consumes}
 use Rattle.fio_tool.specs.declared.streams.TheConstants.{MOST_READ}
 use Rattle.fio_tool.proofs.streams.read_input.Given as goal

@@ -1,4 +1,4 @@
-use Rattle.std.proofs.Common.{◌≡◌, ◌++◌, ◌-◌, ◌∙◌, ap, take, drop, length, arith, append_assoc, take-append-drop}
+use Rattle.fio_tool.proofs.Names.{◌≡◌, ◌++◌, ◌-◌, ◌∙◌, ap, take, drop, length, arith, append_assoc, take-append-drop}
 use Rattle.std.proofs.lemmas.Grind.{common_steps}
 use Rattle.std.proofs.KnownBytes.{Appends-trans}
 use Rattle.fio_tool.proofs.streams.write_text.Goals as goal

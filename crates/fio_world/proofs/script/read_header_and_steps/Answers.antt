@@ -1,6 +1,5 @@
-use Rattle.std.proofs.Common.{sym, ◌∙◌}
-use Rattle.std.proofs.lemmas.Result.{err_from_is_err_and}
-use Rattle.fio_world.proofs.ReadingLemmas.{front_with_header, whole_front}
+use Rattle.fio_world.proofs.Names.{sym, ◌∙◌, err_from_is_err_and}
+use Rattle.fio_world.proofs.ReadingLemmas.{front_with_header, some_events, whole_front}
 use Rattle.fio_world.proofs.script.read_header_and_steps.Goals as goal
 
 pub returns-in_err-steps-clause-memory : goal.returns-in_err-steps-clause-memory
@@ -13,4 +12,4 @@ pub returns-clause-front : goal.returns-clause-front
 returns-clause-front c some =
     let header = sym c.read_header.ensures ∙ c.in-Some-read_header.is in
     rw c.in-Some.ensures.first
-    (front_with_header c.in-Some-read_header.header _ _ header (whole_front _ _ _ c.in_ok-steps.ensures.ok some))
+    (front_with_header c.in-Some-read_header.header _ _ header (whole_front _ _ _ c.in_ok-steps.ensures.ok (some_events _ some)))

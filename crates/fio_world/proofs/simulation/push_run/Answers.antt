@@ -1,5 +1,4 @@
-use Rattle.std.proofs.Common.{◌<◌, ◌≤◌, length, map, refl, rules}
-use Rattle.std.proofs.lemmas.List.{length-map}
+use Rattle.fio_world.proofs.Names.{◌<◌, ◌≤◌, length, map, refl, rules, length-map}
 use Rattle.fio_world.proofs.ReportLemmas.{ReportGoesOn-done, ReportGoesOn-refused, ReportGoesOn-end, event_at_place}
 use Rattle.fio_world.proofs.simulation.push_run.Goals as goal
 

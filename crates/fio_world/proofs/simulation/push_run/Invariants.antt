@@ -1,8 +1,4 @@
-use Rattle.std.proofs.Common.{ℕ, map}
-use Rattle.fio_module.specs.Settings.{Settings}
-use Rattle.fio_world.specs.Link.{Machine}
-use Rattle.fio_world.specs.Reports.{after_text, report_from}
-use Rattle.fio_world.specs.Worlds.{ShowsMachine}
+use Rattle.fio_world.proofs.Names.{ℕ, map, Settings, Machine, after_text, report_from, ShowsMachine}
 use Rattle.fio_world.proofs.ReportLemmas.{ReportGoesOn}
 use Rattle.fio_world.proofs.simulation.push_run.Given as goal
 

@@ -1,4 +1,4 @@
-use Rattle.std.proofs.Common.{ap, sym}
+use Rattle.fio_world.proofs.Names.{ap, sym}
 use Rattle.fio_world.proofs.simulation.report_on.Goals as goal
 
 pub returns-clause-text : goal.returns-clause-text

@@ -1,7 +1,4 @@
-use Rattle.std.proofs.Common.{rules}
-use Rattle.fio_module.specs.Settings.{settings_with}
-use Rattle.fio_world.specs.Link.{start}
-use Rattle.fio_world.specs.Worlds.{ShowsMachine}
+use Rattle.fio_world.proofs.Names.{rules, settings_with, start, ShowsMachine}
 use Rattle.fio_world.proofs.simulation.report_run.Goals as goal
 
 pub returns-in-Ok-clause-text : goal.returns-in-Ok-clause-text

@@ -1,7 +1,4 @@
-use Rattle.std.proofs.Common.{◌≡◌, ◌∙◌, ◌≢◌, ℕ, Some, ap, sym, arith, refl}
-use Rattle.fio_message.specs.Blocks.{Block, block_answer}
-use Rattle.fio_message.specs.Views.{answer_of, entries_of}
-use Rattle.fio_check.specs.ContentKept.{content_kept, facts_kept, number_in}
+use Rattle.fio_check.proofs.Names.{◌≡◌, ◌∙◌, ◌≢◌, Some, ap, sym, refl, Block, block_answer, answer_of, entries_of, content_kept, facts_kept, flagged_number}
 use Rattle.fio_check.proofs.KeptContent.{number_there, taken_found, taken_next}
 use Rattle.fio_check.proofs.content.ContentChecker.hear.Goals as goal
 
@@ -12,7 +9,7 @@ returns-else-block-self-clause-found c =
     let same : c.in-Block.block ≡ old.number = c.if-block-self.false in
     let block : Block = record { number = c.in-Block.block; entries = entries_of c.in-Block.entries; status = c.in-Block.status; stamp = c.in-Block.stamp } in
     let is : answer_of c.args.answer.now ≡ block_answer block = rw c.in-Block.is refl in
-    taken_found (number_in old.has_number old.number) (facts_kept old.above) (answer_of c.args.answer.now) block c.take_block.result
+    taken_found (flagged_number old.has_number old.number) (facts_kept old.above) (answer_of c.args.answer.now) block c.take_block.result
     (number_there old.has_number old.number there ∙ ap Some (sym same)) is (c.take_block.ensures.found c.in-Block.block)
 
 pub returns-else-block-self-clause-next : goal.returns-else-block-self-clause-next

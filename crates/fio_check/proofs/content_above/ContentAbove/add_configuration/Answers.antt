@@ -1,6 +1,4 @@
-use Rattle.std.proofs.Common.{◌∙◌, ap₂, false}
-use Rattle.fio_message.specs.Views.{items_of}
-use Rattle.fio_check.specs.ContentKept.{facts_kept}
+use Rattle.fio_check.proofs.Names.{◌∙◌, ap₂, false, items_of, facts_kept}
 use Rattle.fio_check.proofs.KeptContent.{filters_only, latest_unquiet}
 use Rattle.fio_check.proofs.content_above.ContentAbove.add_configuration.Goals as goal
 

@@ -1,9 +1,7 @@
-use Rattle.std.proofs.Common.{◌≡◌, ◌∙◌, ℕ, refl}
-use Rattle.std.specs.Prelude.{if◌then◌else◌}
-use Rattle.fio_check.specs.ContentKept.{facts_kept}
+use Rattle.fio_check.proofs.Names.{◌≡◌, ◌∙◌, ℕ, refl, if◌then◌else◌, facts_kept}
 use Rattle.fio_check.proofs.KeptContent.{entry_kept}
-use Rattle.fio_check.proofs.content_above.ContentAbove.add_entry.Goals as goal
 use Rattle.fio_check.proofs.content_above.ContentAbove.add_entry.Goals.{then-level, else-level}
+use Rattle.fio_check.proofs.content_above.ContentAbove.add_entry.Goals as goal
 
 pub returns : goal.returns
 returns c stamp =

@@ -1,5 +1,4 @@
-use Rattle.std.proofs.Common.{ap, None}
-use Rattle.fio_check.specs.ContentKept.{facts_kept}
+use Rattle.fio_check.proofs.Names.{ap, None, facts_kept}
 use Rattle.fio_check.proofs.KeptContent.{no_latest}
 use Rattle.fio_check.proofs.content_above.ContentAbove.add_gap.Goals as goal
 

@@ -1,5 +1,4 @@
-use Rattle.std.proofs.Common.{◌∙◌, ap}
-use Rattle.fio_check.specs.ContentKept.{facts_kept, filters_added}
+use Rattle.fio_check.proofs.Names.{◌∙◌, ap, facts_kept, filters_added}
 use Rattle.fio_check.proofs.KeptContent.{filters_more}
 use Rattle.fio_check.proofs.content_above.ContentAbove.name_inputs.Goals as goal
 

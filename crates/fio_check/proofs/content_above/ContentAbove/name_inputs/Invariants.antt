@@ -1,6 +1,4 @@
-use Rattle.std.proofs.Common.{◌≡◌}
-use Rattle.fio_message.specs.Views.{items_of}
-use Rattle.fio_check.specs.ContentKept.{facts_kept, filters_added}
+use Rattle.fio_check.proofs.Names.{◌≡◌, items_of, facts_kept, filters_added}
 use Rattle.fio_check.proofs.content_above.ContentAbove.name_inputs.Given as goal
 
 abbrev pub invariant-items : goal.invariant-items

@@ -1,5 +1,4 @@
-use Rattle.std.proofs.Common.{ap₂, replicate}
-use Rattle.fio_check.specs.ContentAbove.{no_content}
+use Rattle.fio_check.proofs.Names.{ap₂, replicate, no_content}
 use Rattle.fio_check.proofs.KeptContent.{no_filters, no_latest}
 use Rattle.fio_check.proofs.content_above.ContentAbove.new.Goals as goal
 

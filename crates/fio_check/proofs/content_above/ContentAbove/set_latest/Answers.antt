@@ -1,5 +1,4 @@
-use Rattle.std.proofs.Common.{◌≡◌, ◌<◌, ◌∙◌, ap, arith}
-use Rattle.fio_check.specs.ContentKept.{facts_kept}
+use Rattle.fio_check.proofs.Names.{◌≡◌, ◌<◌, ◌∙◌, ap, arith, facts_kept}
 use Rattle.fio_check.proofs.KeptContent.{latest_set}
 use Rattle.fio_check.proofs.content_above.ContentAbove.set_latest.Goals as goal
 

@@ -1,5 +1,4 @@
-use Rattle.std.proofs.Common.{sym, ◌∙◌, arith}
-use Rattle.fio_message.proofs.Bits.{is_set-set_same, is_set-set_other, is_set-clear_same, is_set-clear_other}
+use Rattle.fio_input.proofs.Names.{sym, ◌∙◌, arith, is_set-set_same, is_set-set_other, is_set-clear_same, is_set-clear_other}
 use Rattle.fio_input.proofs.Configured.{item_carries}
 use Rattle.fio_input.proofs.filters.Filters.apply.Goals as goal
 

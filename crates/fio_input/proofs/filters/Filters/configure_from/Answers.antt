@@ -1,7 +1,4 @@
-use Rattle.std.proofs.Common.{◌∷◌, [], take, sym, ◌∙◌, refl, subst, arith}
-use Rattle.std.proofs.lemmas.List.{take_more, take_all}
-use Rattle.fio_input.specs.FilterHistory.{Configure}
-use Rattle.fio_input.specs.Filters.{AreFiltersAfter}
+use Rattle.fio_input.proofs.Names.{◌∷◌, [], take, sym, ◌∙◌, refl, subst, arith, take_more, take_all, Configure, AreFiltersAfter}
 use Rattle.fio_input.proofs.Configured.{AreFiltersAfter-unapplied}
 use Rattle.fio_input.proofs.Present.{all_present-none, all_present-some, all_present-take, all_present-at, applied_items-some}
 use Rattle.fio_input.proofs.filters.Filters.configure_from.Goals as goal

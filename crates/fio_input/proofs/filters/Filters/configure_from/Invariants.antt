@@ -1,6 +1,4 @@
-use Rattle.std.proofs.Common.{List, ◌∷◌, take}
-use Rattle.fio_input.specs.FilterHistory.{FilterEvent, Configure}
-use Rattle.fio_input.specs.Filters.{AreFiltersAfter}
+use Rattle.fio_input.proofs.Names.{List, ◌∷◌, take, FilterEvent, Configure, AreFiltersAfter}
 use Rattle.fio_input.proofs.filters.Filters.configure_from.Given as goal
 
 abbrev pub invariant-loop-place : goal.invariant-loop-place

@@ -1,6 +1,4 @@
-use Rattle.std.proofs.Common.{refl, arith, inr}
-use Rattle.std.proofs.lemmas.Simd.{get_or-replicate}
-use Rattle.fio_message.proofs.Bits.{is_set-ones}
+use Rattle.fio_input.proofs.Names.{refl, arith, inr, get_or-replicate, is_set-ones}
 use Rattle.fio_input.proofs.filters.Filters.new.Goals as goal
 
 pub returns-clause-history : goal.returns-clause-history

@@ -1,5 +1,4 @@
-use Rattle.std.proofs.Common.{◌≡◌, ℕ, take, length, min, ap, ◌∙◌, arith}
-use Rattle.std.proofs.lemmas.List.{take_min}
+use Rattle.fio_message.proofs.Names.{◌≡◌, ℕ, take, length, min, ap, ◌∙◌, arith, take_min}
 use Rattle.fio_message.proofs.kept_block.KeptBlock.as_slice.Goals as goal
 
 pub returns : goal.returns

@@ -1,5 +1,4 @@
-use Rattle.std.proofs.Common.{◌≡◌, ℕ, List, length, take, min, ap, sym, ◌∙◌, subst, arith}
-use Rattle.fio_message.specs.Blocks.{SpellsBlock}
+use Rattle.fio_message.proofs.Names.{◌≡◌, ℕ, List, length, take, min, ap, sym, ◌∙◌, subst, arith, SpellsBlock}
 use Rattle.fio_message.specs.KeptBlock.{block_sent_again, marked_octets}
 use Rattle.fio_message.proofs.Marks.{marked-kept, spells-marked}
 use Rattle.fio_message.proofs.kept_block.KeptBlock.mark_again.Goals as goal

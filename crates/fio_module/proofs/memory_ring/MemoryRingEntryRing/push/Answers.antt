@@ -1,9 +1,4 @@
-use Rattle.std.proofs.Common.{◌≡◌, ◌+◌, ◌-◌, ◌<◌, ◌≤◌, ◌++◌, ◌∷◌, [], length, drop, min, ap, ap₂, sym, ◌∙◌, arith, inl, inr, length-append}
-use Rattle.std.specs.Prelude.{slice_set}
-use Rattle.std.proofs.lemmas.Bool.Decides.{leb_tells}
-use Rattle.std.proofs.lemmas.List.{length-set}
-use Rattle.circular_buffer.specs.Buffer.{buffer}
-use Rattle.fio_module.specs.Rings.{first_in}
+use Rattle.fio_module.proofs.Names.{◌≡◌, ◌+◌, ◌-◌, ◌<◌, ◌≤◌, ◌++◌, ◌∷◌, [], length, drop, min, ap, ap₂, sym, ◌∙◌, arith, inl, inr, length-append, slice_set, leb_tells, length-set, buffer, first_in}
 use Rattle.fio_module.proofs.ArrayRings.{ring_from, ring-length, push-straight, push-wrapped, push-full, push-full_last}
 use Rattle.fio_module.proofs.MemoryRings.{first_in-inside, first_in-same}
 use Rattle.fio_module.proofs.memory_ring.MemoryRingEntryRing.push.Goals as goal

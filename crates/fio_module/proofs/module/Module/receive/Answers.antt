@@ -1,4 +1,4 @@
-use Rattle.std.proofs.Common.{Option, ℕ, sym, subst}
+use Rattle.fio_module.proofs.Names.{Option, ℕ, sym, subst}
 use Rattle.arrayvec.specs.ArrayVec.{ArrayVec}
 use Rattle.fio_message.specs.Views.{command_of}
 use Rattle.fio_module.specs.Replies.{Encodes, reply_to}

@@ -1,7 +1,4 @@
-use Rattle.std.proofs.Common.{◌≡◌, [], List, ℕ, sym, subst}
-use Rattle.circular_buffer.specs.Buffer.{Buffer, buffer}
-use Rattle.fio_module.specs.Settings.{settings_with}
-use Rattle.fio_module.specs.State.{IsAfter}
+use Rattle.fio_module.proofs.Names.{◌≡◌, [], List, ℕ, sym, subst, Buffer, buffer, settings_with, IsAfter}
 use Rattle.fio_module.proofs.module.Module.with_limits.Goals as goal
 
 pub returns : goal.returns

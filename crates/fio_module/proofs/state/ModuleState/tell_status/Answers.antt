@@ -1,9 +1,6 @@
-use Rattle.std.proofs.Common.{◌∷◌, List, ℕ, sym, subst}
+use Rattle.fio_module.proofs.Names.{◌∷◌, List, ℕ, sym, subst, SpellsAnswer, flags_of, Commanded, counter_of}
 use Rattle.fio_message.specs.declared.answers.Answer.TheVariants as answers
 use Rattle.fio_message.specs.declared.commands.Command.TheVariants as commands
-use Rattle.fio_message.specs.Answers.{SpellsAnswer}
-use Rattle.fio_module.specs.Flags.{flags_of}
-use Rattle.fio_module.specs.Life.{Commanded, counter_of}
 use Rattle.fio_module.proofs.state.ModuleState.tell_status.Goals as goal
 
 pub returns : goal.returns

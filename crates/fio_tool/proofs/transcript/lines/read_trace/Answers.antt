@@ -1,8 +1,4 @@
-use Rattle.std.proofs.Common.{◌≡◌, ◌∙◌, ◌++◌, List, [], ◌∷◌, Result, Ok, Err, map, refl, sym, ap, append_assoc}
-use Rattle.std.proofs.lemmas.List.{map-append}
-use Rattle.fio_world.specs.FirstFaults.{values_or_fault, with_first}
-use Rattle.fio_check.specs.Lines.{TranscriptLine}
-use Rattle.fio_tool.specs.Transcript.{line_in}
+use Rattle.fio_tool.proofs.Names.{◌≡◌, ◌∙◌, ◌++◌, List, [], ◌∷◌, Result, Ok, Err, map, refl, sym, ap, append_assoc, map-append, values_or_fault, with_first, TranscriptLine, line_in}
 use Rattle.fio_tool.specs.declared.transcript.lines.TraceError.{TraceError}
 use Rattle.fio_tool.proofs.transcript.lines.read_trace.Goals as goal
 

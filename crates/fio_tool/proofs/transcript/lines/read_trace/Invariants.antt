@@ -1,7 +1,4 @@
-use Rattle.std.proofs.Common.{◌≡◌, ◌++◌, Ok, map}
-use Rattle.fio_world.specs.FirstFaults.{values_or_fault, with_first}
-use Rattle.fio_world.specs.Lines.{lines_of, numbered}
-use Rattle.fio_tool.specs.Transcript.{line_in, transcript_in}
+use Rattle.fio_tool.proofs.Names.{◌≡◌, ◌++◌, Ok, map, values_or_fault, with_first, lines_of, numbered, line_in, transcript_in}
 use Rattle.fio_tool.proofs.transcript.lines.read_trace.Given as goal
 
 abbrev pub invariant-lines : goal.invariant-lines

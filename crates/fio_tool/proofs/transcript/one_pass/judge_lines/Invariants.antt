@@ -1,16 +1,10 @@
-use Rattle.std.proofs.Common.{◌≡◌, ◌+◌, ◌≤◌, List, None, Ok, length, map, true}
-use Rattle.std.specs.Result.{result_err}
-use Rattle.fio_world.specs.FirstFaults.{values_or_fault}
-use Rattle.fio_check.specs.Lines.{TranscriptLine}
-use Rattle.fio_tool.specs.Transcript.{line_in, transcript_in}
+use Rattle.fio_tool.proofs.Names.{◌≡◌, ◌+◌, ◌≤◌, List, Ok, length, map, result_err, values_or_fault, TranscriptLine, line_in, transcript_in}
 use Rattle.fio_tool.proofs.CheckedLines.{IsCourse}
-use Rattle.fio_tool.proofs.RecordedLines.{IsRecordingSoFar}
 use Rattle.fio_tool.proofs.transcript.one_pass.judge_lines.Given as goal
 
 abbrev pub invariant-lines : goal.invariant-lines
 invariant-lines l = record {
   within : l.frames + length l.number-iterator ≤ length l.text;
   faults : result_err (values_or_fault (map line_in l.number-iterator)) ≡ result_err (transcript_in l.text);
-  course : (lines : List TranscriptLine) → transcript_in l.text ≡ Ok lines → IsCourse lines l.frames l.number-iterator l.facts l.breach;
-  recorded : (lines : List TranscriptLine) → transcript_in l.text ≡ Ok lines → l.records ≡ true → l.breach ≡ None → IsRecordingSoFar lines l.number-iterator l.recording;
+  course : (lines : List TranscriptLine) → transcript_in l.text ≡ Ok lines → IsCourse lines l.frames l.number-iterator l.judging;
 }

@@ -1,8 +1,7 @@
-use Rattle.std.proofs.Common.{◌≡◌, length, ap, ◌∙◌, arith, length-drop}
+use Rattle.fio_world.proofs.Names.{◌≡◌, length, ap, ◌∙◌, arith, length-drop, number_of}
 use Rattle.fio_module.specs.Blocks.{waiting_from, waiting_of}
 use Rattle.fio_module.specs.Life.{life_of, counter_of}
 use Rattle.fio_module.specs.Log.{log_of}
-use Rattle.fio_world.specs.Link.{number_of}
 use Rattle.fio_world.proofs.simulation.lines.push_ending.Goals as goal
 
 pub returns : goal.returns

@@ -1,7 +1,5 @@
-use Rattle.std.proofs.Common.{rules, ◌≡◌, ◌≢◌, ℕ, List, ◌++◌, IsSomeAnd, codes, decimal, refl}
+use Rattle.fio_world.proofs.Names.{rules, ◌≡◌, ◌≢◌, ℕ, List, ◌++◌, IsSomeAnd, codes, decimal, refl, refusal_in, refused_line, WorldError}
 use Rattle.fio_world.specs.Faults.{world_error_text}
-use Rattle.fio_world.specs.ReportLines.{refusal_in, refused_line}
-use Rattle.fio_world.specs.declared.outcome.WorldError.{WorldError}
 use Rattle.fio_world.specs.declared.outcome.WorldError.TheVariants.{NotSent, OutOfOrder, PollIsOurs, Memory}
 use Rattle.fio_world.proofs.simulation.lines.push_refusal.Goals as goal
 

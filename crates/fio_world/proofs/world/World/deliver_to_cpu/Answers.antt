@@ -1,10 +1,7 @@
-use Rattle.std.proofs.Common.{sym, refl, subst}
-use Rattle.std.proofs.lemmas.Result.{err_from_is_err_and}
-use Rattle.fio_world.specs.declared.event.Event.TheVariants as events
-use Rattle.fio_world.specs.declared.outcome.Outcome.TheVariants as outcomes
-use Rattle.fio_world.specs.Ends.{Ends}
-use Rattle.fio_world.specs.Worlds.{IsDone}
+use Rattle.fio_world.proofs.Names.{sym, refl, subst, err_from_is_err_and, Ends, IsDone}
 use Rattle.fio_world.proofs.Shown.{done_heard, fault_heard, fault_to_cpu}
+use Rattle.fio_link.specs.declared.event.Event.TheVariants as events
+use Rattle.fio_world.specs.declared.outcome.Outcome.TheVariants as outcomes
 use Rattle.fio_world.proofs.world.World.deliver_to_cpu.Goals as goal
 
 pub returns-in_err-octets-clause-row : goal.returns-in_err-octets-clause-row

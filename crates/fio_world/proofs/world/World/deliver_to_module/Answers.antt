@@ -1,14 +1,9 @@
-use Rattle.std.proofs.Common.{◌≡◌, ◌∷◌, ◌++◌, [], ◌∙◌, ap, sym, refl, subst, None, length}
-use Rattle.std.proofs.lemmas.List.{append-nil}
-use Rattle.std.proofs.lemmas.Result.{err_from_is_err_and}
+use Rattle.fio_world.proofs.Names.{◌≡◌, ◌∷◌, ◌++◌, [], ◌∙◌, ap, sym, refl, subst, None, length, append-nil, err_from_is_err_and, Ends, IsDone, replied_after}
 use Rattle.fio_module.specs.Replies.{reply_to}
-use Rattle.fio_world.specs.declared.event.Event.TheVariants as events
 use Rattle.fio_world.specs.Effects.{outcome_in}
 use Rattle.fio_world.specs.declared.world.effect.Effect.TheVariants.{ToCpu}
-use Rattle.fio_world.specs.Ends.{Ends}
-use Rattle.fio_world.specs.Worlds.{IsDone}
-use Rattle.fio_world.specs.Outcomes.{replied_after}
 use Rattle.fio_world.proofs.Shown.{reply_octets, silent, encoded, encoded_outcome, newest, done_received, fault_to_module}
+use Rattle.fio_link.specs.declared.event.Event.TheVariants as events
 use Rattle.fio_world.proofs.world.World.deliver_to_module.Goals as goal
 
 pub returns-in_err-octets-clause-row : goal.returns-in_err-octets-clause-row

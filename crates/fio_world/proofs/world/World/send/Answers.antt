@@ -1,7 +1,6 @@
-use Rattle.std.proofs.Common.{◌+◌, ◌∷◌, ◌++◌, [], length, ap, ◌∙◌}
-use Rattle.fio_world.specs.declared.outcome.Outcome.TheVariants as outcomes
-use Rattle.fio_world.specs.Ends.{Ends}
+use Rattle.fio_world.proofs.Names.{◌+◌, ◌∷◌, ◌++◌, [], length, ap, ◌∙◌, Ends}
 use Rattle.fio_world.proofs.Shown.{newest}
+use Rattle.fio_world.specs.declared.outcome.Outcome.TheVariants as outcomes
 use Rattle.fio_world.proofs.world.World.send.Goals as goal
 
 pub returns-clause-outcome : goal.returns-clause-outcome

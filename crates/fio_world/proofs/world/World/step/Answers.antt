@@ -1,4 +1,4 @@
-use Rattle.std.proofs.Common.{◌∷◌, ◌++◌, [], Ok, Err}
+use Rattle.fio_world.proofs.Names.{◌∷◌, ◌++◌, [], Ok, Err}
 use Rattle.fio_world.proofs.Shown.{stands_on}
 use Rattle.fio_world.proofs.SoundWorlds.{sound_world, headline_of}
 use Rattle.fio_world.proofs.world.World.step.Goals as goal

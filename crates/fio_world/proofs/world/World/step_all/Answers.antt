@@ -1,9 +1,6 @@
-use Rattle.std.proofs.Common.{◌≡◌, ◌+◌, List, ◌∷◌, ◌++◌, [], Some, slice_get, take, length, subst, sym, ap, ◌∙◌, refl, append-nil, append_assoc}
-use Rattle.std.proofs.lemmas.List.{take_all}
+use Rattle.fio_world.proofs.Names.{◌≡◌, ◌+◌, List, ◌∷◌, ◌++◌, [], Some, slice_get, take, length, subst, sym, ap, ◌∙◌, refl, append-nil, append_assoc, take_all, Event, events_done, ShowsMachine, IsWorldAfter}
 use Rattle.std.proofs.lemmas.Option.{slice_get_read}
-use Rattle.fio_world.specs.declared.event.Event.{Event}
-use Rattle.fio_world.specs.Worlds.{events_done, ShowsMachine, IsWorldAfter}
-use Rattle.fio_world.proofs.Places.{take_one_more}
+use Rattle.fio_link.proofs.Places.{take_one_more}
 use Rattle.fio_world.proofs.SoundWorlds.{sound_world, stands_for, headline_of}
 use Rattle.fio_world.proofs.world.World.step_all.Goals as goal
 

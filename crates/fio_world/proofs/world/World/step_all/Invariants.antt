@@ -1,7 +1,4 @@
-use Rattle.std.proofs.Common.{ℕ, List, ◌++◌, take}
-use Rattle.fio_module.specs.Settings.{Settings}
-use Rattle.fio_world.specs.declared.event.Event.{Event}
-use Rattle.fio_world.specs.Worlds.{IsWorldAfter}
+use Rattle.fio_world.proofs.Names.{ℕ, List, ◌++◌, take, Settings, Event, IsWorldAfter}
 use Rattle.fio_world.proofs.world.World.step_all.Given as goal
 
 abbrev pub invariant-loop-place : goal.invariant-loop-place

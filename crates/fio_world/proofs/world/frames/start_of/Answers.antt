@@ -1,5 +1,4 @@
-use Rattle.std.proofs.Common.{◌≡◌, ◌-◌, suc, ap, sym, ◌∙◌, arith}
-use Rattle.fio_world.specs.EndToEnd.{start_at}
+use Rattle.fio_world.proofs.Names.{◌≡◌, ◌-◌, suc, ap, sym, ◌∙◌, arith, start_at}
 use Rattle.fio_world.proofs.EndToEndLemmas.{start-after}
 use Rattle.fio_world.proofs.world.frames.start_of.Goals as goal
 

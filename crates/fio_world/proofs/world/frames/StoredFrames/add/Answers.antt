@@ -1,5 +1,4 @@
-use Rattle.std.proofs.Common.{◌≡◌, ◌+◌, ◌∷◌, ◌++◌, [], length, ap, ◌∙◌, arith, length-append}
-use Rattle.fio_world.specs.EndToEnd.{frames_in, is_cut, are_short}
+use Rattle.fio_world.proofs.Names.{◌≡◌, ◌+◌, ◌∷◌, ◌++◌, [], length, ap, ◌∙◌, arith, length-append, frames_in, is_cut, are_short}
 use Rattle.fio_world.proofs.EndToEndLemmas.{frames-append, cut-append, short-push}
 use Rattle.fio_world.proofs.world.frames.StoredFrames.add.Goals as goal
 

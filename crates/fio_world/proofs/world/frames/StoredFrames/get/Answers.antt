@@ -1,5 +1,4 @@
-use Rattle.std.proofs.Common.{ap, sym, arith}
-use Rattle.fio_world.specs.Link.{item_numbered}
+use Rattle.fio_world.proofs.Names.{ap, sym, arith, item_numbered}
 use Rattle.fio_world.proofs.EndToEndLemmas.{none_past}
 use Rattle.fio_world.proofs.world.frames.StoredFrames.get.Goals as goal
 

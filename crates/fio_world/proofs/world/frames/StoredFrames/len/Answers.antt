@@ -1,4 +1,4 @@
-use Rattle.std.proofs.Common.{length, ap, sym, ◌∙◌}
+use Rattle.fio_world.proofs.Names.{length, ap, sym, ◌∙◌}
 use Rattle.fio_world.proofs.EndToEndLemmas.{length-frames}
 use Rattle.fio_world.proofs.world.frames.StoredFrames.len.Goals as goal
 

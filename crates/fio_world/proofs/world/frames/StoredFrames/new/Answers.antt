@@ -1,5 +1,4 @@
-use Rattle.std.proofs.Common.{ap}
-use Rattle.fio_world.specs.EndToEnd.{frames_in}
+use Rattle.fio_world.proofs.Names.{ap, frames_in}
 use Rattle.fio_world.proofs.world.frames.StoredFrames.new.Goals as goal
 
 pub returns : goal.returns

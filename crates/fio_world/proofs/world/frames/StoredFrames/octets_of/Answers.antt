@@ -1,6 +1,4 @@
-use Rattle.std.proofs.Common.{◌≡◌, ◌-◌, ◌<◌, Some, true, length, get_or, ap, sym, ◌∙◌, arith}
-use Rattle.fio_world.specs.Link.{item_numbered}
-use Rattle.fio_world.specs.EndToEnd.{between, frames_in, are_short, start_at}
+use Rattle.fio_world.proofs.Names.{◌≡◌, ◌-◌, ◌<◌, Some, true, length, get_or, ap, sym, ◌∙◌, arith, item_numbered, between, frames_in, are_short, start_at}
 use Rattle.fio_world.proofs.EndToEndLemmas.{length-frames, cut-at, frame-at, end-read, short-numbered}
 use Rattle.fio_world.proofs.Shown.{item_numbered-place}
 use Rattle.fio_world.proofs.world.frames.StoredFrames.octets_of.Goals as goal

@@ -1,0 +1,28 @@
+"""The fields of each message by its type, as the structs of libfio2070 name them. Written by tools/generate-messages."""
+
+FIELDS = {
+    49: ['clear'],
+    50: ['load'],
+    51: [],
+    52: [],
+    53: [],
+    54: ['block'],
+    55: ['levels', 'controls'],
+    56: ['body'],
+    57: ['body'],
+    58: ['timeout'],
+    59: ['body'],
+    60: [],
+    177: ['flags', 'receive_errors', 'transmit_errors', 'stamp'],
+    178: ['status'],
+    179: ['status'],
+    180: ['inputs', 'stamp'],
+    181: ['inputs', 'stamp'],
+    182: ['block', 'status', 'stamp'],
+    183: ['body'],
+    184: ['body'],
+    185: ['body'],
+    186: ['status'],
+    187: ['body'],
+    188: ['body'],
+}

@@ -1,0 +1,27 @@
+-- The names that most proofs of this crate cite, passed on from one place. Declares nothing.
+pub use Rattle.std.proofs.Common.{Bool, List, None, Option, Some, [], add-one, ap, append-nil, append_assoc, ap₂, arith, cond, drop, false, get_or, get_or-set_other, get_or-set_same, inl, inr, length, length-append, length-drop, map, refl, replicate, set, suc, sym, take, true, zero, ℕ, ◌++◌, ◌+◌, ◌<◌, ◌∙◌, ◌∷◌, ◌≡◌, ◌≢◌, ◌≤◌, ◌⊎◌}
+pub use Rattle.std.proofs.lemmas.Bool.Decides.{eqb_tells, nat_tests}
+pub use Rattle.std.proofs.lemmas.Option.{same_Some, slice_get_cases, slice_get_read, slice_get_within}
+pub use Rattle.std.specs.List.{flat_map, list_any}
+pub use Rattle.std.specs.Option.{option_or}
+pub use Rattle.std.specs.Prelude.{find, fold, if◌then◌else◌, is_some, nat_lt, not, option_and_then, option_map, slice_get, unwrap_or, ◌%◌, ◌==◌}
+pub use Rattle.fio_cpu.specs.Record.{gap_if, item_of, items_of_block}
+pub use Rattle.fio_cpu.specs.declared.record.Item.{Item}
+pub use Rattle.fio_cpu.specs.declared.record.Item.TheVariants.{Entry, Gap}
+pub use Rattle.fio_message.specs.Blocks.{Block, block_answer}
+pub use Rattle.fio_message.specs.Status.{says_lost, says_more}
+pub use Rattle.fio_message.specs.Views.{answer_of, entries_of, items_of}
+pub use Rattle.fio_check.specs.ContentAbove.{ContentFacts, FilterPair, LatestEntry, TimedState, clear_since, cleared_at, content_at, content_with, entry_recorded, filters_of, first_poll, first_poll_at, is_asking, is_clear_end, is_poll, is_quiet_since, items_configured, latest_of, latest_said, no_content, unquiet}
+pub use Rattle.fio_check.specs.ContentCheckers.{ContentKept, breach_among, breach_found, entry_found, found_first, found_on, index_below, kept_below, kept_with, nothing_kept}
+pub use Rattle.fio_check.specs.ContentEvents.{Accepted, Configured, ContentEvent, Ended, LineEvent, Loaded, Polled, Recorded, content_event_at, events_below, events_in, events_of_answer, events_of_block, events_of_lines, item_of_event, number_with_answer, recorded_items}
+pub use Rattle.fio_check.specs.ContentKept.{content_kept, facts_kept, filters_added, filters_in, flagged_number, is_flagged, latest_added, latest_in}
+pub use Rattle.fio_check.specs.Facts.{facts_at, facts_with, is_answering, latest_poll, number_polled, status_of_block}
+pub use Rattle.fio_check.specs.Laws.{HasOneVerdict, IsLatestAbove, IsTheLatest, KeepsFacts}
+pub use Rattle.fio_check.specs.Lines.{TranscriptLine}
+pub use Rattle.fio_check.specs.Observations.{is_absent, observation_at, observation_on}
+pub use Rattle.fio_check.specs.Places.{Placed, earliest_above, is_some_and, latest_above}
+pub use Rattle.fio_check.specs.Rules.{breaks, first_broken, rule_broken, rules}
+pub use Rattle.fio_check.specs.Verdicts.{IsFirstBreach, IsVerdict, KeepsRulesAbove, breach_at, verdict_on}
+pub use Rattle.fio_check.specs.declared.rules.Rule.{Rule}
+pub use Rattle.fio_check.specs.declared.verdict.Verdict.{Verdict}
+pub use Rattle.fio_check.specs.declared.verdict.Verdict.TheVariants.{Broken, Good}

@@ -1,0 +1,75 @@
+-- What the poller of a caller in C makes of octets.
+use Rattle.std.specs.Prelude.{◌≡◌, ℕ, ◌<◌, ◌≤◌, List, ◌++◌, length, map, drop, replicate}
+use Rattle.std.specs.Borrow.{MutBor}
+use Rattle.fio_message.specs.Bits.{bit_of}
+use Rattle.fio_message.specs.Decoding.{decoded_answer, block_in}
+use Rattle.fio_cpu.specs.declared.poller.Heard.{Heard as HeardOf}
+use Rattle.fio_cpu.specs.declared.poller.Heard.TheVariants as outcomes
+use Rattle.fio_cpu.specs.declared.record.Item.{Item}
+use Rattle.fio_cpu.specs.declared.record.Item.TheVariants as items
+use Rattle.fio_cpu.specs.Hearing.{new_items, heard_as, next_number}
+use Rattle.fio_flat.specs.Faults.{no_fault, fault_of}
+use Rattle.fio_flat.specs.declared.poller.Heard.{Heard}
+use Rattle.fio_flat.specs.declared.poller.RecordItem.{RecordItem}
+
+-- an item of the record as C sees it
+abbrev pub flat_record_item : Item → RecordItem
+flat_record_item items.Gap = record { gap = 1; input = 0; state = 0; reserved = replicate 3 0; stamp = 0; wide = 0 }
+flat_record_item (items.Entry input level stamp wide) =
+    record {
+      gap = 0;
+      input = input;
+      state = bit_of level;
+      reserved = replicate 3 0;
+      stamp = stamp;
+      wide = wide;
+    }
+
+-- nothing was heard of octets but that they add so many items
+abbrev pub heard_nothing : ℕ → Heard
+heard_nothing count = record {
+  kind = 0;
+  code = 0;
+  number = 0;
+  status = 0;
+  entries = 0;
+  reserved = 0;
+  items = count;
+  fault = no_fault;
+}
+
+-- what was heard of octets that add so many items to the record, as C sees it
+abbrev pub flat_heard : ℕ → HeardOf → Heard
+flat_heard count (outcomes.Block entries status) =
+    record (heard_nothing count) { kind = 0; entries = entries; status = status }
+flat_heard count (outcomes.Unreadable error) =
+    record (heard_nothing count) { kind = 1; fault = fault_of error }
+flat_heard count (outcomes.Other code) = record (heard_nothing count) { kind = 2; code = code }
+flat_heard count (outcomes.Stale block) = record (heard_nothing count) { kind = 3; number = block }
+
+-- there is no room for so many items
+abbrev pub heard_no_room : ℕ → Heard
+heard_no_room count = record (heard_nothing count) { kind = 4 }
+
+-- the caller's places after items were written to their front, for which there was room
+pub record Gain (before : MutBor (List RecordItem)) (items : List Item)
+    (after : MutBor (List RecordItem)) : Type 0 where
+  pub same : after.ghost_name ≡ before.ghost_name
+  pub room : length items ≤ length before.now
+  pub written : after.now ≡ map flat_record_item items ++ drop (length items) before.now
+
+-- A poller with this number hears octets: what it adds to its record is written to the front of the
+-- caller's items, and its number is the next if a block was taken. Where there is no room for all of
+-- what it adds, that is heard, and nothing changes.
+pub record Hears (number : ℕ) (octets : List ℕ) (before after : List RecordItem)
+    (next : ℕ) (heard : Heard) : Type 0 where
+  pub room :
+      let items = new_items number (block_in octets) in
+      length items ≤ length before →
+      (heard ≡ flat_heard (length items) (heard_as number (decoded_answer octets)))
+      × (next ≡ next_number number (block_in octets))
+      × (after ≡ map flat_record_item items ++ drop (length items) before)
+  pub no_room :
+      let count = length (new_items number (block_in octets)) in
+      length before < count →
+      (heard ≡ heard_no_room count) × (next ≡ number) × (after ≡ before)

@@ -1,0 +1,5 @@
+pub mod Faults
+pub mod Written
+pub mod Hearing
+pub mod Module
+pub mod SizedModule

@@ -1,0 +1,43 @@
+-- Octets and lists in arrays of the caller.
+use Rattle.std.specs.Prelude.{◌≡◌, ◌<◌, ◌≤◌, ℕ, List, ◌+◌, ◌++◌, length, take, drop, Option, Some, None}
+use Rattle.fio_message.specs.declared.answers.Answer.{Answer}
+use Rattle.fio_message.specs.Answers.{answer_octets}
+
+-- Octets, entries or items are written to the front of the array, and the count is how many they
+-- are. Where the array is shorter nothing is written, and the count is 0.
+pub record Writes {T : Type 0} (items before after : List T) (count : ℕ) : Type 0 where
+  pub room :
+      length items ≤ length before
+      → (count ≡ length items) × (after ≡ items ++ drop (length items) before)
+  pub no_room : length before < length items → (count ≡ 0) × (after ≡ before)
+
+-- the buffer with these octets in it from the place on
+abbrev pub buffer_with : ℕ → List ℕ → List ℕ → List ℕ
+buffer_with place octets before =
+    take place before ++ (octets ++ drop (place + length octets) before)
+
+-- Octets are written from the place on where there is room for them, and end at the other place.
+pub record Appends (octets before after : List ℕ) (place end : ℕ) : Type 0 where
+  -- where they end, with room or without
+  pub counted : end ≡ place + length octets
+  -- where there is room the rest of the buffer is unchanged
+  pub written : end ≤ length before → after ≡ buffer_with place octets before
+
+-- Octets are written like this, and whatever is written behind them is one text with them.
+pub record WritesOn (octets before after : List ℕ) (place end : ℕ) : Type 0 where
+  -- where they end, with room or without
+  pub counted : end ≡ place + length octets
+  -- what is written from there on goes on after them
+  pub joined :
+      (more last : List ℕ) (at : ℕ)
+      → Appends more after last end at → Appends (octets ++ more) before last place at
+
+-- nothing is written, and the count is 0
+abbrev pub WritesNothing : List ℕ → List ℕ → ℕ → Type 0
+WritesNothing before after count = (count ≡ 0) × (after ≡ before)
+
+-- the octets of the answer are written, and nothing where there is none
+abbrev pub WritesAnswer : Option Answer → List ℕ → List ℕ → ℕ → Type 0
+WritesAnswer None before after count = WritesNothing before after count
+WritesAnswer (Some answer) before after count =
+    Writes (answer_octets answer) before after count

@@ -1,0 +1,17 @@
+//! The flat structs of the two ends and of faults, as C sees them, and what calls do to them and to
+//! the arrays of a caller, as definitions. Nothing here runs: the calls are the exports of `fio_c`.
+//!
+//! The definitions are in `specs/`: faults and what reading does (`Faults`), octets and lists in the
+//! caller's arrays (`Written`), what a poller does (`Hearing`), which history a module stands for
+//! (`Module`, `SizedModule`).
+#![tactic(auto)]
+
+mod faults;
+mod module;
+mod poller;
+mod sized_module;
+
+pub use faults::Fault;
+pub use module::{ErrorCounts, Module};
+pub use poller::{Heard, Poller, RecordItem};
+pub use sized_module::SizedModule;

@@ -1,0 +1,302 @@
+-- What a link that is polled in time delivers.
+use Rattle.fio_link.proofs.Names.{◌≡◌, ℕ, zero, suc, ◌+◌, ◌-◌, ◌*◌, ◌%◌, ◌^◌, ◌≤◌, Bool, true, false, List, [], ◌∷◌, ◌++◌, length, take, drop, map, Option, Some, None, refl, ap, sym, subst, ◌∙◌, arith, length-drop, if◌then◌else◌, AllByRecursion, flat_map, mul-le-mul_left, flat_map-append, map-append, take_all, drop-append-le, Poll, asked_number, one_more_if_loaded, is_reported, Settings, AreInRange, Life, Scanned, LineSynced, Commanded, life_of, counter_events, loads_of, filter_events, Transition, entry_of, log_of, transition_at, MadeBlock, newest_poll, is_new, blocks_of, next_block, end_of_blocks, newest_end, waiting_from, waiting_of, AtEachTime, FewBeyond, scans_behind, IsKeptUp, IsYoung, holds_now, ends-grow, nothing_left, log-grown, item_of, Machine, blocks_in, IsInTime, EntryPiece, piece_of, end_taken, timed_item, transitions_arrived}
+use Rattle.std.proofs.Math.Seq.{drop-length}
+use Rattle.std.proofs.lemmas.List.{drop-take}
+use Rattle.fio_message.specs.declared.commands.Command.TheVariants as commands
+use Rattle.fio_module.specs.Log.{transitions_below}
+use Rattle.fio_module.specs.KeepingUp.{KeepsUp}
+use Rattle.fio_module.proofs.ListParts.{each-front, each-back}
+use Rattle.fio_module.proofs.Polling.{kept_up_keeps_up}
+use Rattle.fio_module.proofs.Stretches.{transitions_in, IsPunctual, HasMade, has_made, each-push}
+use Rattle.fio_cpu.specs.declared.record.Item.TheVariants as items
+use Rattle.fio_link.specs.StartingAnew.{in_blocks_since}
+use Rattle.fio_link.proofs.MadeBlocks.{each-append, each-take, each-map}
+use Rattle.fio_link.proofs.OneLife.{recorded_of}
+use Rattle.fio_link.proofs.Times.{BlockTimely, IsTimely, blocks_timely, wide_time}
+use Rattle.fio_link.proofs.CatchingUp.{IsBetween}
+use Rattle.fio_link.proofs.CleanRoundsInTime.{IsReached}
+
+-- the blocks of a life were made after no more loads than it has
+loads-later : (life : Life) (asked : Option ℕ) (loads : ℕ) → loads ≤ one_more_if_loaded asked loads
+loads-later life None loads = omega arith
+loads-later life (Some number) loads = omega arith
+
+abbrev HasLoads : ℕ → MadeBlock → Type 0
+HasLoads most block = block.loads ≤ most
+
+loads-poll : (settings : Settings) (life : Life) (number : ℕ) (new : Bool)
+    → AllByRecursion (HasLoads (loads_of life)) (blocks_of settings life)
+    → AllByRecursion (HasLoads (loads_of life))
+    (if new then blocks_of settings life ++ next_block settings life ∷ [] else blocks_of settings life)
+loads-poll settings life number true all =
+    each-push (HasLoads (loads_of life)) (blocks_of settings life) (next_block settings life) all (omega arith)
+loads-poll settings life number false all = all
+
+blocks_have_loads : (settings : Settings) (life : Life)
+    → AllByRecursion (HasLoads (loads_of life)) (blocks_of settings life)
+blocks_have_loads settings [] = tt
+blocks_have_loads settings (LineSynced ∷ life) =
+    let more = loads-later life (asked_number (counter_events life)) (loads_of life) in
+    each-map (HasLoads (loads_of life)) (HasLoads (loads_of (LineSynced ∷ life))) (λ block low. omega arith)
+    (blocks_of settings life) (blocks_have_loads settings life)
+blocks_have_loads settings (Commanded (Poll number) ∷ life) =
+    loads-poll settings life number (is_new (newest_poll life) number) (blocks_have_loads settings life)
+blocks_have_loads settings (Commanded (commands.LoadCounter load) ∷ life) = blocks_have_loads settings life
+blocks_have_loads settings (other ∷ life) = blocks_have_loads settings life
+
+-- the loads of a life never get fewer
+loads-grown : (later life : Life) → loads_of life ≤ loads_of (later ++ life)
+loads-grown [] life = omega arith
+loads-grown (LineSynced ∷ later) life =
+    let rest = loads-grown later life in
+    let more = loads-later life (asked_number (counter_events (later ++ life))) (loads_of (later ++ life)) in
+    omega arith
+loads-grown (Commanded (commands.LoadCounter load) ∷ later) life = loads-grown later life
+loads-grown (other ∷ later) life = loads-grown later life
+
+-- what was logged since a time was logged after as many loads at least
+abbrev HasLoadsSince : ℕ → Transition → Type 0
+HasLoadsSince least transition = least ≤ transition.loads
+
+since-new : (least : ℕ) (reported : Bool) (life : Life) (input : ℕ) → least ≤ loads_of life
+    → AllByRecursion (HasLoadsSince least) (if reported then transition_at life input ∷ [] else [])
+since-new least true life input more = (more, tt)
+since-new least false life input more = tt
+
+since-below : (least count raw : ℕ) (life : Life) → least ≤ loads_of (Scanned raw ∷ life)
+    → AllByRecursion (HasLoadsSince least) (transitions_below count raw life)
+unfolding transitions_below
+since-below least zero raw life more = tt
+since-below least (suc input) raw life more =
+    each-append (HasLoadsSince least) (transitions_below input raw life) _ (since-below least input raw life more)
+    (since-new least (is_reported input raw (filter_events life)) (Scanned raw ∷ life) input more)
+
+logged_since : (later life : Life)
+    → AllByRecursion (HasLoadsSince (loads_of life)) (drop (length (log_of life)) (log_of (later ++ life)))
+logged_since [] life = subst (AllByRecursion (HasLoadsSince (loads_of life))) (sym (drop-length (log_of life))) tt
+logged_since (Scanned raw ∷ later) life =
+    let here = later ++ life in
+    let parts = drop-append-le (length (log_of life)) (log_of here) (transitions_below 64 raw here) (log-grown later life) in
+    subst (AllByRecursion (HasLoadsSince (loads_of life))) (sym parts)
+    (each-append (HasLoadsSince (loads_of life)) (drop (length (log_of life)) (log_of here)) (transitions_below 64 raw here)
+    (logged_since later life) (since-below (loads_of life) 64 raw here (loads-grown later life)))
+logged_since (other ∷ later) life = logged_since later life
+
+-- an entry in time is recorded with its counter
+timed_entry : (block : MadeBlock) (t : Transition) → IsTimely block.stamp block.scans block.loads t → IsInTime t block
+    → item_of block.stamp (entry_of t) ≡ timed_item t
+timed_entry block t timely in_time =
+    ap (λ wide. items.Entry t.input t.level (t.counter % 2 ^ 16) wide) (wide_time block t timely in_time)
+
+-- those of a block
+timed_entries : (block : MadeBlock) (limit least : ℕ) (ts : List Transition) → limit ≤ 65537 → block.loads ≤ least
+    → AllByRecursion (IsTimely block.stamp block.scans block.loads) ts
+    → AllByRecursion (λ (t : Transition). block.scans + 2 ≤ t.scans + limit) ts
+    → AllByRecursion (HasLoadsSince least) ts
+    → map (item_of block.stamp) (map entry_of ts) ≡ map timed_item ts
+timed_entries block limit least [] few low timely young loads = refl
+timed_entries block limit least (t ∷ ts) few low timely young loads =
+    let scanned = young.0 in
+    let before = timely.0.loaded_before in
+    let since = loads.0 in
+    let here = timed_entry block t timely.0 (record { few_scans = omega arith; no_load = omega arith }) in
+    ap (λ item. item ∷ map (item_of block.stamp) (map entry_of ts)) here
+    ∙ ap (λ its. timed_item t ∷ its) (timed_entries block limit least ts few low timely.1 young.1 loads.1)
+
+-- what a block is in the record, without times
+pub got_entries : (stamp : ℕ) (ts : List Transition)
+    → map piece_of (map (item_of stamp) (map entry_of ts)) ≡ map (λ transition. EntryPiece (entry_of transition)) ts
+got_entries stamp [] = refl
+got_entries stamp (t ∷ ts) = ap (λ ps. EntryPiece (entry_of t) ∷ ps) (got_entries stamp ts)
+
+-- a block before which nothing was lost has no gap mark in the record
+no_mark : (block : MadeBlock) → block.lost ≡ false
+    → recorded_of block ≡ map (item_of block.stamp) (map entry_of block.transitions)
+no_mark block none =
+    ap (λ (lost : Bool). (if lost then items.Gap ∷ [] else []) ++ map (item_of block.stamp) (map entry_of block.transitions)) none
+
+-- what such blocks are in the record
+got_punctual : (most filter : ℕ) (blocks : List MadeBlock) → AllByRecursion (IsPunctual most filter) blocks
+    → map piece_of (flat_map recorded_of blocks) ≡ map (λ transition. EntryPiece (entry_of transition)) (transitions_in blocks)
+got_punctual most filter [] all = refl
+got_punctual most filter (block ∷ blocks) all =
+    map-append piece_of (recorded_of block) (flat_map recorded_of blocks)
+    ∙ ap (λ its. map piece_of its ++ map piece_of (flat_map recorded_of blocks)) (no_mark block all.0.not_lost)
+    ∙ ap (λ ps. ps ++ map piece_of (flat_map recorded_of blocks)) (got_entries block.stamp block.transitions)
+    ∙ ap (λ ps. map (λ transition. EntryPiece (entry_of transition)) block.transitions ++ ps) (got_punctual most filter blocks all.1)
+    ∙ sym (map-append (λ transition. EntryPiece (entry_of transition)) block.transitions (transitions_in blocks))
+
+timed_punctual : (most filter least : ℕ) (blocks : List MadeBlock) → most + filter ≤ 65537
+    → AllByRecursion (IsPunctual most filter) blocks → AllByRecursion BlockTimely blocks
+    → AllByRecursion (HasLoads least) blocks → AllByRecursion (HasLoadsSince least) (transitions_in blocks)
+    → flat_map recorded_of blocks ≡ map timed_item (transitions_in blocks)
+timed_punctual most filter least [] few all timely low loads = refl
+timed_punctual most filter least (block ∷ blocks) few all timely low loads =
+    let here = each-front (HasLoadsSince least) block.transitions (transitions_in blocks) loads in
+    let rest = each-back (HasLoadsSince least) block.transitions (transitions_in blocks) loads in
+    ap (λ its. its ++ flat_map recorded_of blocks) (no_mark block all.0.not_lost)
+    ∙ ap (λ its. its ++ flat_map recorded_of blocks)
+    (timed_entries block (most + filter) least block.transitions few low.0 timely.0 all.0.young here)
+    ∙ ap (λ its. map timed_item block.transitions ++ its) (timed_punctual most filter least blocks few all.1 timely.1 low.1 rest)
+    ∙ sym (map-append timed_item block.transitions (transitions_in blocks))
+
+-- a machine that has taken all blocks
+all_recorded : (settings : Settings) (first : ℕ) (machine : Machine) → IsBetween settings first machine
+    → machine.round ≡ length (blocks_in settings machine) → machine.items ≡ flat_map recorded_of (blocks_in settings machine)
+all_recorded settings first machine b taken =
+    let blocks = blocks_in settings machine in
+    b.kept.one_life.kept
+    ∙ ap (λ n. flat_map recorded_of (take n blocks)) taken
+    ∙ ap (flat_map recorded_of) (take_all (length blocks) blocks (omega arith))
+
+pub taken_end : (settings : Settings) (machine : Machine) → machine.round ≡ length (blocks_in settings machine)
+    → end_taken settings machine ≡ newest_end settings (life_of machine.history)
+taken_end settings machine taken =
+    let blocks = blocks_in settings machine in
+    ap end_of_blocks (ap (λ n. take n blocks) taken ∙ take_all (length blocks) blocks (omega arith))
+
+-- Blocks that are made while a module is kept up with, and what a record gains from them.
+module _ (settings : Settings) (range : AreInRange settings) (opened filter scans most behind : ℕ) (machine last : Machine) (later : Life)
+    (since : life_of last.history ≡ later ++ life_of machine.history)
+    (near : AtEachTime (λ l. scans_behind scans l (life_of machine.history) ≤ most) later)
+    (few_behind : scans_behind scans later (life_of machine.history) ≤ behind)
+    (k : IsKeptUp settings opened filter scans most (life_of machine.history) later) where
+  abbrev life : Life
+  life = life_of machine.history
+
+  abbrev now : Life
+  now = life_of last.history
+
+  keeps : AtEachTime (KeepsUp settings opened filter scans life) later
+  keeps = kept_up_keeps_up settings opened filter scans most life later range k
+
+  pub made_since : HasMade settings filter most life later
+  made_since = has_made settings opened filter scans most life later keeps near
+
+  ends : newest_end settings life ≡ length (log_of life)
+  ends = nothing_left settings range life (ap length k.few_change.nothing_waits)
+
+  -- the transitions of the blocks made since are those that they hold of the log
+  are_logged : transitions_in made_since.made ≡ in_blocks_since settings machine last
+  are_logged =
+      made_since.entries
+      ∙ ap (λ l. drop (newest_end settings life) (take (newest_end settings l) (log_of l))) (sym since)
+      ∙ ap (λ n. drop n (take (newest_end settings now) (log_of now))) ends
+
+  pub blocks_now : blocks_of settings now ≡ blocks_of settings life ++ made_since.made
+  blocks_now = ap (blocks_of settings) since ∙ made_since.blocks
+
+  -- where the record has gained what those blocks are, it has gained those transitions
+  pub whole_since : last.items ≡ machine.items ++ flat_map recorded_of made_since.made
+      → map piece_of last.items
+      ≡ map piece_of machine.items ++ map (λ transition. EntryPiece (entry_of transition)) (in_blocks_since settings machine last)
+  whole_since gained =
+      ap (map piece_of) gained
+      ∙ map-append piece_of machine.items (flat_map recorded_of made_since.made)
+      ∙ ap (λ ps. map piece_of machine.items ++ ps) (got_punctual most filter made_since.made made_since.punctual)
+      ∙ ap (λ ts. map piece_of machine.items ++ map (λ transition. EntryPiece (entry_of transition)) ts) are_logged
+
+  -- each of them was logged after as many loads at least as there had been
+  logged_loads : AllByRecursion (HasLoadsSince (loads_of life)) (in_blocks_since settings machine last)
+  logged_loads =
+      let start = length (log_of life) in
+      let end = newest_end settings now in
+      let grown = ends-grow settings later life in
+      let now_end = ap (newest_end settings) since in
+      let some : end ≡ start + (end - start) = omega (arith, ends) in
+      let parts : drop start (take end (log_of now)) ≡ take (end - start) (drop start (log_of now)) =
+      ap (λ n. drop start (take n (log_of now))) some ∙ drop-take start (end - start) (log_of now) in
+      subst (AllByRecursion (HasLoadsSince (loads_of life))) (sym parts)
+      (each-take (HasLoadsSince (loads_of life)) (end - start) (drop start (log_of now))
+      (subst (λ l. AllByRecursion (HasLoadsSince (loads_of life)) (drop start (log_of l))) (sym since) (logged_since later life)))
+
+  -- what holds of all blocks holds of those made since
+  of_made : (P : MadeBlock → Type 0) → AllByRecursion P (blocks_of settings now) → AllByRecursion P made_since.made
+  of_made P all = each-back P (blocks_of settings life) made_since.made (subst (AllByRecursion P) blocks_now all)
+
+  pub times_since : last.items ≡ machine.items ++ flat_map recorded_of made_since.made
+      → loads_of now ≡ loads_of life → most + filter ≤ 65537
+      → last.items ≡ machine.items ++ map timed_item (in_blocks_since settings machine last)
+  times_since gained none few =
+      let low = subst (λ n. AllByRecursion (HasLoads n) (blocks_of settings now)) none (blocks_have_loads settings now) in
+      let loads = subst (AllByRecursion (HasLoadsSince (loads_of life))) (sym are_logged) logged_loads in
+      gained
+      ∙ ap (λ its. machine.items ++ its)
+      (timed_punctual most filter (loads_of life) made_since.made few made_since.punctual
+      (of_made BlockTimely (blocks_timely settings now)) (of_made (HasLoads (loads_of life)) low) loads)
+      ∙ ap (λ ts. machine.items ++ map timed_item ts) are_logged
+
+  -- what holds now
+  keeps_now : KeepsUp settings opened filter scans life later
+  keeps_now = holds_now (KeepsUp settings opened filter scans life) later keeps
+
+  -- what waits begins at the end of the newest block
+  pub waits_from_end : waiting_from settings now ≡ newest_end settings now
+  waits_from_end =
+      let few = subst (FewBeyond settings) (sym since) keeps_now.few_beyond in
+      omega arith
+
+  pub young_since_blocks : AllByRecursion (IsYoung behind filter now) (drop (newest_end settings now) (log_of now))
+  young_since_blocks =
+      let there = subst (λ l. AllByRecursion (IsYoung (scans_behind scans later life) filter l) (waiting_of settings l)) (sym since) keeps_now.young in
+      subst (λ n. AllByRecursion (IsYoung behind filter now) (drop n (log_of now))) waits_from_end
+      (each-map (IsYoung (scans_behind scans later life) filter now) (IsYoung behind filter now) (λ t is. omega arith)
+      (waiting_of settings now) there)
+
+  -- few are left at the end of a clean round
+  pub few_left_since : (length (log_of now) - newest_end settings now) * filter
+      ≤ opened * (behind + (filter - 1))
+  few_left_since =
+      let few = subst (λ l. length (waiting_of settings l) * filter ≤ opened * (scans_behind scans later life + (filter - 1))) (sym since) keeps_now.few_wait in
+      let count = length-drop (waiting_from settings now) (log_of now) in
+      let left : length (waiting_of settings now) ≡ length (log_of now) - newest_end settings now = omega (arith, waits_from_end) in
+      let product : length (waiting_of settings now) * filter ≡ (length (log_of now) - newest_end settings now) * filter = ap (λ n. n * filter) left in
+      let more : opened * (scans_behind scans later life + (filter - 1)) ≤ opened * (behind + (filter - 1)) = mul-le-mul_left opened (omega arith) in
+      omega arith
+
+module _ (settings : Settings) (range : AreInRange settings) (first opened filter scans most behind : ℕ) (machine last : Machine) (later : Life)
+    (b : IsBetween settings first machine) (taken : machine.round ≡ length (blocks_in settings machine))
+    (r : IsReached settings first scans most behind machine last later)
+    (k : IsKeptUp settings opened filter scans most (life_of machine.history) later) where
+  abbrev then_life : Life
+  then_life = life_of machine.history
+
+  abbrev last_life : Life
+  last_life = life_of last.history
+
+  abbrev made : HasMade settings filter most then_life later
+  made = made_since settings range opened filter scans most behind machine last later r.since r.near r.now k
+
+  -- what those blocks hold is what arrived
+  are_arrived : in_blocks_since settings machine last ≡ transitions_arrived settings machine last
+  are_arrived = ap (λ n. drop (length (log_of then_life)) (take n (log_of last_life))) (sym (taken_end settings last r.all_taken))
+
+  -- the record has gained what those blocks are
+  gained : last.items ≡ machine.items ++ flat_map recorded_of made.made
+  gained =
+      all_recorded settings first last r.between r.all_taken
+      ∙ ap (flat_map recorded_of) (blocks_now settings range opened filter scans most behind machine last later r.since r.near r.now k)
+      ∙ flat_map-append recorded_of (blocks_of settings then_life) made.made
+      ∙ ap (λ its. its ++ flat_map recorded_of made.made) (sym (all_recorded settings first machine b taken))
+
+  pub whole : map piece_of last.items
+      ≡ map piece_of machine.items ++ map (λ transition. EntryPiece (entry_of transition)) (transitions_arrived settings machine last)
+  whole =
+      whole_since settings range opened filter scans most behind machine last later r.since r.near r.now k gained
+      ∙ ap (λ ts. map piece_of machine.items ++ map (λ transition. EntryPiece (entry_of transition)) ts) are_arrived
+
+  pub times : loads_of last_life ≡ loads_of then_life → most + filter ≤ 65537
+      → last.items ≡ machine.items ++ map timed_item (transitions_arrived settings machine last)
+  times none few =
+      times_since settings range opened filter scans most behind machine last later r.since r.near r.now k gained none few
+      ∙ ap (λ ts. machine.items ++ map timed_item ts) are_arrived
+
+  pub young : AllByRecursion (IsYoung behind filter last_life) (drop (end_taken settings last) (log_of last_life))
+  young =
+      subst (λ n. AllByRecursion (IsYoung behind filter last_life) (drop n (log_of last_life))) (sym (taken_end settings last r.all_taken))
+      (young_since_blocks settings range opened filter scans most behind machine last later r.since r.near r.now k)
+
+  -- few are left at the end of a clean round
+  pub few_left : (length (log_of last_life) - newest_end settings last_life) * filter
+      ≤ opened * (behind + (filter - 1))
+  few_left = few_left_since settings range opened filter scans most behind machine last later r.since r.near r.now k

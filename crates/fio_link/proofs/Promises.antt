@@ -1,0 +1,188 @@
+-- The promises, from what every run keeps.
+use Rattle.fio_link.proofs.Names.{◌≡◌, ℕ, ◌+◌, ◌≤◌, ◌⊎◌, length, take, map, refl, ap, sym, subst, ◌∙◌, arith, inl, inr, length-drop, flat_map, AllZip, cases_lt, take_all, Settings, AreInRange, Life, life_of, log_of, blocks_of, end_of_blocks, newest_end, waiting_from, blocks_end_within, Machine, piece_of, pieces_of_blocks, ArePieces, blocks_in, IsTimed, sources_of, next_round, PollsOf, BlockAnswersOf, IsRising, CleanRoundTakesBlock, EachCleanRoundTakesOne, DeliveryStartsAnew, Delivers}
+use Rattle.fio_link.specs.Headline.{RecordIsLog, Headline}
+use Rattle.fio_link.specs.Claims.{StandsAtTaken, RestIsLostOrWaits, HasTimes}
+use Rattle.fio_link.specs.Rounds.{PollsReceivedHaveRounds, NewestPollMadeNewestBlock, AnswersCarryBlocks}
+use Rattle.fio_link.specs.Sound.{IsSound, IsSoundRun, HoldsOfRuns, HoldsWithoutRestart}
+use Rattle.fio_link.proofs.MadeBlocks.{each-take}
+use Rattle.fio_link.proofs.PieceLaws.{taken_are_pieces, pieces_begin_log}
+use Rattle.fio_link.proofs.Rows.{invariant}
+use Rattle.fio_link.proofs.Runs.{rising, in_sequence, takes}
+use Rattle.fio_link.proofs.OneLifeRows.{IsKept, kept, carries_own}
+use Rattle.fio_link.proofs.CleanRounds.{LastWereSent, last_were_sent, clean_round_takes_block}
+use Rattle.fio_link.proofs.WithinRounds.{each_clean_round_takes_one}
+use Rattle.fio_link.proofs.CatchingUp.{IsBetween, clean_round_takes_all, clean_rounds_catch_up}
+use Rattle.fio_link.proofs.InAllRounds.{arrives, keeps_up}
+use Rattle.fio_link.proofs.CleanRoundsInTime.{has_stretch, makes_block}
+use Rattle.fio_link.proofs.AnyTime.{never_late, never_late_exactly}
+use Rattle.fio_link.proofs.LossyLinks.{all_arrives}
+use Rattle.fio_link.proofs.NewLevels.{new_levels_are_recorded}
+use Rattle.fio_link.proofs.StartingAnew.{starts_anew}
+use Rattle.fio_link.proofs.WholeRecords.{whole_unless_full, whole_where_polled_often, whole_where_polled_for_each, whole_after_outage}
+use Rattle.fio_link.proofs.GapMarks.{gaps_name_times}
+use Rattle.fio_link.proofs.TakenSpans.{has_spans}
+use Rattle.fio_link.proofs.WholeLives.{got_blocks, takes_stretches}
+use Rattle.fio_link.proofs.Times.{BlockTimely, blocks_timely, blocks_timed}
+
+-- of two numbers at most one apart
+one_behind : (m b : ℕ) → m ≤ b → b ≤ m + 1 → (m ≡ b) ⊎ (m + 1 ≡ b)
+one_behind m b low high =
+    elim (cases_lt m b) as (λ _. (m ≡ b) ⊎ (m + 1 ≡ b)) [
+      | inl below ↦ inr (omega arith)
+      | inr same ↦ inl (omega arith)
+    ]
+
+-- what is not recorded, of any life
+pub rest_is_lost_or_waits : (settings : Settings) (life : Life) → RestIsLostOrWaits settings life
+rest_is_lost_or_waits settings life =
+    let blocks = blocks_of settings life in
+    let within : newest_end settings life ≤ length (log_of life) = blocks_end_within settings life in
+    let all : take (length blocks) blocks ≡ blocks = take_all (length blocks) blocks (omega arith) in
+    let waiting = length-drop (waiting_from settings life) (log_of life) in
+    record {
+      in_blocks = subst (λ bs. ArePieces settings life 0 (pieces_of_blocks (length blocks) blocks) (end_of_blocks bs)) all
+          (taken_are_pieces settings life (length blocks) (omega arith));
+      pushed_out = omega arith;
+      only_when_full = λ pushed. omega (arith, waiting);
+      rest_waits = omega (arith, waiting);
+      few_wait = omega (arith, waiting);
+    }
+
+module _ (settings : Settings) (range : AreInRange settings) (first : ℕ) (machine : Machine) (s : LastWereSent machine) (k : IsKept settings first machine) where
+  -- the CPU has taken no more blocks than were made
+  behind : machine.round ≤ length (blocks_in settings machine)
+  behind = let made = k.one_life.made in omega (arith, k.always.answers.behind)
+
+  -- the record without times is what the taken blocks are
+  taken_items : map piece_of machine.items ≡ pieces_of_blocks machine.round (blocks_in settings machine)
+  taken_items = ap (map piece_of) k.one_life.kept ∙ got_blocks (take machine.round (blocks_in settings machine))
+
+  -- the headline
+  record_is_log : RecordIsLog settings machine
+  record_is_log =
+      let life = life_of machine.history in
+      let pieces = subst (λ ps. ArePieces settings life 0 ps (end_of_blocks (take machine.round (blocks_in settings machine)))) (sym taken_items)
+      (taken_are_pieces settings life machine.round behind) in
+      record { pieces = pieces; prefix = pieces_begin_log settings life (map piece_of machine.items) _ pieces }
+
+  -- how far the record is
+  stands : StandsAtTaken settings machine
+  stands =
+      let made : next_round machine.polls ≡ length (blocks_in settings machine) = k.one_life.made in
+      record {
+        behind = one_behind machine.round (length (blocks_in settings machine)) behind (omega (arith, k.always.at_most));
+        items = taken_items;
+      }
+
+  -- the times of its items
+  times : HasTimes settings machine
+  times =
+      let blocks = blocks_in settings machine in
+      subst (λ items. AllZip IsTimed items (flat_map sources_of (take machine.round blocks))) (sym k.one_life.kept)
+      (blocks_timed (take machine.round blocks)
+      (each-take BlockTimely machine.round blocks (blocks_timely settings (life_of machine.history))))
+
+  -- what arrives
+  delivers : Delivers settings first machine
+  delivers =
+      let between : IsBetween settings first machine = record { sent = s; kept = k } in
+      let pieces = record_is_log.pieces in
+      record {
+        takes_all = clean_round_takes_all settings range first machine between;
+        catches_up = clean_rounds_catch_up settings range first machine between;
+        unless_full = whole_unless_full settings machine pieces;
+        gaps = gaps_name_times settings machine taken_items;
+        polled_often = whole_where_polled_often settings range machine pieces;
+        polled_for_each = whole_where_polled_for_each settings range machine pieces;
+        outage = whole_after_outage settings machine pieces;
+        rounds_make_blocks = λ begin receipt last taken t c.
+            makes_block settings first machine receipt last (has_stretch settings range first machine begin receipt last between taken t c).0;
+        rounds_keep_up = λ opened filter untaken scans begins last now later stretch p t is stay.
+            keeps_up settings range first opened filter untaken scans machine between p.all_taken p.few_change.nothing_waits p.inputs p.few_change.some p.few_change.enough
+            begins last now later stretch p.rounds p.since t is stay;
+        in_time = λ opened filter untaken scans begins last later p.
+            arrives settings range first opened filter untaken scans machine between p.all_taken p.few_change.nothing_waits p.inputs p.few_change.some p.few_change.enough
+            begins last later p.rounds p.since p.few_change.few_open;
+        never_late = never_late settings range first machine between;
+        exactly = never_late_exactly settings range first machine between;
+        new_levels = new_levels_are_recorded settings range first machine between;
+        kept_up_with = all_arrives settings range first machine between;
+      }
+
+  -- all that is promised without restarts
+  pub sound : IsSound settings first machine
+  sound =
+      record {
+        headline = record_is_log;
+        stands = stands;
+        rest = rest_is_lost_or_waits settings (life_of machine.history);
+        takes = takes settings range first machine k.always;
+        in_sequence = in_sequence settings first machine k.always;
+        again = k.one_life.again;
+        times = times;
+        delivers = delivers;
+      }
+
+-- every run is sound
+pub runs_are_sound : HoldsOfRuns IsSoundRun
+runs_are_sound settings first events machine range run =
+    let i = invariant settings range first events machine run in
+    let s = last_were_sent settings first events machine run in
+    record {
+      is_run = run;
+      rising = rising settings first machine i;
+      takes = takes settings range first machine i;
+      in_sequence = in_sequence settings first machine i;
+      clean_round = clean_round_takes_block settings range first machine s;
+      each_clean_round = each_clean_round_takes_one settings range first machine i;
+      starts_anew = starts_anew settings range first machine (record { sent = s; always = i });
+      lives = takes_stretches settings machine (has_spans settings range first events machine run);
+      sound = λ none. sound settings range first machine s (kept settings range first events machine run none);
+    }
+
+-- the headline
+pub headline : HoldsOfRuns (λ settings first events machine. Headline settings first events machine.items)
+headline settings first events machine range run none =
+    (machine, run, refl, ((runs_are_sound settings first events machine range run).sound none).headline)
+
+-- the record rises
+pub record_rises : HoldsOfRuns (λ settings first events machine. IsRising machine)
+record_rises settings first events machine range run = (runs_are_sound settings first events machine range run).rising
+
+-- the facts on rounds
+pub polls_are_in_order : HoldsOfRuns (λ settings first events machine. PollsOf first machine)
+polls_are_in_order settings first events machine range run = (invariant settings range first events machine run).polls
+
+pub newest_poll_rounds : HoldsOfRuns (λ settings first events machine. PollsReceivedHaveRounds first machine)
+newest_poll_rounds settings first events machine range run =
+    let i = invariant settings range first events machine run in
+    record { numbers = i.received.numbered; at_most = i.at_most }
+
+pub newest_poll_made_newest_block : HoldsWithoutRestart (λ settings first machine. NewestPollMadeNewestBlock settings machine)
+newest_poll_made_newest_block settings first events machine range run none =
+    (kept settings range first events machine run none).one_life.made
+
+pub block_answers_are_in_order : HoldsOfRuns (λ settings first events machine. BlockAnswersOf machine)
+block_answers_are_in_order settings first events machine range run = (invariant settings range first events machine run).answers
+
+pub answers_carry_blocks : HoldsWithoutRestart AnswersCarryBlocks
+answers_carry_blocks settings first events machine range run none place answer round has =
+    let k = kept settings range first events machine run none in
+    carries_own settings range first machine k.always k.one_life place answer round has
+
+-- what arrives
+pub clean_rounds_take_blocks : HoldsOfRuns (λ settings first events machine. CleanRoundTakesBlock settings first machine)
+clean_rounds_take_blocks settings first events machine range run =
+    (runs_are_sound settings first events machine range run).clean_round
+
+pub each_clean_round_takes_a_block : HoldsOfRuns (λ settings first events machine. EachCleanRoundTakesOne settings first machine)
+each_clean_round_takes_a_block settings first events machine range run =
+    (runs_are_sound settings first events machine range run).each_clean_round
+
+pub delivery_starts_anew : HoldsOfRuns (λ settings first events machine. DeliveryStartsAnew settings first machine)
+delivery_starts_anew settings first events machine range run =
+    (runs_are_sound settings first events machine range run).starts_anew
+
+pub what_arrives : HoldsWithoutRestart Delivers
+what_arrives settings first events machine range run none =
+    ((runs_are_sound settings first events machine range run).sound none).delivers

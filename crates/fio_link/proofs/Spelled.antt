@@ -1,0 +1,121 @@
+-- What the octets of commands and answers are read as.
+use Rattle.fio_link.proofs.Names.{◌≡◌, ℕ, ◌+◌, ◌^◌, ◌<◌, ◌≤◌, Bool, true, false, List, [], ◌∷◌, length, Some, None, refl, arith, if◌then◌else◌, AllByRecursion, Command, Answer, IsEntry, command_octets, answer_octets, Block, polled_number, poll_in, answered_block, block_in, Sending, answer_of_sending}
+use Rattle.std.proofs.Common.{◌&&◌}
+use Rattle.std.specs.Prelude.{nat_le}
+use Rattle.fio_message.specs.declared.commands.Command.TheVariants as commands
+use Rattle.fio_message.specs.declared.commands.OtherCommand.TheVariants as other_commands
+use Rattle.fio_message.specs.declared.answers.Answer.TheVariants as answers
+use Rattle.fio_message.specs.declared.answers.OtherAnswer.TheVariants as other_answers
+use Rattle.fio_message.specs.Commands.{command_fields, command_length}
+use Rattle.fio_message.specs.Answers.{answer_fields, answer_length}
+use Rattle.fio_message.specs.Status.{block_status}
+use Rattle.fio_message.specs.Reading.{command_at, answer_at}
+use Rattle.fio_message.specs.Decoding.{is_length, message_in}
+use Rattle.fio_message.proofs.MessageLaws.{block_back}
+use Rattle.fio_link.specs.Link.{sending_refusal}
+
+-- a command that is no poll, whole or not
+polled-if : (whole : Bool) (command : Command) → polled_number (Some command) ≡ None
+    → polled_number (if whole then Some command else None) ≡ None
+polled-if true command other = other
+polled-if false command other = refl
+
+-- octets whose command, read by their first, is no poll
+no_poll_at : (code : ℕ) (fields : List ℕ) → polled_number (Some (command_at code fields)) ≡ None
+    → poll_in (code ∷ fields) ≡ None
+unfolding message_in
+no_poll_at code fields other =
+    polled-if (nat_le (length fields) 772 && is_length (command_length (code ∷ fields)) (1 + length fields))
+    (command_at code fields) other
+
+-- a command that may be handed in is not read as a poll
+pub no_poll_in : (command : Command) → sending_refusal command ≡ None
+    → poll_in (command_octets command) ≡ None
+no_poll_in (commands.Poll number) fine = absurd (cc fine)
+no_poll_in (commands.Status clear) fine = no_poll_at 49 (command_fields (commands.Status clear)) refl
+no_poll_in (commands.LoadCounter load) fine = no_poll_at 50 (command_fields (commands.LoadCounter load)) refl
+no_poll_in (commands.ConfigureInputs items) fine = no_poll_at 51 (command_fields (commands.ConfigureInputs items)) refl
+no_poll_in commands.RawInputs fine = no_poll_at 52 [] refl
+no_poll_in commands.FilteredInputs fine = no_poll_at 53 [] refl
+no_poll_in (commands.SetOutputs levels controls) fine = no_poll_at 55 (command_fields (commands.SetOutputs levels controls)) refl
+no_poll_in (commands.Watchdog timeout) fine = no_poll_at 58 (command_fields (commands.Watchdog timeout)) refl
+no_poll_in commands.Identify fine = no_poll_at 60 [] refl
+no_poll_in (commands.Other other_commands.TrackInputs body) fine = no_poll_at 56 body.items refl
+no_poll_in (commands.Other other_commands.ComplexOutputs body) fine = no_poll_at 57 body.items refl
+no_poll_in (commands.Other other_commands.ControllerId body) fine = no_poll_at 59 body.items refl
+
+-- an answer that is no block answer, whole or not
+answered-if : (whole : Bool) (answer : Answer) → answered_block (Some answer) ≡ None
+    → answered_block (if whole then Some answer else None) ≡ None
+answered-if true answer other = other
+answered-if false answer other = refl
+
+-- octets whose answer, read by their first, is no block answer
+no_block_at : (code : ℕ) (fields : List ℕ) → answered_block (Some (answer_at code fields)) ≡ None
+    → block_in (code ∷ fields) ≡ None
+unfolding message_in
+no_block_at code fields other =
+    answered-if (nat_le (length fields) 772 && is_length (answer_length (code ∷ fields)) (1 + length fields))
+    (answer_at code fields) other
+
+-- an answer that is no block answer is not read as one
+pub no_block_in : (answer : Answer) → answered_block (Some answer) ≡ None
+    → block_in (answer_octets answer) ≡ None
+no_block_in (answers.Block number entries status stamp) other = absurd (cc other)
+no_block_in (answers.Status flags receive transmit stamp) other = no_block_at 177 (answer_fields (answers.Status flags receive transmit stamp)) refl
+no_block_in (answers.LoadCounter status) other = no_block_at 178 (status ∷ []) refl
+no_block_in (answers.ConfigureInputs status) other = no_block_at 179 (status ∷ []) refl
+no_block_in (answers.RawInputs inputs stamp) other = no_block_at 180 (answer_fields (answers.RawInputs inputs stamp)) refl
+no_block_in (answers.FilteredInputs inputs stamp) other = no_block_at 181 (answer_fields (answers.FilteredInputs inputs stamp)) refl
+no_block_in (answers.Watchdog status) other = no_block_at 186 (status ∷ []) refl
+no_block_in (answers.Other other_answers.SetOutputs body) other = no_block_at 183 body.items refl
+no_block_in (answers.Other other_answers.TrackInputs body) other = no_block_at 184 body.items refl
+no_block_in (answers.Other other_answers.ComplexOutputs body) other = no_block_at 185 body.items refl
+no_block_in (answers.Other other_answers.ControllerId body) other = no_block_at 187 body.items refl
+no_block_in (answers.Other other_answers.Identify body) other = no_block_at 188 body.items refl
+
+-- a status is an octet
+status-fits : (more lost again out_of_sequence : Bool)
+    → block_status more lost again out_of_sequence < 2 ^ 8
+status-fits true true true true = omega arith
+status-fits true true true false = omega arith
+status-fits true true false true = omega arith
+status-fits true true false false = omega arith
+status-fits true false true true = omega arith
+status-fits true false true false = omega arith
+status-fits true false false true = omega arith
+status-fits true false false false = omega arith
+status-fits false true true true = omega arith
+status-fits false true true false = omega arith
+status-fits false true false true = omega arith
+status-fits false true false false = omega arith
+status-fits false false true true = omega arith
+status-fits false false true false = omega arith
+status-fits false false false true = omega arith
+status-fits false false false false = omega arith
+
+-- the block that a sending says
+abbrev pub said : Sending → Block
+said sending =
+    record {
+      number = sending.number;
+      entries = sending.entries;
+      status = block_status sending.more sending.lost sending.again sending.out_of_sequence;
+      stamp = sending.stamp;
+    }
+
+-- a sending whose parts are in the ranges of an answer is read back
+pub sending_back : (sending : Sending) → sending.number < 2 ^ 8 → length sending.entries ≤ 255
+    → AllByRecursion IsEntry sending.entries → sending.stamp < 2 ^ 32
+    → block_in (answer_octets (answer_of_sending sending)) ≡ Some (said sending)
+sending_back sending number count entries stamp =
+    block_back (said sending) (answer_octets (answer_of_sending sending)) (record {
+      within = (
+        number,
+        count,
+        entries,
+        status-fits sending.more sending.lost sending.again sending.out_of_sequence,
+        stamp,
+      );
+      spelled = refl;
+    })

@@ -1,0 +1,19 @@
+-- what happens
+pub mod Link
+-- what is claimed of every run
+pub mod Frames
+pub mod Pieces
+pub mod Headline
+pub mod Claims
+pub mod Rounds
+pub mod Rising
+pub mod Restarts
+pub mod Delivery
+pub mod InTime
+pub mod AnyTime
+pub mod NewLevels
+pub mod LossyLinks
+pub mod LostRounds
+pub mod Sharpness
+pub mod StartingAnew
+pub mod Sound

@@ -1,0 +1,77 @@
+-- All that is promised of a run.
+use Rattle.std.specs.Prelude.{◌≡◌, ℕ, List}
+use Rattle.fio_module.specs.Settings.{Settings, AreInRange}
+use Rattle.fio_module.specs.Life.{life_of}
+use Rattle.fio_link.specs.declared.event.Event.{Event}
+use Rattle.fio_link.specs.Link.{Machine, IsRun}
+use Rattle.fio_link.specs.Headline.{RecordIsLog, HaveNoRestart}
+use Rattle.fio_link.specs.Claims.{StandsAtTaken, RestIsLostOrWaits, TakesPresentRound, IsInSequence, SaysAgainWhereRepeated, HasTimes}
+use Rattle.fio_link.specs.Rising.{IsRising}
+use Rattle.fio_link.specs.Restarts.{TakesStretchOfEachLife}
+use Rattle.fio_link.specs.Delivery.{CleanRoundTakesBlock, EachCleanRoundTakesOne, CleanRoundTakesAll, CleanRoundsCatchUp, IsWholeUnlessFull, GapsNameTimes, IsWholeWherePolledOften, IsWholeWherePolledForEach, IsWholeAfterOutage}
+use Rattle.fio_link.specs.InTime.{RoundsMakeBlocks, RoundsKeepUp, AllArrivesInTime}
+use Rattle.fio_link.specs.AnyTime.{IsNeverLate, IsNeverLateExactly}
+use Rattle.fio_link.specs.NewLevels.{NewLevelsAreRecorded}
+use Rattle.fio_link.specs.LossyLinks.{AllArrivesWhereKeptUpWith}
+use Rattle.fio_link.specs.StartingAnew.{DeliveryStartsAnew}
+
+-- all that is promised of what arrives without restarts
+pub record Delivers (settings : Settings) (first : ℕ) (machine : Machine) : Type 0 where
+  pub takes_all : CleanRoundTakesAll settings first machine
+  pub catches_up : CleanRoundsCatchUp settings first machine
+  pub unless_full : IsWholeUnlessFull settings machine
+  pub gaps : GapsNameTimes settings machine
+  pub polled_often : IsWholeWherePolledOften settings machine
+  pub polled_for_each : IsWholeWherePolledForEach settings machine
+  pub outage : IsWholeAfterOutage settings machine
+  pub rounds_make_blocks : RoundsMakeBlocks settings first machine
+  pub rounds_keep_up : RoundsKeepUp settings first machine
+  pub in_time : AllArrivesInTime settings first machine
+  pub never_late : IsNeverLate settings first machine
+  pub exactly : IsNeverLateExactly settings first machine
+  pub new_levels : NewLevelsAreRecorded settings first machine
+  pub kept_up_with : AllArrivesWhereKeptUpWith settings first machine
+
+-- what holds of a machine without restarts
+pub record IsSound (settings : Settings) (first : ℕ) (machine : Machine) : Type 0 where
+  -- the headline
+  pub headline : RecordIsLog settings machine
+  pub stands : StandsAtTaken settings machine
+  pub rest : RestIsLostOrWaits settings (life_of machine.history)
+  pub takes : TakesPresentRound settings first machine
+  pub in_sequence : IsInSequence machine
+  pub again : SaysAgainWhereRepeated machine
+  pub times : HasTimes settings machine
+  pub delivers : Delivers settings first machine
+
+-- what holds of the machine to which these events lead
+pub record IsSoundRun (settings : Settings) (first : ℕ) (events : List Event) (machine : Machine)
+    : Type 0 where
+  pub is_run : IsRun settings first events machine
+  -- whatever restarts
+  pub rising : IsRising machine
+  pub lives : TakesStretchOfEachLife settings machine
+  pub takes : TakesPresentRound settings first machine
+  pub in_sequence : IsInSequence machine
+  pub clean_round : CleanRoundTakesBlock settings first machine
+  pub each_clean_round : EachCleanRoundTakesOne settings first machine
+  pub starts_anew : DeliveryStartsAnew settings first machine
+  -- without restarts
+  pub sound : HaveNoRestart events → IsSound settings first machine
+
+-- a promise for every run: with settings in their ranges, any first number and any events
+abbrev pub HoldsOfRuns : (Settings → ℕ → List Event → Machine → Type 0) → Type 0
+HoldsOfRuns Holds = (settings : Settings) (first : ℕ) (events : List Event) (machine : Machine) →
+    AreInRange settings → IsRun settings first events machine → Holds settings first events machine
+
+-- the same for every run without restarts
+abbrev pub HoldsWithoutRestart : (Settings → ℕ → Machine → Type 0) → Type 0
+HoldsWithoutRestart Holds =
+    HoldsOfRuns (λ settings first events machine.
+    HaveNoRestart events → Holds settings first machine)
+
+-- events lead to one machine at most
+abbrev pub LeadToOneMachine : Type 0
+LeadToOneMachine =
+    (settings : Settings) (first : ℕ) (events : List Event) (machine other : Machine) →
+    IsRun settings first events machine → IsRun settings first events other → machine ≡ other

@@ -1,0 +1,271 @@
+//! Laws of the link machine: each function states some in its contract, and does nothing.
+ghost use Rattle.std.specs.Prelude.{◌≡◌, ℕ, ◌≤◌, true, false};
+ghost use Rattle.fio_module.specs.Limits.{Limits, are_limits};
+ghost use Rattle.fio_module.specs.Settings.{Settings, standard_settings, settings_with, AreInRange};
+ghost use Rattle.fio_link.specs.Link.{Machine};
+ghost use Rattle.fio_link.specs.Pieces.{TakenArePieces, PiecesBeginLog};
+ghost use Rattle.fio_link.specs.Headline.{Headline};
+ghost use Rattle.fio_link.specs.Rounds.{PollsOf, PollsReceivedHaveRounds, NewestPollMadeNewestBlock, BlockAnswersOf, AnswersCarryBlocks};
+ghost use Rattle.fio_link.specs.Rising.{IsRising};
+ghost use Rattle.fio_link.specs.Restarts.{TakesStretchOfEachLife};
+ghost use Rattle.fio_link.specs.Sound.{HoldsOfRuns, HoldsWithoutRestart, IsSoundRun, LeadToOneMachine};
+ghost use Rattle.fio_link.specs.Delivery.{RoundWithNothingBetweenIsClean, CleanRoundTakesBlock, EachCleanRoundTakesOne, CleanRoundTakesAll, CleanRoundsCatchUp, IsWholeUnlessFull, GapsNameTimes, IsWholeWherePolledOften, IsWholeWherePolledForEach, IsWholeAfterOutage};
+ghost use Rattle.fio_link.specs.InTime.{RoundWithNothingBetweenIsInTime, RoundsMakeBlocks, RoundsKeepUp, AllArrivesInTime, ScansMoveOut};
+ghost use Rattle.fio_link.specs.AnyTime.{IsNeverLate, IsNeverLateExactly, StandardLinkIsNeverLater};
+ghost use Rattle.fio_link.specs.NewLevels.{NewLevelsAreRecorded, StandardLinkRecordsNewLevels};
+ghost use Rattle.fio_link.specs.LossyLinks.{AllArrivesWhereKeptUpWith, OutagesArePossible, RoundsCatchUp, StandardLimitsHaveRoom, StandardLinkKeptUpIsNeverLater};
+ghost use Rattle.fio_link.specs.Sharpness.{StandardLinkIsAsLate, LosesWhereAScanLater};
+ghost use Rattle.fio_link.specs.StartingAnew.{DeliveryStartsAnew, StandardLinkStartsAnew};
+ghost use Rattle.fio_link.specs.LostRounds.{LostRoundsArePossible};
+
+/// What the first m blocks of a life are in the record are pieces of its transition log from the
+/// start through the end of the m-th.
+#[tactic(auto, using(crate::proofs::PieceLaws::taken_are_pieces))]
+pub fn pieces()
+    ensures { TakenArePieces }
+{}
+
+/// Until the first gap mark, pieces of the log from its start are a prefix of it.
+#[tactic(auto, using(crate::proofs::PieceLaws::pieces_begin_log))]
+pub fn prefix_until_gap()
+    ensures { PiecesBeginLog }
+{}
+
+/// After any events without restarts the CPU's record is the module's transition log from its start
+/// through the last block taken, each entry once and in order, with entries missing only at gap
+/// marks.
+#[tactic(auto, using(crate::proofs::Promises::headline))]
+pub fn headline()
+    ensures { HoldsOfRuns (λ settings first events machine.
+        Headline settings first events machine.items) }
+{}
+
+/// All that is promised of runs holds of every run.
+#[tactic(auto, using(crate::proofs::Promises::runs_are_sound))]
+pub fn runs_are_sound()
+    ensures { HoldsOfRuns IsSoundRun }
+{}
+
+/// Whatever restarts, the record rises through the transition logs of all lives: nothing is
+/// doubled, reordered or invented.
+#[tactic(auto, using(crate::proofs::Promises::record_rises))]
+pub fn record_rises()
+    ensures { HoldsOfRuns (λ settings first events machine. IsRising machine) }
+{}
+
+/// Whatever restarts, of each of the module's lives the CPU has taken one stretch of its blocks, all of them but
+/// perhaps the first and perhaps the last, and the record is what these are, life by life, each entry with its
+/// time. So without a gap mark a restart loses at most `waiting` + `per_block` transitions, and those that were
+/// pushed out between the last block taken before it and the first one after it.
+#[tactic(auto, using(crate::proofs::Promises::runs_are_sound))]
+pub fn one_stretch_of_each_life_is_taken()
+    ensures { HoldsOfRuns (λ settings first events machine. TakesStretchOfEachLife settings machine) }
+{}
+
+/// The rounds of the polls sent never fall, are at most the CPU's, and from the one delivered last
+/// on are at least the newest that the module has received.
+#[tactic(auto, using(crate::proofs::Promises::polls_are_in_order))]
+pub fn polls_are_in_order()
+    ensures { HoldsOfRuns (λ settings first events machine. PollsOf first machine) }
+{}
+
+/// The rounds of the polls received are those of their numbers; without restarts the newest is the
+/// round of the newest block.
+#[tactic(auto, using(crate::proofs::Promises::newest_poll_rounds, crate::proofs::Promises::newest_poll_made_newest_block))]
+pub fn newest_poll_made_newest_block()
+    ensures rounds { HoldsOfRuns (λ settings first events machine.
+        PollsReceivedHaveRounds first machine) }
+    ensures newest { HoldsWithoutRestart (λ settings first machine.
+        NewestPollMadeNewestBlock settings machine) }
+{}
+
+/// The rounds of the block answers sent never fall, are of polls received, and from the one
+/// delivered last on are at least the one before the CPU's.
+#[tactic(auto, using(crate::proofs::Promises::block_answers_are_in_order))]
+pub fn block_answers_are_in_order()
+    ensures { HoldsOfRuns (λ settings first events machine. BlockAnswersOf machine) }
+{}
+
+/// Without restarts each block answer carries the block of its round.
+pub fn answers_carry_blocks()
+    ensures { HoldsWithoutRestart AnswersCarryBlocks }
+{}
+
+/// After any events, restarts included, a clean round takes a block: with nothing between none of its
+/// events is refused, the module answers, and the CPU takes the answer; and in each one the CPU takes one
+/// block, whatever else comes between.
+pub fn clean_rounds_take_blocks()
+    ensures possible { HoldsOfRuns (λ settings first events machine.
+        CleanRoundTakesBlock settings first machine) }
+    ensures each { HoldsOfRuns (λ settings first events machine.
+        EachCleanRoundTakesOne settings first machine) }
+{}
+
+/// A clean round with nothing between is a clean round, and where it begins in time it is one in time.
+pub fn rounds_with_nothing_between_are_clean()
+    ensures clean { (settings : Settings) (first : ℕ) (machine : Machine)
+        → RoundWithNothingBetweenIsClean settings first machine }
+    ensures in_time { (settings : Settings) (first : ℕ) (machine : Machine)
+        → RoundWithNothingBetweenIsInTime settings first machine }
+{}
+
+/// Without restarts: after one clean round the CPU has taken every block that was made, and after
+/// 1 + k of them with nothing between, where at most k times as many entries waited as a block
+/// takes, nothing waits and the record goes through the end of the transition log.
+pub fn clean_rounds_catch_up()
+    ensures taken { HoldsWithoutRestart CleanRoundTakesAll }
+    ensures caught_up { HoldsWithoutRestart CleanRoundsCatchUp }
+{}
+
+/// Without restarts nothing is lost unless the buffer was full: where never more transitions stood
+/// beyond the newest block than may wait, the record is the front of the transition log, whole; and
+/// each gap mark has its own block, before which the record is what all blocks before it are, and when
+/// that block was made more did.
+#[tactic(auto, using(crate::proofs::Promises::what_arrives))]
+pub fn nothing_is_lost()
+    ensures whole { HoldsWithoutRestart (λ settings first machine.
+        IsWholeUnlessFull settings machine) }
+    ensures gaps { HoldsWithoutRestart (λ settings first machine.
+        GapsNameTimes settings machine) }
+{}
+
+/// Without restarts: where the module is polled often enough, from a time on at which nothing waits,
+/// the record is the front of the transition log, whole, also where each input counts with its own
+/// filters; and so it is after an outage for which the buffer has room.
+#[tactic(auto, using(crate::proofs::Promises::what_arrives))]
+pub fn polled_often_is_whole()
+    ensures polled_often { HoldsWithoutRestart (λ settings first machine.
+        IsWholeWherePolledOften settings machine) }
+    ensures for_each { HoldsWithoutRestart (λ settings first machine.
+        IsWholeWherePolledForEach settings machine) }
+    ensures outage { HoldsWithoutRestart (λ settings first machine.
+        IsWholeAfterOutage settings machine) }
+{}
+
+/// Without restarts each clean round, with what comes before it since the one before, makes a block,
+/// whatever was lost or repeated. So the blocks are never more scans behind than lie between the polls
+/// of two clean rounds as the module receives them, and twice as many where answers are lost.
+pub fn clean_rounds_keep_up()
+    ensures blocks { HoldsWithoutRestart RoundsMakeBlocks }
+    ensures behind { HoldsWithoutRestart RoundsKeepUp }
+{}
+
+/// Where the module receives the poll of a clean round at least every n scans, with k * n at most
+/// `per_block` * f, from a time on at which the CPU has taken all blocks and nothing waits, and no more than
+/// k inputs stay open, with filters of at least f, whatever configurations come: the record gains each transition once, in order, with its time, and no gap
+/// mark; and at the end of a clean round it lacks none that had been logged when the module received the
+/// poll of the one two rounds earlier, or more than n + f - 2 scans before it received that of this one.
+/// Where no answer is lost it is one round, and f - 2 scans.
+pub fn all_arrives_in_time()
+    ensures { HoldsWithoutRestart AllArrivesInTime }
+{}
+
+/// The record is never late where a link is polled in time: at any time what the log has and the record
+/// has not is at most n + f - 2 scans old, or 2 n + f - 2 where a clean round may repeat a block, until n
+/// scans after the module received the poll of the latest. With blocks counted whole it is at most so many as the
+/// largest of n - 1 + j n - f (j b / k) over all j, and n more where a clean round may.
+#[tactic(auto, using(crate::proofs::Promises::what_arrives))]
+pub fn records_are_never_late()
+    ensures late { HoldsWithoutRestart IsNeverLate }
+    ensures exactly { HoldsWithoutRestart IsNeverLateExactly }
+{}
+
+/// Under the standard limits, with up to 64 open inputs, filters of at least 5 and a clean round at least
+/// every 19 scans, a transition is in the record at most 22 scans after its own; and at most 41 where
+/// answers are lost.
+pub fn standard_links_are_never_late()
+    ensures no_answer_lost { StandardLinkIsNeverLater 19 false 22 }
+    ensures answers_lost { StandardLinkIsNeverLater 19 true 41 }
+{}
+
+/// Both are reached: there are such links that lack a transition which is 22 scans old, and 41 where answers
+/// are lost.
+#[tactic(auto, using(crate::proofs::Sharpness::late_22, crate::proofs::Sharpness::late_41))]
+pub fn standard_links_are_as_late()
+    ensures no_answer_lost { StandardLinkIsAsLate 19 false 22 }
+    ensures answers_lost { StandardLinkIsAsLate 19 true 41 }
+{}
+
+/// With a scan more between two clean rounds than is often enough, a link can lose transitions: with 64 open
+/// inputs, filters of 1, and blocks of 64, a clean round every scan is often enough, and every 2 scans is not.
+#[tactic(auto, using(crate::proofs::PolledTooSeldom::loses))]
+pub fn links_polled_too_seldom_lose()
+    ensures { LosesWhereAScanLater (record { id = 0; per_block = 64; waiting = 1024 }) 1 1 }
+{}
+
+/// Where a link is polled in time, an open input that keeps a new level for as many samples in a row as
+/// its filter asks for is in the record once more than n + f - 2 scans came after the last of them, or
+/// 2 n + f - 2 where a clean round may repeat a block.
+#[tactic(auto, using(crate::proofs::Promises::what_arrives))]
+pub fn new_levels_are_recorded()
+    ensures { HoldsWithoutRestart NewLevelsAreRecorded }
+{}
+
+/// Under the standard limits, with up to 64 open inputs, filters of at least 5 and a clean round at least
+/// every 19 scans, an input that has a new level for as many samples in a row as its filter f is in the
+/// record at most f - 1 + 22 scans after the first of them; and at most f - 1 + 41 where answers are lost.
+pub fn standard_links_record_new_levels()
+    ensures no_answer_lost { StandardLinkRecordsNewLevels 19 false 22 }
+    ensures answers_lost { StandardLinkRecordsNewLevels 19 true 41 }
+{}
+
+/// Where clean rounds each make up for s scans, with k s at most `per_block` * f, and the blocks are never
+/// more than m behind, with k (m + f - 1) at most w f for w that may wait: the record gains each transition
+/// once, in order, with its time, and no gap mark; and lacks none that is more than m + f - 2 scans old.
+pub fn all_arrives_where_kept_up_with()
+    ensures { HoldsWithoutRestart AllArrivesWhereKeptUpWith }
+{}
+
+/// Links keep up within a pace of s scans, and after an outage of m scans in it; and rounds that come more
+/// often than s scans catch up by the difference. Under the standard limits, with up to 64 open inputs and
+/// filters of at least 5, s may be 19 and m 76.
+pub fn outages_within_a_pace()
+    ensures possible { OutagesArePossible }
+    ensures caught_up { RoundsCatchUp }
+    ensures standard { StandardLimitsHaveRoom 19 76 }
+{}
+
+/// Under the standard limits, with up to 64 open inputs, filters of at least 5 and clean rounds that each make
+/// up for 19 scans, a link whose blocks are never more than 76 scans behind loses nothing, and a transition is
+/// in the record at most 79 scans after its own.
+pub fn standard_links_kept_up_are_never_late()
+    ensures { StandardLinkKeptUpIsNeverLater 19 76 79 }
+{}
+
+/// A round begins at least every n scans, and each clean one makes up for s. Where of each c + 1 rounds in a
+/// row at most l are lost, with c n at most (c - l) s, the blocks are never more than (l + 1) n behind.
+#[tactic(auto, using(crate::proofs::LostRounds::lost_rounds_are_possible))]
+pub fn lost_rounds()
+    ensures { LostRoundsArePossible }
+{}
+
+/// After any events, restarts included, delivery starts anew with a clean round that leaves nothing waiting:
+/// where clean rounds come in time from then on, the record gains each transition once, in order, with its time,
+/// and no gap mark, and none is more than 2 n + f - 2 scans late. Under the standard limits, with up to 64 open
+/// inputs, filters of at least 5 and a clean round at least every 19 scans, that is 41.
+pub fn delivery_starts_anew()
+    ensures anew { HoldsOfRuns (λ settings first events machine.
+        DeliveryStartsAnew settings first machine) }
+    ensures standard { StandardLinkStartsAnew 19 41 }
+{}
+
+/// Scans that come while a poll or its answer is under way lead where they lead before the poll is
+/// sent, and after its answer is received: a clean round may take time.
+#[tactic(auto, using(crate::proofs::MovedScans::scans_move_out))]
+pub fn scans_move_out_of_rounds()
+    ensures { (settings : Settings) (first : ℕ) (machine : Machine)
+        → ScansMoveOut settings first machine }
+{}
+
+/// Events lead to one machine at most.
+#[tactic(auto, using(crate::proofs::Runs::runs_lead_to_one_machine))]
+pub fn runs_lead_to_one_machine()
+    ensures { LeadToOneMachine }
+{}
+
+/// The promises are for settings in their ranges: the standard ones and those with any limits are.
+pub fn settings_are_in_range()
+    ensures standard { (id : ℕ) → id ≤ 255 → AreInRange (standard_settings id) }
+    ensures limits { (id : ℕ) (limits : Limits) → id ≤ 255
+        → are_limits limits.per_block limits.waiting ≡ true → AreInRange (settings_with id limits) }
+{}

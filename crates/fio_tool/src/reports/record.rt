@@ -1,0 +1,115 @@
+//! The text with the record of a transcript's CPU, judged by the rules on content.
+ghost use Rattle.std.specs.Prelude.{◌≡◌, ◌++◌, List, IfOk, OnOk, Some, is_some, not, take};
+ghost use Rattle.fio_cpu.specs.declared.record.Item.{Item as ItemOf};
+ghost use Rattle.fio_tool.specs.Record.{broken_entry_line, is_record_good, items_of_cpu, judged_record, record_lines, record_text};
+ghost use Rattle.fio_tool.specs.Recordings.{broken_entry_of, entry_of_item};
+
+use super::check::{report_of_bad_line, report_of_verdict};
+use super::{is_too_long, report_too_long};
+use crate::transcript::{BrokenItem, Recording, TraceError, record_lines};
+use fio_check::{ContentRule, Verdict};
+use fio_cpu::Item;
+use fio_message::Memory;
+use fio_show::push_items;
+use fio_text::{BadLine, Report, push_line};
+use std::alloc::{AllocError, Global};
+
+/// Returns the text with the record that the CPU of the transcript in the input has: `record N`, and then a
+/// line for each of its N items, `gap` or `input I state L stamp S wide W`. That CPU starts at the first
+/// poll with the number of that poll, and hears each frame below.
+///
+/// Where an entry of the record breaks a rule on content, the text has only the items above the first one that does, and
+/// then the line `line L input I breaks RULE` with the number of the entry's line; the report is not good. Where
+/// the report of `check_text` is not good, it is that report, and there is no record.
+///
+/// # Errors
+/// `Memory` where an allocation failed, for the record or its text.
+pub fn record_text(alloc: Global, input: &[u8]) -> Result<Report, Memory>
+    ensures text { IfOk result (λ report. report.text.items ≡ record_text input.now) }
+    ensures good { IfOk result (λ report. report.good ≡ is_record_good input.now) }
+{
+    if is_too_long(input) {
+        return report_too_long(alloc);
+    }
+    match record_lines(alloc, input) {
+        Ok((Verdict::Good { .. }, recording)) => report_of_recording(alloc, &recording),
+        Ok((verdict, _)) => report_of_verdict(alloc, verdict),
+        Err(TraceError::BadLine { line }) => report_of_bad_line(alloc, BadLine { line }),
+        Err(TraceError::Memory) => Err(Memory),
+    }
+}
+
+/// Returns the report of what a pass over a transcript kept.
+///
+/// # Errors
+/// `Memory` where there is no room for its lines.
+fn report_of_recording(alloc: Global, recording: &Recording) -> Result<Report, Memory>
+    ensures text { IfOk result (λ report. report.text.items
+        ≡ judged_record (broken_entry_of recording.now) (items_of_cpu recording.now.cpu)) }
+    ensures good { IfOk result (λ report.
+        report.good ≡ not (is_some (broken_entry_of recording.now))) }
+{
+    let mut text = Vec::new(alloc);
+    push_recording(&mut text, recording)?;
+    Ok(Report {
+        text,
+        good: recording.broken.is_none(),
+    })
+}
+
+/// Appends the lines for what a pass over a transcript keeps.
+fn push_recording(text: &mut Vec<u8>, recording: &Recording) -> Result<(), AllocError>
+    ensures { OnOk result (text.new.items ≡ text.old.items
+        ++ judged_record (broken_entry_of recording.now) (items_of_cpu recording.now.cpu)) }
+{
+    let items = recording.items();
+    match recording.broken {
+        None => push_record(text, items),
+        Some(broken) => push_broken(text, items, broken),
+    }
+}
+
+/// Appends the lines for the items above an entry that breaks a rule, and the line for the entry.
+fn push_broken(text: &mut Vec<u8>, items: &[Item], broken: BrokenItem) -> Result<(), AllocError>
+    ensures { OnOk result (text.new.items ≡ text.old.items
+        ++ judged_record (Some (entry_of_item items.now broken)) items.now) }
+{
+    push_record(text, first_items(items, broken.above))?;
+    push_broken_line(text, broken)
+}
+
+/// Returns the first `count` items, or all if there are fewer.
+#[tactic(auto, using(std::proofs::lemmas::List::take_min))]
+fn first_items(items: &[Item], count: usize) -> &[Item]
+    ensures { result.now ≡ take count items.now }
+{
+    &items[..count.min(items.len())]
+}
+
+/// Appends the line for an entry that breaks a rule.
+fn push_broken_line(text: &mut Vec<u8>, broken: BrokenItem) -> Result<(), AllocError>
+    ensures { (items : List ItemOf) → OnOk result (text.new.items
+        ≡ text.old.items ++ broken_entry_line (entry_of_item items broken)) }
+{
+    let line = broken.line as u64;
+    let input = broken.input;
+    match broken.rule {
+        ContentRule::Order => {
+            push_line!(text; b"line " {line} b" input " {input} b" breaks order\n")
+        }
+        ContentRule::Alternate => {
+            push_line!(text; b"line " {line} b" input " {input} b" breaks alternate\n")
+        }
+        ContentRule::Apart => {
+            push_line!(text; b"line " {line} b" input " {input} b" breaks apart\n")
+        }
+    }
+}
+
+/// Appends the lines for a record.
+fn push_record(text: &mut Vec<u8>, items: &[Item]) -> Result<(), AllocError>
+    ensures { OnOk result (text.new.items ≡ text.old.items ++ record_lines items.now) }
+{
+    push_line!(text; b"record " {items.len() as u64} b"\n")?;
+    push_items(text, items)
+}

@@ -1,6 +1,0 @@
-use Rattle.fio_world.proofs.Promises.{what_arrives}
-use Rattle.fio_world.proofs.laws.all_arrives_where_kept_up_with.Goals as goal
-
-pub returns : goal.returns
-returns c settings first events machine range run none =
-    (what_arrives settings first events machine range run none).kept_up_with

@@ -1,5 +1,0 @@
-use Rattle.fio_world.proofs.Promises.{answers_carry_blocks}
-use Rattle.fio_world.proofs.laws.answers_carry_blocks.Goals as goal
-
-pub returns : goal.returns
-returns c = answers_carry_blocks

@@ -1,9 +1,0 @@
-use Rattle.std.proofs.Common.{take}
-use Rattle.std.specs.Fmt.{HasWritten, IsPlainFormatter}
-use Rattle.hex.specs.Hex.{encode_lower}
-use Rattle.fio_world.proofs.text.printing.HexadecimalDisplay.fmt.Given as goal
-
-abbrev pub invariant-octets : goal.invariant-octets
-invariant-octets g l =
-    IsPlainFormatter l.initial.f
-    → HasWritten g.W.Write.write_str_gives l.initial.f (encode_lower (take l.octet-index l.octet-items)) l.f

@@ -1,0 +1,34 @@
+"""The texts of the repository, as the checks of texts read them, and its tools, as modules."""
+
+import functools
+import glob
+import importlib.machinery
+import importlib.util
+import os
+
+from support.tables import TOP
+
+
+@functools.cache
+def text_of(name):
+    """Returns the text of a file, by its path below the top."""
+    with open(os.path.join(TOP, name), encoding='utf-8', errors='replace') as file:
+        return file.read()
+
+
+def files(*forms):
+    """Returns the paths below the top that fit one of these forms, in order."""
+    return [os.path.relpath(path, TOP) for form in forms for path in sorted(glob.glob(os.path.join(TOP, form), recursive=True))]
+
+
+def documents():
+    """Returns the documents: those at the top, those of docs/ and tools/, and the manual pages."""
+    return files('*.md', 'docs/*.md', 'tools/*.md', 'tools/*/*.md', 'man/*.1')
+
+
+def tool(name):
+    """Returns a script of tools/ as a module."""
+    loader = importlib.machinery.SourceFileLoader(name.replace('-', '_'), os.path.join(TOP, 'tools', name))
+    module = importlib.util.module_from_spec(importlib.util.spec_from_loader(loader.name, loader))
+    loader.exec_module(module)
+    return module

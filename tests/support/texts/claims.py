@@ -1,0 +1,232 @@
+"""Claims: what the documents promise is what the contracts say, by the names of clauses.
+
+README's section "What is proved": each numbered sentence, and each other one that says *proved*, ends with brackets
+that name what carries it; where it begins with a crate, functions are looked for in that one alone. Between semicolons
+the brackets have one of the forms
+
+    `accepted` and `refused` of `decode_command` and `read_block`    clauses of public functions
+    `rising` of `IsSoundRun`                                         fields of a definition
+    the clause of `check_trace`                                      the one clause, which has no name
+    each export of `fio_c`                                           each has clauses and no `requires`
+    the gate, `rt ci`                                                `test` runs it
+
+and so have the columns of clauses in docs/ARCHITECTURE.md and docs/PLANNING.md. In docs/PROMISES.md the columns *Law*
+and *Field*, and the brackets of "Every call, crate by crate", name laws, fields and clauses that exist."""
+
+import os
+import re
+
+from support.functions import TOP, functions_of, sources_of, without_words
+from support.pages import files, text_of
+
+LIST = r'`[^`]+`(?:, `[^`]+`)*(?: and `[^`]+`)?'
+CRATES = [os.path.basename(path) for path in files('crates/fio*')]
+
+# Sentences of a section, each with the words in which the check has to find it at fault.
+SENTENCES = [
+    ('1. **`fio_cpu`** takes the present block (`taken` and `unchanged` of `Poller::hear`).', None),
+    ('1. **`fio_world`** keeps order (`headline` of `World::run`; `rising` of `IsSoundRun`).', None),
+    ('1. **`fio_tool`** writes the text (`text` of `show_text` and `check_text`).', None),
+    ('1. **`fio_check`** gives the verdict (the clause of `check_trace`).', None),
+    ('These promises matter most.', None),
+    ('1. **`fio_cpu`** takes every block.', 'names no clause'),
+    ('1. **`fio_cpu`** takes a block (see below).', 'names no clause'),
+    ('1. **`fio_cpu`** takes a block\n   (`taken` of `Poller::hear`). It\n   loses none.', 'names no clause'),
+    ('1. **`fio_module`** takes a block (`taken` of `Poller::hear`).', 'no public `Poller::hear` in `fio_module`'),
+    ('1. **`fio_cpu`** takes a block (`taken` of `Poller::hear`). It loses none.', 'names no clause'),
+    ('Every function is proved to end.', 'names no clause'),
+    ('It is **proved**, and so on (by hand).', 'names no clause'),
+    ('1. It takes blocks (`accepted` of `Poller::hear`).', '`Poller::hear` has no clause `accepted`'),
+    ('1. It takes blocks (`taken` of `Poller::hear` and `Poller::poll`).', '`Poller::poll` has no clause `taken`'),
+    ('1. It takes blocks (`taken` of `Poller::listen`).', 'there is no public `Poller::listen`'),
+    ('1. It takes blocks (`taken` of `Poller::hear_block`).', 'there is no public `Poller::hear_block`'),
+    ('1. It takes blocks (the clause of `Poller::hear`).', '`Poller::hear` has no clause without a name'),
+    ('1. The record rises (`rising` of `IsSound`).', '`IsSound` has no clause `rising`'),
+    ('1. Each is right (each export of `fio_cpu`).', 'an export of `fio_cpu`'),
+    ('1. Each is right (each export of `fio_c`; `no` of `show`).', '`show` has no clause `no`'),
+]
+
+
+class Contract:
+    """The clauses of a function: their names, and whether it has a `requires`."""
+
+    def __init__(self, path, label, head):
+        self.crate = os.path.relpath(path, os.path.join(TOP, 'crates')).split(os.sep)[0]
+        self.module, self.label = os.path.basename(path)[:-len('.rt')], label
+        self.is_public = re.match(r'\s*pub (?:const |extern +)?fn ', head) is not None
+        self.is_export = re.match(r'\s*pub extern ', head) is not None
+        self.clauses = re.findall(r'\bensures +(\w*) *\{', head)
+        self.requires = re.search(r'\brequires\b', head) is not None
+
+    def is_named(self, name):
+        """Whether this is the function `label`, `module::label` or `crate::module::label`."""
+        path = [self.crate, self.module] + self.label.split('::')
+        words = name.split('::')
+        return words == path[-len(words):] and len(words) >= len(path) - 2
+
+    def is_law(self):
+        return self.module.endswith('laws')
+
+
+def contracts():
+    """The contracts of all functions, and of the laws, whose body is `{}`."""
+    found = []
+    for path, text in (source for crate in CRATES for source in sources_of(crate).items()):
+        plain = without_words(text)
+        found += [Contract(path, one.label(), plain[one.start:one.body]) for one in functions_of(path, text)]
+        found += [Contract(path, law[2], law[1])
+                  for law in re.finditer(r'^(pub fn (\w+)(?:(?!^[{}]).)*)^\{\}', plain, re.M | re.S)]
+    return found
+
+
+def records():
+    """The fields of each record that a definition names."""
+    found = {}
+    for path in files('crates/*/specs/*.antt'):
+        for name, fields in re.findall(r'^pub record (\w+)(.*?)(?=^\S|\Z)', text_of(path), re.M | re.S):
+            found.setdefault(name, set()).update(re.findall(r'^  pub (\w+) :', fields, re.M))
+    return found
+
+
+def first(faults):
+    """The first of these that is there, or None."""
+    return next(filter(None, faults), None)
+
+
+class Judge:
+    """What the contracts say, and the check that counts the rows."""
+
+    def __init__(self, check):
+        self.check, self.contracts, self.records = check, contracts(), records()
+
+    def public(self, name, crate=None):
+        """The public functions of this name, in one crate or in all."""
+        return [one for one in self.contracts
+                if one.is_public and one.is_named(name) and crate in (None, one.crate)]
+
+    def fault_at(self, target, clause, crate=None):
+        """Why a function or a definition does not have this clause or field; '' is the one without a name."""
+        found = self.public(target, crate)
+        if not found and target not in self.records:
+            return 'there is no public `%s`' % target + (' in `%s`' % crate if crate else '')
+        names = [name for one in found for name in one.clauses] + sorted(self.records.get(target, []))
+        if clause in names:
+            return None
+        return '`%s` has no clause %s' % (target, '`%s`' % clause if clause else 'without a name')
+
+    def fault_of_exports(self, crate):
+        exports = [one for one in self.contracts if one.is_export and one.crate == crate]
+        bad = [one for one in exports if one.requires or not one.clauses]
+        if exports and not bad:
+            return None
+        return 'an export of `%s` has no clause, or a `requires`: %s' % (crate, [one.label for one in bad])
+
+    def fault_of_claim(self, claim, crate=None):
+        """Why a claim between semicolons is not carried, or None."""
+        if claim == 'the gate, `rt ci`':
+            return None if re.search(r'^\s*(?:run )?rt ci\b', text_of('test'), re.M) else '`test` does not run `rt ci`'
+        exports = re.fullmatch(r'each export of `(\w+)`', claim)
+        if exports:
+            return self.fault_of_exports(exports[1])
+        found = re.fullmatch(r'(?:the clause|(%s)) of (%s)' % (LIST, LIST), claim)
+        if found is None:
+            return 'names no clause'
+        clauses = re.findall(r'`([^`]+)`', found[1]) if found[1] else ['']
+        targets = re.findall(r'`([^`]+)`', found[2])
+        return first(self.fault_at(target, clause, crate) for target in targets for clause in clauses)
+
+    def fault_of(self, claims, crate=None):
+        return first(self.fault_of_claim(claim, crate) for claim in claims.split('; '))
+
+    def fault_of_sentence(self, sentence):
+        brackets = re.search(r'\(([^()]*)\)\.$', sentence)
+        crate = re.match(r'\*\*`(\w+)`\*\*', sentence)
+        return self.fault_of(brackets[1], crate and crate[1]) if brackets else 'names no clause'
+
+    def holds(self, where, what, fault):
+        """A row: what a page says has no fault."""
+        self.check.equal('%s: %s' % (where, what), None, fault)
+
+
+def section(text, heading):
+    """The text below a heading, up to the next one of its rank."""
+    return re.search(r'^## %s\n(.*?)(?=^## |\Z)' % re.escape(heading), text, re.M | re.S)[1]
+
+
+def claiming_sentences(text):
+    """The sentences of a section that have to name a clause: the numbered ones, and those that say *proved*."""
+    for paragraph in re.split(r'\n(?=\d+\. )|\n{2,}', text):
+        item = re.match(r'\s*\d+\. ', paragraph)
+        words = ' '.join((paragraph[item.end():] if item else paragraph).split())
+        for sentence in re.split(r'(?<=\.) (?=[A-Z`*\[])', words):
+            if sentence and (item or re.search(r'\bproved\b', sentence)):
+                yield sentence
+
+
+def cells(text, column):
+    """The cells of a column in the tables of a text that have it."""
+    place = None
+    for line in text.split('\n'):
+        row = [cell.strip() for cell in line.split('|')]
+        if not line.startswith('|'):
+            place = None
+        elif place is None:
+            names = [name.split(' of ')[0] for name in row]
+            place = names.index(column) if column in names else -1
+        elif place >= 0 and not row[place].startswith('---'):
+            yield row[place]
+
+
+def check_itself(judge):
+    """The check finds a fault where it has to, and no other."""
+    for text, expected in SENTENCES:
+        found = first(judge.fault_of_sentence(sentence) for sentence in claiming_sentences(text))
+        is_right = found is None if expected is None else expected in (found or '')
+        judge.holds('the check of claims', text, None if is_right else 'is found to be at fault by %s' % found)
+
+
+def check_readme(judge):
+    found = list(claiming_sentences(section(text_of('README.md'), 'What is proved')))
+    judge.holds('README.md', 'What is proved', None if len(found) > 10 else 'has %d sentences' % len(found))
+    for sentence in found:
+        judge.holds('README.md', sentence, judge.fault_of_sentence(sentence))
+
+
+def check_tables(judge):
+    """The columns of clauses."""
+    for name, heading in (('docs/ARCHITECTURE.md', 'What each layer promises to the one above'),
+                          ('docs/PLANNING.md', 'The formulas and their clauses')):
+        for claims in cells(section(text_of(name), heading), 'Clause'):
+            judge.holds(name, claims, judge.fault_of(claims))
+
+
+def check_promises(judge):
+    """The laws and fields that the tables of docs/PROMISES.md name."""
+    text = text_of('docs/PROMISES.md')
+    for field in cells(text, 'Field'):
+        judge.holds('docs/PROMISES.md', field, judge.fault_at('IsSound', field.strip('`')))
+    for column in cells(text, 'Law'):
+        for law in column.split('; '):
+            is_law = any(one.is_law() for one in judge.public(law.strip('`')))
+            judge.holds('docs/PROMISES.md', law, None if is_law else judge.fault_of_claim(law))
+
+
+def check_calls(judge):
+    """The brackets of "Every call, crate by crate" name clauses, or calls, of the crate that the paragraph is about."""
+    crate = None
+    for line in section(text_of('docs/PROMISES.md'), 'Every call, crate by crate').split('\n'):
+        heading = re.match(r'\*\*`(\w+)`\*\*', line)
+        crate = heading[1] if heading else crate
+        of_crate = [one for one in judge.contracts if one.is_public and one.crate == crate]
+        known = {name for one in of_crate for name in one.clauses + [one.label]}
+        for names in re.findall(r'\((?:clauses? )?(%s(?:: %s)?)[,)]' % (LIST, LIST), line):
+            for name in re.findall(r'`([^`]+)`', names):
+                fault = None if name in known else '`%s` has no clause `%s`' % (crate, name)
+                judge.holds('docs/PROMISES.md', names, fault)
+
+
+def rows(check):
+    """Compares the claims of each document with the contracts."""
+    judge = Judge(check)
+    for part in (check_itself, check_readme, check_tables, check_promises, check_calls):
+        part(judge)

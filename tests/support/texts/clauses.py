@@ -1,0 +1,85 @@
+"""Clauses: each clause of each public call of the libraries has a wrong body that it refuses, or a wrong statement where it
+is a law, whose body is empty, or says of the arguments alone what holds of them. The line `refused-by:` of a stanza names
+it; that it is refused so is tried by `wrong-bodies/try`. `unguarded.txt` lists the clauses that still lack theirs: a line
+goes when its stanza comes."""
+
+import os
+import re
+
+from support.functions import LAW, TOP, functions_of, homes_of, name_functions, settle, sources_of, without_words
+from support.pages import text_of
+from support.stanzas import stanzas_of
+
+# No body breaks these: what the call returns is the only value of its type, or the ring that it is given the only one.
+ALONE = ['fio_world: World::module, its clause', 'fio_world: World::poller, its clause',
+         'fio_module: MemoryRing::new, same_place',
+         *('fio_module: ModuleState::%s, same_memory' % name for name in ('restart', 'scan', 'poll', 'obey', 'carry_out'))]
+
+
+def libraries():
+    """Returns the libraries that `crates.txt` lists."""
+    names = [line.partition(':')[0].split()[0] for line in text_of('crates.txt').splitlines()]
+    return [name for name in names if os.path.exists(os.path.join(TOP, 'crates', name, 'src', 'lib.rt'))]
+
+
+def exported(sources, path):
+    """Returns the names that a module file exports, by `pub use` and by its public modules."""
+    names, folder = set(), os.path.dirname(path)
+    if os.path.basename(path) != 'lib.rt':
+        folder = path[:-len('.rt')]
+    text = without_words(sources[path])
+    for found in re.finditer(r'^pub use ([^;]*);', text, re.M | re.S):
+        names.update(re.findall(r'\w+', found[1]))
+    for found in re.finditer(r'^pub mod (\w+);', text, re.M):
+        inner = os.path.join(folder, found[1] + '.rt')
+        names.update(re.findall(r'^pub (?:const )?(?:fn|struct|enum) (\w+)', sources[inner], re.M))
+        names |= exported(sources, inner)
+    return names
+
+
+def public_heads(crate):
+    """Returns each public call and law of a crate, as lines `refused-by:` name it, and what stands before its body."""
+    sources = {path: without_words(text) for path, text in sources_of(crate).items()}
+    functions = [one for path, text in sources.items() for one in functions_of(path, text)]
+    name_functions(settle(functions, homes_of(sources)))
+    names = exported(sources, os.path.join(TOP, 'crates', crate, 'src', 'lib.rt'))
+    for path, text in sources.items():
+        # Those for C are public wherever they are.
+        names.update(re.findall(r'^pub extern +fn (\w+)', text, re.M))
+        yield from (('law ' + found[1], found[0]) for found in LAW.finditer(text) if found[1] in names)
+    for one in functions:
+        if one.is_public and (one.owner or one.name) in names:
+            yield one.short, sources[one.path][one.start:one.body]
+
+
+def public_clauses(crate):
+    """Returns the clauses of each public call and law of a crate, by its name."""
+    return {short: [name or 'its clause' for name in re.findall(r'\bensures\s*(\w*)\s*\{', head)]
+            for short, head in public_heads(crate)}
+
+
+def named_clauses(crate):
+    """Returns each clause by which a stanza of a crate is refused, and the name of its function or law."""
+    for stanza in stanzas_of(crate):
+        for part in (stanza.refused_by or '').split('; '):
+            short, *clauses = part.split(', ')
+            yield from ((short, clause) for clause in clauses)
+
+
+def rows(check):
+    """Looks for a stanza of each clause that is not listed, for none of those that are, and for each clause that a stanza or
+    a list names. What has a blank in its name is no clause of a contract."""
+    listed = text_of('tests/support/texts/unguarded.txt').splitlines()
+    left = set(listed + ALONE)
+    for crate in libraries():
+        public, named = public_clauses(crate), set(named_clauses(crate))
+        for short, clause in sorted((short, clause) for short in public for clause in public[short]):
+            line = '%s: %s, %s' % (crate, short, clause)
+            is_guarded = (short, clause) in named or line in ALONE
+            check.holds('a wrong body for ' + line, is_guarded != (line in listed),
+                        'a stanza and a line of unguarded.txt' if is_guarded else 'none')
+            left.discard(line)
+        gone = {'%s: %s, %s' % (crate, *one) for one in named
+                if one[1] not in public.get(one[0], [one[1]]) and (' ' not in one[1] or not public[one[0]])}
+        check.holds('%s: the clauses that its wrong bodies name' % crate, not gone, 'not there: %s' % '; '.join(sorted(gone)))
+    check.holds('the clauses that are listed', not left, 'not there: %s' % '; '.join(sorted(left)))

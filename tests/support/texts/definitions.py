@@ -1,0 +1,31 @@
+"""Definitions: the glossary that tools/generate-glossary writes has each definition of specs/ with what its comment says, and
+each name in `code` of docs/DEFINITIONS.md is in the sources."""
+
+import os
+import re
+
+from support.pages import files, text_of, tool
+from support.tables import TOP
+
+
+def is_whole(check):
+    """Compares the names of the glossary, file by file, with those that the files define."""
+    glossary = tool('generate-glossary').page()
+    parts = {path: part for path, part in re.findall(r'^### \[\w+\]\(\.\./(.*?)\)\n(.*?)(?=^##|\Z)', glossary, re.M | re.S)}
+    sources = [path for path in files('crates/*/specs/*.antt') if os.path.basename(path) != 'Lib.antt']
+    check.equal('files of the glossary', sources, sorted(parts))
+    for path in sources:
+        names = re.findall(r'^(?:abbrev |unfoldable )*pub (?:record |data )?(\S+)', text_of(path), re.M)
+        check.equal('definitions of %s in the glossary' % path, list(dict.fromkeys(names)),
+                    re.findall(r'^- `(.*?)`: \S', parts.get(path, ''), re.M))
+
+
+def rows(check):
+    """Compares the glossary and docs/DEFINITIONS.md with the sources."""
+    is_whole(check)
+    sources = files('crates/*/specs/**/*.antt', 'crates/*/src/**/*.rt')
+    everything = {word for path in sources for word in re.findall(r'[\w-]+', text_of(path))}
+    for number, line in enumerate(text_of('docs/DEFINITIONS.md').split('\n'), 1):
+        for name in re.findall(r'`(\w+)`', line):
+            known = name in everything or os.path.isdir(os.path.join(TOP, 'crates', name)) or name == 'specs'
+            check.holds('docs/DEFINITIONS.md:%d: %s is defined' % (number, name), known)

@@ -1,0 +1,32 @@
+"""Links: each file that a document names, in a link or in code, exists; docs/TESTS.md names each check."""
+
+import os
+import re
+
+from support.pages import documents, files, text_of
+from support.tables import TOP
+
+# What a name in code may begin at, beside the top.
+PLACES = ['', 'docs', 'examples', 'crates'] + files('crates/*', 'crates/*/src', 'crates/*/src/*', 'crates/*/specs')
+
+
+def exists(*path):
+    return os.path.exists(os.path.join(TOP, *path))
+
+
+def missing(document):
+    """Returns the files that a document names and that do not exist."""
+    text = text_of(document)
+    names = re.findall(r'`([\w./-]+(?<!\.so)\.(?:rt|antt|edit|md|script|transcript|frames|1))`', text)
+    links = re.findall(r'\]\(([^)#:]+)(?:#[^)]*)?\)', text)
+    return ([name for name in names if not any(exists(place, name) for place in PLACES)]
+            + [link for link in links if not exists(os.path.dirname(document), link)])
+
+
+def rows(check):
+    """Looks for the files that each document names, and for each check in docs/TESTS.md."""
+    for document in documents():
+        check.equal('files that %s names and that are missing' % document, [], missing(document))
+    checks = [path for path in files('tests/*.*') if os.access(os.path.join(TOP, path), os.X_OK)]
+    named = re.findall(r'`(tests/[\w-]+\.\w+)`', text_of('docs/TESTS.md'))
+    check.equal('checks that docs/TESTS.md names', checks, sorted(named))

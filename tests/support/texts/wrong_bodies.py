@@ -1,0 +1,44 @@
+"""Wrong bodies: the text that each one changes is in its file exactly once; it has a name of its own, and says what refuses
+it, as the table of docs/PROMISES.md does. Each function of that table has its wrong body in a folder `must-fail`, for `rt ci`,
+and no other has. That the prover refuses them is tried by `wrong-bodies/try`."""
+
+import re
+
+from support.pages import text_of
+from support.stanzas import crates_with_stanzas, stanzas_of, texts_of
+
+
+def fault_of(stanza, names):
+    """Returns what is wrong with a stanza, or None."""
+    if stanza.apply(texts_of(stanza.crate, stanza.files())) is None:
+        return 'what it changes is not in its file once'
+    if names.count(stanza.name) > 1:
+        return 'another one has its name'
+    count = sum(line.startswith('refused-by:') for line in stanza.lines)
+    return None if count == 1 else 'it has %d lines `refused-by:`' % count
+
+
+def shown():
+    """Returns the rows of the page's table of wrong bodies: name, and what refuses it."""
+    table = text_of('docs/PROMISES.md').split('| Promise | Wrong body | Refused by |\n|---|---|---|\n')[1]
+    return re.findall(r'^\| .* \| (.*) \| `(.*)` \|$', table.split('\n\n')[0], re.M)
+
+
+def rows(check):
+    """Compares the stanzas with the sources, and with the page."""
+    lines, of_gate = {}, []
+    for crate in crates_with_stanzas():
+        stanzas = list(stanzas_of(crate))
+        names = [stanza.name for stanza in stanzas]
+        for stanza in stanzas:
+            check.fault('%s: %s' % (crate, stanza.name), fault_of, stanza, names)
+            lines.setdefault(stanza.name, []).append(stanza.refused_by)
+        of_gate += [stanza for stanza in stanzas if stanza.path.endswith('.edit')]
+    table = shown()
+    for name, refused_by in table:
+        check.holds('PROMISES: ' + name, refused_by in lines.get(name, []), 'refused by %s' % lines.get(name))
+    of_page = {name for name, refused_by in table if not refused_by.startswith('law ')}
+    differ = of_page ^ {stanza.name for stanza in of_gate}
+    check.holds('must-fail: the bodies that PROMISES shows', not differ, 'not in both: %s' % ', '.join(sorted(differ)))
+    for stanza in of_gate:
+        check.holds('must-fail: %s: one change' % stanza.name, len(stanza.changes) == 1, '%d' % len(stanza.changes))
