@@ -416,7 +416,8 @@ enum {
     /** A line that is a poll, not the first, with another number than the one due: that of the poll
      *  before, plus one modulo 256 if a block answer is directly below that poll. */
     FIO2070_RULE_ADVANCE = 4,
-    /** A line that is a block answer with E, though the poll before its own had another number. */
+    /** A line that is a block answer with E, though the poll directly above has another number than the
+     *  poll before that. */
     FIO2070_RULE_SAME = 5,
     /** A line that is a block answer with G and E, or with G and a block answer before it. */
     FIO2070_RULE_SEQUENCE = 6,

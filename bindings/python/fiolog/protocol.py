@@ -17,7 +17,8 @@ RULES = {
         'is a poll, not the first, with another number than the one due: that of the poll before, plus one '
         'modulo 256 if a block answer is directly below that poll'),
     5: ('same',
-        'is a block answer with E, though the poll before its own had another number'),
+        'is a block answer with E, though the poll directly above has another number than the poll before '
+        'that'),
     6: ('sequence',
         'is a block answer with G and E, or with G and a block answer before it'),
     7: ('limits',

@@ -20,8 +20,8 @@ pub enum Rule {
     /// Broken by a line that is a poll, not the first, with another number than the one due: that of
     /// the poll before, plus one modulo 256 if a block answer is directly below that poll.
     Advance,
-    /// Broken by a line that is a block answer with E, though the poll before its own had another
-    /// number.
+    /// Broken by a line that is a block answer with E, though the poll directly above has another
+    /// number than the poll before that.
     Same,
     /// Broken by a line that is a block answer with G and E, or with G and a block answer before it.
     Sequence,
