@@ -14,6 +14,9 @@ use fio_message::DecodeError;
 use fio_show::{LINE_OCTETS, put_heard};
 use fio_text::{line_end, put_pieces};
 
+/// The most octets of a text of this module, with the zero octet behind it.
+const LONGEST_TEXT: usize = 62;
+
 /// Writes the words of a fault, as `fio2070 show` has them, with no line end: the empty text where the
 /// kind is none of 1 to 4. Returns how many octets they have, at most 50; where there is no room for them
 /// and a zero octet nothing is written.
