@@ -19,9 +19,16 @@
  * Sources: TEES 2009 is Caltrans TEES 2009. "Own profile" is a choice of this project where TEES
  * leaves one: 64 inputs, 64 outputs, and what docs/PROTOCOL.md marks so.
  *
- * A call that writes octets, entries or items into an array returns how many it wrote. Where `room` is too
- * small it returns 0 and writes nothing. No message has more than FIO2070_LONGEST_FRAME octets. Where an encoder
- * can find no message with its fields, a call with `_length` behind its name tells that from too little room.
+ * Results are of two kinds:
+ *  - A code: 0 is success or "none". Its constants are those of an enum with a name, so that a compiler tells of a
+ *    `switch ((enum fio2070_rule)breach.rule)` which forgets one.
+ *  - A count, of a call that writes octets, entries, items or text into an array of `room`: how many there are to
+ *    write. Where that is more than `room`, nothing was written and nothing changed; a call with room 0 only tells the
+ *    count. FIO2070_NO_MESSAGE, more than any room, says that there is nothing such: an encoder whose fields no message
+ *    has, or octets that do not carry what is asked for. So `count > room` is the one test for failure, and 0 is a
+ *    success with nothing to write.
+ * A text ends in a zero octet, which its count leaves out, as snprintf does: it was written if its count is less than
+ * `room`. No message has more than FIO2070_LONGEST_FRAME octets.
  */
 #ifndef FIO2070_H
 #define FIO2070_H
@@ -39,6 +46,13 @@
 #elif SIZE_MAX != 0xffffffffffffffff
 #error "libfio2070.a has 64-bit pointers, and this compiler has shorter ones."
 #endif
+#endif
+
+/** In front of the calls whose result tells of a failure: gcc and clang warn where it is dropped. */
+#if defined(__GNUC__)
+#define FIO2070_MUST_USE __attribute__((warn_unused_result))
+#else
+#define FIO2070_MUST_USE
 #endif
 
 #ifdef __cplusplus
@@ -66,17 +80,20 @@ static inline uint8_t fio2070_processor_fits(void) {
 /** Returns that number of the library that is linked. */
 uint32_t fio2070_version(void);
 
+/** The count that says that there is nothing such: more than any room. */
+#define FIO2070_NO_MESSAGE SIZE_MAX
+
 /** The most that there may be. */
 enum {
     FIO2070_LONGEST_FRAME = 773,     /**< octets of a frame (own profile) */
     FIO2070_MOST_ENTRIES = 255,      /**< entries of a block, and items of a configuration (TEES 2009) */
     FIO2070_MOST_RECORD_ITEMS = 256, /**< what one block adds to a record: a gap mark and its entries */
     FIO2070_MOST_WAITING = 1024,     /**< entries that wait in a module (TEES 2009) */
-    FIO2070_LONGEST_FAULT_TEXT = 65  /**< octets of the words of a fault */
+    FIO2070_LONGEST_TEXT = 62        /**< octets of a text, with its zero octet: not of fio2070_show */
 };
 
-/** The types of commands (TEES 2009). The type of an answer is that of its command plus 128. */
-enum {
+/** The types of commands (TEES 2009). */
+enum fio2070_type {
     FIO2070_TYPE_STATUS = 49,
     FIO2070_TYPE_LOAD_COUNTER = 50,
     FIO2070_TYPE_CONFIGURE_INPUTS = 51,
@@ -88,17 +105,11 @@ enum {
     FIO2070_TYPE_COMPLEX_OUTPUTS = 57,
     FIO2070_TYPE_WATCHDOG = 58,
     FIO2070_TYPE_CONTROLLER_ID = 59,
-    FIO2070_TYPE_IDENTIFY = 60,
-    FIO2070_TYPE_ANSWER = 128, /**< the type of an answer less that of its command */
-    /* The names of before, which version 2 leaves out. */
-    FIO2070_STATUS = FIO2070_TYPE_STATUS, FIO2070_LOAD_COUNTER = FIO2070_TYPE_LOAD_COUNTER,
-    FIO2070_CONFIGURE_INPUTS = FIO2070_TYPE_CONFIGURE_INPUTS, FIO2070_RAW_INPUTS = FIO2070_TYPE_RAW_INPUTS,
-    FIO2070_FILTERED_INPUTS = FIO2070_TYPE_FILTERED_INPUTS, FIO2070_POLL = FIO2070_TYPE_POLL,
-    FIO2070_SET_OUTPUTS = FIO2070_TYPE_SET_OUTPUTS, FIO2070_TRACK_INPUTS = FIO2070_TYPE_TRACK_INPUTS,
-    FIO2070_COMPLEX_OUTPUTS = FIO2070_TYPE_COMPLEX_OUTPUTS, FIO2070_WATCHDOG = FIO2070_TYPE_WATCHDOG,
-    FIO2070_CONTROLLER_ID = FIO2070_TYPE_CONTROLLER_ID, FIO2070_IDENTIFY = FIO2070_TYPE_IDENTIFY,
-    FIO2070_ANSWER = FIO2070_TYPE_ANSWER
+    FIO2070_TYPE_IDENTIFY = 60
 };
+
+/** The type of an answer less that of its command: `(enum fio2070_type)(answer.code - FIO2070_TYPE_ANSWER)`. */
+enum { FIO2070_TYPE_ANSWER = 128 };
 
 /** Bits of statuses: their meaning is that of TEES 2009, their places are own profile. Other bits are
  * kept as they come. */
@@ -109,11 +120,7 @@ enum {
     FIO2070_BIT_LOST = 4,            /**< F of answer 182: entries directly before the block were pushed out */
     FIO2070_BIT_AGAIN = 2,           /**< E of answer 182: the same block number was asked for again */
     FIO2070_BIT_OUT_OF_SEQUENCE = 1, /**< G of answer 182: the number is not the one before plus one */
-    FIO2070_BIT_WAS_RESET = 128,     /**< P of the flags: the module was reset (own profile) */
-    /* The names of before, which version 2 leaves out. */
-    FIO2070_ERROR = FIO2070_BIT_ERROR, FIO2070_SET_BEFORE = FIO2070_BIT_SET_BEFORE,
-    FIO2070_MORE = FIO2070_BIT_MORE, FIO2070_LOST = FIO2070_BIT_LOST, FIO2070_AGAIN = FIO2070_BIT_AGAIN,
-    FIO2070_OUT_OF_SEQUENCE = FIO2070_BIT_OUT_OF_SEQUENCE, FIO2070_WAS_RESET = FIO2070_BIT_WAS_RESET
+    FIO2070_BIT_WAS_RESET = 128      /**< P of the flags: the module was reset (own profile) */
 };
 
 /* ---- Faults ---- */
@@ -124,11 +131,7 @@ enum fio2070_fault_kind {
     FIO2070_FAULT_EMPTY = 1,        /**< there is no octet */
     FIO2070_FAULT_TOO_LONG = 2,     /**< more than 773 octets: `got` */
     FIO2070_FAULT_UNKNOWN_TYPE = 3, /**< no message that the call reads has the type `code` */
-    FIO2070_FAULT_WRONG_LENGTH = 4, /**< a message of this type and count has `needed` octets, not `got` */
-    /* The names of before, which version 2 leaves out. */
-    FIO2070_NO_FAULT = FIO2070_FAULT_NONE, FIO2070_EMPTY = FIO2070_FAULT_EMPTY,
-    FIO2070_TOO_LONG = FIO2070_FAULT_TOO_LONG, FIO2070_UNKNOWN_TYPE = FIO2070_FAULT_UNKNOWN_TYPE,
-    FIO2070_WRONG_LENGTH = FIO2070_FAULT_WRONG_LENGTH
+    FIO2070_FAULT_WRONG_LENGTH = 4  /**< a message of this type and count has `needed` octets, not `got` */
 };
 
 /** Why octets are no message. Numbers that a kind does not have are 0. */
@@ -147,10 +150,11 @@ struct fio2070_fault {
     uint64_t got;
 };
 
-/** Writes the words of a fault as `fio2070 show` does, such as "wrong length needed 14 got 11", at
- * most 65 octets, with no line end and no zero octet after them. They are those of its kind, with
- * the numbers that the kind has; FIO2070_FAULT_NONE and what is no kind have no words: 0. */
-size_t fio2070_fault_text(const struct fio2070_fault *fault, uint8_t *out, size_t room);
+/** Writes the words of a fault as `fio2070 show` does, such as "wrong length needed 14 got 11", with no line end.
+ * They are those of its kind, with the numbers that the kind has; FIO2070_FAULT_NONE and what is no kind have the empty
+ * text. FIO2070_LONGEST_TEXT octets of room are enough. */
+FIO2070_MUST_USE
+size_t fio2070_fault_text(const struct fio2070_fault *fault, char *text, size_t room);
 
 /* ---- Reading block answers in place (TEES 2009, answer 182) ---- */
 
@@ -181,11 +185,12 @@ struct fio2070_entry {
 
 /** Reads a block answer without its entries. After a fault `header` is unchanged. Any other answer is
  * an unknown type here. */
+FIO2070_MUST_USE
 struct fio2070_fault fio2070_read_block(const uint8_t *octets, size_t length, struct fio2070_block_header *header);
 
-/** Copies the entries of a block answer to the front of `entries`, and returns how many they are: 0 where
- * `room` is smaller than the `count` of its header, and where the octets are no block answer. The rest of
- * `entries` is unchanged. */
+/** Copies the entries of a block answer to the front of `entries`, and returns how many they are, 0 to 255:
+ * FIO2070_NO_MESSAGE where the octets are no block answer. The rest of `entries` is unchanged. */
+FIO2070_MUST_USE
 size_t fio2070_block_entries(const uint8_t *octets, size_t length, struct fio2070_entry *entries, size_t room);
 
 /** The time in milliseconds, modulo 2^32, of an entry with this stamp in an answer with the stamp
@@ -259,81 +264,91 @@ struct fio2070_answer {
 };
 
 /** Reads any command. After a fault `command` is unchanged. */
+FIO2070_MUST_USE
 struct fio2070_fault fio2070_decode_command(const uint8_t *octets, size_t length, struct fio2070_command *command);
 
-/** Copies the items of a configuration (command 51) to the front of `items`, and returns how many they
- * are: 0 where `room` is smaller than the command's `count`, and where the octets are no configuration. The
- * rest of `items` is unchanged. */
+/** Copies the items of a configuration (command 51) to the front of `items`, and returns how many they are, 0 to
+ * 255: FIO2070_NO_MESSAGE where the octets are no configuration. The rest of `items` is unchanged. */
+FIO2070_MUST_USE
 size_t fio2070_command_items(const uint8_t *octets, size_t length, struct fio2070_configuration_item *items,
                              size_t room);
 
 /** Reads any answer. After a fault `answer` is unchanged. */
+FIO2070_MUST_USE
 struct fio2070_fault fio2070_decode_answer(const uint8_t *octets, size_t length, struct fio2070_answer *answer);
 
-/** Writes what `fio2070 show` writes of a frame, with a line feed behind each line and no octet of 0: the lines of the
- * message, of an answer where the first octet is 128 or more, else of a command; where it is none the words of the
- * fault. */
-size_t fio2070_show(const uint8_t *octets, size_t length, uint8_t *text, size_t room);
-/** How many octets that text has. */
-size_t fio2070_show_length(const uint8_t *octets, size_t length);
+/** Writes the text that `fio2070 show` writes of a frame, with a line feed behind each line: the lines of the message,
+ * of an answer where the first octet is 128 or more, else of a command; where it is none the words of the fault. */
+FIO2070_MUST_USE
+size_t fio2070_show(const uint8_t *octets, size_t length, char *text, size_t room);
 
 /* ---- Writing commands (TEES 2009) ---- */
 
 /** 49, request module status: clears the flags whose bits are one. 2 octets. */
+FIO2070_MUST_USE
 size_t fio2070_encode_status(uint8_t clear, uint8_t *out, size_t room);
 /** 50, millisecond counter management: the number that the next line sync loads. 5 octets. */
+FIO2070_MUST_USE
 size_t fio2070_encode_load_counter(uint32_t load, uint8_t *out, size_t room);
-/** 51, configure inputs. 2 + 3 * count octets. 0 too where there are more than 255 items, and where
- * one names an input above 127. */
+/** 51, configure inputs. 2 + 3 * count octets. FIO2070_NO_MESSAGE where there are more than 255 items, and where one
+ * names an input above 127. */
+FIO2070_MUST_USE
 size_t fio2070_encode_configure_inputs(const struct fio2070_configuration_item *items, size_t count, uint8_t *out,
                                        size_t room);
-/** How many octets that command has; 0 where there is none with these items. */
-size_t fio2070_encode_configure_inputs_length(const struct fio2070_configuration_item *items, size_t count);
 /** 52, poll raw input data. 1 octet. */
+FIO2070_MUST_USE
 size_t fio2070_encode_raw_inputs(uint8_t *out, size_t room);
 /** 53, poll filtered input data. 1 octet. */
+FIO2070_MUST_USE
 size_t fio2070_encode_filtered_inputs(uint8_t *out, size_t room);
 /** 54, poll input transition buffer: the block with this number. 2 octets. */
+FIO2070_MUST_USE
 size_t fio2070_encode_poll(uint8_t block, uint8_t *out, size_t room);
 /** 55, set outputs. 17 octets (eight for each half are own profile). */
+FIO2070_MUST_USE
 size_t fio2070_encode_set_outputs(const uint8_t levels[8], const uint8_t controls[8], uint8_t *out, size_t room);
 /** 58, configure watchdog: the timeout in milliseconds, 0 to 255. The module takes less than 10 as 10
  * and more than 100 as 100. 2 octets. */
+FIO2070_MUST_USE
 size_t fio2070_encode_watchdog(uint8_t timeout, uint8_t *out, size_t room);
 /** 60, module identification. 1 octet. */
+FIO2070_MUST_USE
 size_t fio2070_encode_identify(uint8_t *out, size_t room);
-/** 56, 57 or 59, with the octets after the type. 1 + length octets. 0 too for any other type, and for
+/** 56, 57 or 59, with the octets after the type. 1 + length octets. FIO2070_NO_MESSAGE for any other type, and for
  * more than 772 octets. */
+FIO2070_MUST_USE
 size_t fio2070_encode_other_command(uint8_t code, const uint8_t *body, size_t length, uint8_t *out, size_t room);
-/** How many octets that command has; 0 where there is none of this type with a body of this length. */
-size_t fio2070_encode_other_command_length(uint8_t code, size_t length);
 
 /* ---- Writing answers (TEES 2009) ---- */
 
 /** 177: the flags that are left, the error counts and the millisecond counter. 8 octets. */
+FIO2070_MUST_USE
 size_t fio2070_encode_status_answer(uint8_t flags, uint8_t receive_errors, uint8_t transmit_errors, uint32_t stamp,
                                     uint8_t *out, size_t room);
 /** 178, to a load of the counter. 2 octets. */
+FIO2070_MUST_USE
 size_t fio2070_encode_load_counter_answer(uint8_t status, uint8_t *out, size_t room);
 /** 179, to a configuration. 2 octets. */
+FIO2070_MUST_USE
 size_t fio2070_encode_configure_inputs_answer(uint8_t status, uint8_t *out, size_t room);
 /** 180: the levels of the inputs at the last scan; bit i is input i. 13 octets. */
+FIO2070_MUST_USE
 size_t fio2070_encode_raw_inputs_answer(uint64_t inputs, uint32_t stamp, uint8_t *out, size_t room);
 /** 181: the filtered states; bit i is input i. 13 octets. */
+FIO2070_MUST_USE
 size_t fio2070_encode_filtered_inputs_answer(uint64_t inputs, uint32_t stamp, uint8_t *out, size_t room);
-/** 182, a block. 8 + 3 * count octets. 0 too where there are more than 255 entries, and where one
- * names an input above 127. */
+/** 182, a block. 8 + 3 * count octets. FIO2070_NO_MESSAGE where there are more than 255 entries, and where one names
+ * an input above 127. */
+FIO2070_MUST_USE
 size_t fio2070_encode_block_answer(uint8_t block, const struct fio2070_entry *entries, size_t count, uint8_t status,
                                    uint32_t stamp, uint8_t *out, size_t room);
-/** How many octets that answer has; 0 where there is none with these entries. */
-size_t fio2070_encode_block_answer_length(const struct fio2070_entry *entries, size_t count);
 /** 186, to a watchdog command. 2 octets. */
+FIO2070_MUST_USE
 size_t fio2070_encode_watchdog_answer(uint8_t status, uint8_t *out, size_t room);
-/** 183, 184, 185, 187 or 188, with the octets after the type. 1 + length octets. 0 too for any other
+/** 183, 184, 185, 187 or 188, with the octets after the type. 1 + length octets. FIO2070_NO_MESSAGE for any other
  * type, and for more than 772 octets. */
+FIO2070_MUST_USE
 size_t fio2070_encode_other_answer(uint8_t code, const uint8_t *body, size_t length, uint8_t *out, size_t room);
-/** How many octets that answer has; 0 where there is none of this type with a body of this length. */
-size_t fio2070_encode_other_answer_length(uint8_t code, size_t length);
 
 /* ---- The CPU's end (own profile) ---- */
 
@@ -365,11 +380,7 @@ enum fio2070_heard_kind {
     FIO2070_HEARD_UNREADABLE = 1, /**< no answer: `fault` */
     FIO2070_HEARD_OTHER = 2,      /**< an answer of another type: `code` */
     FIO2070_HEARD_STALE = 3,      /**< a block with another number: `number` */
-    FIO2070_HEARD_NO_ROOM = 4,    /**< a block with the present number that needs room for `items` */
-    /* The names of before, which version 2 leaves out. */
-    FIO2070_TAKEN = FIO2070_HEARD_TAKEN, FIO2070_UNREADABLE = FIO2070_HEARD_UNREADABLE,
-    FIO2070_OTHER = FIO2070_HEARD_OTHER, FIO2070_STALE = FIO2070_HEARD_STALE,
-    FIO2070_NO_ROOM = FIO2070_HEARD_NO_ROOM
+    FIO2070_HEARD_NO_ROOM = 4     /**< a block with the present number that needs room for `items` */
 };
 
 /** What a poller heard. Numbers that a kind does not have are 0. */
@@ -394,6 +405,7 @@ struct fio2070_heard {
 };
 
 /** Writes a poll with the present number. 2 octets. */
+FIO2070_MUST_USE
 size_t fio2070_poller_poll(const struct fio2070_poller *poller, uint8_t *out, size_t room);
 
 /** Hears the octets of a frame. A block answer with the present number is taken whole: what it adds to
@@ -403,10 +415,17 @@ size_t fio2070_poller_poll(const struct fio2070_poller *poller, uint8_t *out, si
 struct fio2070_heard fio2070_poller_hear(struct fio2070_poller *poller, const uint8_t *octets, size_t length,
                                          struct fio2070_record_item *items, size_t room);
 
+/** Writes what was heard in the words of `fio2070 simulate`, with no line end: "block entries 3 status 00", "stale 4",
+ * "other 177", or "unreadable " and the words of the fault; "no room needed 3" for FIO2070_HEARD_NO_ROOM. What is no kind
+ * has the empty text. FIO2070_LONGEST_TEXT octets of room are enough. */
+FIO2070_MUST_USE
+size_t fio2070_heard_text(const struct fio2070_heard *heard, char *text, size_t room);
+
 /* ---- The rules of a transcript ---- */
 
 /** The rules, in the order in which they are tried (own profile; docs/FORMATS.md). */
-enum {
+enum fio2070_rule {
+    FIO2070_RULE_NONE = 0, /**< no rule is broken */
     /** A line that spells no message of its direction. */
     FIO2070_RULE_READABLE = 1,
     /** A line that is an answer, but not directly below a command whose type is 128 less. */
@@ -428,13 +447,7 @@ enum {
     FIO2070_RULE_REST = 8,
     /** A line that is an answer 179 that says done (bit 0 is 0) to a configuration 51 that names an input
      *  above 63. */
-    FIO2070_RULE_REFUSAL = 9,
-    /* The names of before, which version 2 leaves out. */
-    FIO2070_READABLE = FIO2070_RULE_READABLE, FIO2070_PAIR = FIO2070_RULE_PAIR,
-    FIO2070_NUMBER = FIO2070_RULE_NUMBER, FIO2070_ADVANCE = FIO2070_RULE_ADVANCE,
-    FIO2070_SAME = FIO2070_RULE_SAME, FIO2070_SEQUENCE = FIO2070_RULE_SEQUENCE,
-    FIO2070_LIMITS = FIO2070_RULE_LIMITS, FIO2070_REST = FIO2070_RULE_REST,
-    FIO2070_REFUSAL = FIO2070_RULE_REFUSAL
+    FIO2070_RULE_REFUSAL = 9
 };
 
 /** A checker of what the CPU's end sends and hears. Its fields are the library's own. */
@@ -471,6 +484,11 @@ struct fio2070_breach {
     uint8_t got;
 };
 
+/** Writes the name of a rule, such as "advance"; FIO2070_RULE_NONE and what is no rule have the empty text.
+ * FIO2070_LONGEST_TEXT octets of room are enough. */
+FIO2070_MUST_USE
+size_t fio2070_rule_text(uint8_t rule, char *text, size_t room);
+
 /** Above the first frame. */
 void fio2070_checker_start(struct fio2070_checker *checker);
 /** Takes a frame that the CPU's end sent: writes its breach, and returns the breach's rule. Below a breach the
@@ -485,7 +503,8 @@ uint8_t fio2070_checker_heard(struct fio2070_checker *checker, const uint8_t *oc
 
 /** What an entry of a block may break, in the order in which the rules are tried (own profile; docs/FORMATS.md). They
  * judge a transcript that keeps the rules above. */
-enum {
+enum fio2070_content_rule {
+    FIO2070_CONTENT_NONE = 0, /**< no rule is broken */
     /** An entry that has a wide time before that of the entry above it: two are swapped, or the module
      *  restarted. */
     FIO2070_CONTENT_ORDER = 1,
@@ -528,6 +547,11 @@ struct fio2070_content_breach {
     /** The input that the entry names. */
     uint8_t input;
 };
+
+/** Writes the name of a rule on content, such as "order"; FIO2070_CONTENT_NONE and what is no rule have the empty text.
+ * FIO2070_LONGEST_TEXT octets of room are enough. */
+FIO2070_MUST_USE
+size_t fio2070_content_rule_text(uint8_t rule, char *text, size_t room);
 
 /** Above the first frame. */
 void fio2070_content_start(struct fio2070_content_checker *content);
@@ -574,10 +598,7 @@ struct fio2070_filters {
 enum fio2070_configured_kind {
     FIO2070_CONFIGURED_APPLIED = 0,
     FIO2070_CONFIGURED_ABSENT_INPUT = 1,   /**< the item at `place` is the first that names an input above 63 */
-    FIO2070_CONFIGURED_TOO_MANY_ITEMS = 2, /**< more than 255 */
-    /* The names of before, which version 2 leaves out. */
-    FIO2070_APPLIED = FIO2070_CONFIGURED_APPLIED, FIO2070_ABSENT_INPUT = FIO2070_CONFIGURED_ABSENT_INPUT,
-    FIO2070_TOO_MANY_ITEMS = FIO2070_CONFIGURED_TOO_MANY_ITEMS
+    FIO2070_CONFIGURED_TOO_MANY_ITEMS = 2  /**< more than 255 */
 };
 
 /** What became of a configuration, and where. */
@@ -596,6 +617,7 @@ void fio2070_filters_start(struct fio2070_filters *filters);
 /** Applies the items in their order; where one names an input above 63, or there are more than 255,
  * none, and nothing changes (own profile). An applied item starts the samples of its input anew from
  * the present filtered state. */
+FIO2070_MUST_USE
 struct fio2070_configured fio2070_filters_configure(struct fio2070_filters *filters,
                                                     const struct fio2070_configuration_item *items, size_t count);
 /** Takes a sample of each input. The result has a one for each input that is not ignored and whose
@@ -649,6 +671,12 @@ struct fio2070_module {
     } waiting;
     struct fio2070_error_counts errors;
     uint8_t reserved[2];
+};
+
+/** What a call that starts a module returns. */
+enum fio2070_start_kind {
+    FIO2070_STARTED = 0,
+    FIO2070_REFUSED = 1 /**< the limits are out of their ranges, and nothing changed */
 };
 
 /** Starts a module that answers `id` to command 60, and whose blocks have at most `per_block` entries,

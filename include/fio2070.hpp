@@ -60,6 +60,14 @@ private:
 
 using Octets = View<const std::uint8_t>;
 
+/// The text that `write(text, room)` writes, of those that FIO2070_LONGEST_TEXT octets are enough for.
+template <typename Write>
+std::string text_of(Write write) {
+    std::array<char, FIO2070_LONGEST_TEXT> text{};
+    std::size_t count = write(text.data(), text.size());
+    return count < text.size() ? std::string(text.data(), count) : std::string();
+}
+
 /// Why octets are no message.
 class Fault {
 public:
@@ -70,9 +78,7 @@ public:
     constexpr std::size_t got() const { return fault_.got; }
     /// As `fio2070 show` writes it.
     std::string text() const {
-        std::array<std::uint8_t, FIO2070_LONGEST_FAULT_TEXT> octets{};
-        std::size_t count = ::fio2070_fault_text(&fault_, octets.data(), octets.size());
-        return std::string(octets.begin(), octets.begin() + static_cast<std::ptrdiff_t>(count));
+        return text_of([this](char *text, std::size_t room) { return ::fio2070_fault_text(&fault_, text, room); });
     }
 
 private:
@@ -133,26 +139,36 @@ inline Read<BlockHeader> read_block(Octets octets) {
 /// The entries of a block answer; none where the octets are no block answer.
 inline std::vector<Entry> block_entries(Octets octets) {
     std::vector<Entry> entries(FIO2070_MOST_ENTRIES);
-    entries.resize(::fio2070_block_entries(octets.data(), octets.size(), entries.data(), entries.size()));
+    std::size_t count = ::fio2070_block_entries(octets.data(), octets.size(), entries.data(), entries.size());
+    entries.resize(count <= entries.size() ? count : 0);
     return entries;
 }
 
 /// The items of a configuration; none where the octets are no configuration.
 inline std::vector<ConfigurationItem> command_items(Octets octets) {
     std::vector<ConfigurationItem> items(FIO2070_MOST_ENTRIES);
-    items.resize(::fio2070_command_items(octets.data(), octets.size(), items.data(), items.size()));
+    std::size_t count = ::fio2070_command_items(octets.data(), octets.size(), items.data(), items.size());
+    items.resize(count <= items.size() ? count : 0);
     return items;
 }
 
 /// What `fio2070 show` writes of a frame, or the words of its fault and a line feed.
 inline std::string show(Octets octets) {
-    std::string text(::fio2070_show_length(octets.data(), octets.size()), '\0');
-    ::fio2070_show(octets.data(), octets.size(), reinterpret_cast<std::uint8_t *>(&text[0]), text.size());
+    std::string text(::fio2070_show(octets.data(), octets.size(), nullptr, 0) + 1, '\0');
+    text.resize(::fio2070_show(octets.data(), octets.size(), text.data(), text.size()));
     return text;
 }
 
 /// The octets after the type of a message with a body.
 inline Octets body(Octets octets) { return octets.empty() ? octets : Octets(octets.data() + 1, octets.size() - 1); }
+
+/// The name of a rule, such as "advance", and of a rule on content, such as "order"; empty for what is none.
+inline std::string rule_text(std::uint8_t rule) {
+    return text_of([rule](char *text, std::size_t room) { return ::fio2070_rule_text(rule, text, room); });
+}
+inline std::string content_rule_text(std::uint8_t rule) {
+    return text_of([rule](char *text, std::size_t room) { return ::fio2070_content_rule_text(rule, text, room); });
+}
 
 inline std::uint32_t widen(std::uint32_t answer_stamp, std::uint16_t stamp) {
     return ::fio2070_widen(answer_stamp, stamp);
@@ -172,12 +188,19 @@ public:
     }
     friend bool operator!=(const Frame &one, const Frame &other) { return !(one == other); }
 
-    /// What `write(out, room)` writes; none where it writes nothing.
+    /// What `write(out, room)` writes; none where there is nothing such.
     template <typename Write>
     static std::optional<Frame> of(Write write) {
         std::optional<Frame> frame(std::in_place);
         frame->size_ = write(frame->octets_.data(), frame->octets_.size());
-        if (frame->empty()) frame.reset();
+        if (frame->size_ > frame->octets_.size()) frame.reset();
+        return frame;
+    }
+    /// The same, and none too where there is nothing to write.
+    template <typename Write>
+    static std::optional<Frame> of_some(Write write) {
+        std::optional<Frame> frame = of(write);
+        if (frame && frame->empty()) frame.reset();
         return frame;
     }
 
@@ -276,6 +299,10 @@ public:
     constexpr std::uint8_t stale_number() const { return heard_.number; }
     constexpr std::uint8_t other_code() const { return heard_.code; }
     constexpr Fault fault() const { return Fault(heard_.fault); }
+    /// As `fio2070 simulate` writes it.
+    std::string text() const {
+        return text_of([this](char *text, std::size_t room) { return ::fio2070_heard_text(&heard_, text, room); });
+    }
 
 private:
     ::fio2070_heard heard_;
@@ -398,7 +425,7 @@ public:
     }
     /// The answer; none where there is none.
     std::optional<Frame> receive(Octets octets) {
-        return Frame::of([&](auto *out, auto) {
+        return Frame::of_some([&](auto *out, auto) {
             return ::fio2070_module_receive(&module_, octets.data(), octets.size(), out);
         });
     }
@@ -440,7 +467,7 @@ public:
     }
     /// The answer; none where there is none.
     std::optional<Frame> receive(Octets octets) {
-        return Frame::of([&](auto *out, auto) {
+        return Frame::of_some([&](auto *out, auto) {
             return ::fio2070_sized_module_receive(&module_, ring_, Capacity, octets.data(), octets.size(), out);
         });
     }

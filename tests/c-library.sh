@@ -124,6 +124,22 @@ fits_not() {
     ! "$1" -ffreestanding -I "$top/include" -fsyntax-only header.c 2>said && grep -q '#error "libfio2070.a' said
 }
 
+# misused COMPILER: it takes the right uses of support/c/misuses.c, and tells of each other. Those from 51 on are of rings.
+misused() {
+    source=$top/tests/support/c/misuses.c
+    most=50
+    ! grep -q 'define FIO2070_RING(' "$top/include/fio2070.h" || most=99
+    # shellcheck disable=SC2086
+    "$1" -std=c99 $strict -DMISUSE=0 -I "$top/include" -c "$source" -o misuses.o || return 1
+    for number in $(grep -o 'MISUSE [=!]= [0-9]*' "$source" | grep -o '[0-9]*$'); do
+        [ "$number" -le "$most" ] || continue
+        # shellcheck disable=SC2086
+        "$1" -std=c99 $strict -DMISUSE="$number" -I "$top/include" -c "$source" -o misuses.o 2>said || continue
+        echo "$1 takes misuse $number"
+        return 1
+    done
+}
+
 # tells PROGRAM RUN..: run so, the header tells the program that the processor fits, in `main` and in its first constructor.
 tells() {
     cat >fitting.c <<'end'
@@ -218,6 +234,9 @@ for processor in aarch64-linux-gnu m68k-linux-gnu arm-linux-gnueabihf powerpc-li
     holds "layout on $processor" fits "$processor-gcc"
     case $processor in aarch64*) ;; *) holds "no archive for $processor" fits_not "$processor-gcc" ;; esac
 done
+for compiler in gcc clang; do
+    [ -z "$(command -v "$compiler")" ] || holds "misuses by $compiler" misused "$compiler"
+done
 holds 'this processor fits' tells fitting
 if ! whole 'processors that fit'; then
     :
@@ -239,7 +258,7 @@ for compiler in g++ clang++; do
         "$top/tests/support/c/wrapper.cpp" "$archive" -o "$room/wrapper"
     counts "rows of the wrapper by $compiler" "$room/wrapper"
 done
-last_rule=$(sed -n 's/^    FIO2070_RULE_[A-Z]* = \([0-9]*\),$/\1/p' "$top/include/fio2070.h" | tail -n 1)
+last_rule=$(sed -n 's/^    FIO2070_RULE_[A-Z]* = \([0-9]*\),\{0,1\}$/\1/p' "$top/include/fio2070.h" | tail -n 1)
 buffers=50000
 [ -z "$all" ] || buffers=1000000
 holds "$buffers random buffers" "$last/fuzz" "$buffers" 20260701 "$last_rule"

@@ -79,7 +79,7 @@ COUNTED static uint32_t decode_commands(const struct frame *frames, unsigned cou
     memset(&command, 0, sizeof command);
     for (turn = 0; turn < count; turn++) {
         const struct frame *frame = &frames[turn % 2];
-        if (fio2070_decode_command(frame->octets, frame->length, &command).kind != FIO2070_NO_FAULT) continue;
+        if (fio2070_decode_command(frame->octets, frame->length, &command).kind != FIO2070_FAULT_NONE) continue;
         sum += command.block + command.load + command.clear + command.timeout + command.levels[place] + command.body;
         sum += command.count;
     }
@@ -91,7 +91,7 @@ COUNTED static uint32_t copy_items(const struct frame *frames, unsigned count) {
     unsigned turn;
     for (turn = 0; turn < count; turn++) {
         const struct frame *frame = &frames[turn % 2];
-        if (fio2070_command_items(frame->octets, frame->length, items, FIO2070_MOST_ENTRIES) == 0) continue;
+        if (fio2070_command_items(frame->octets, frame->length, items, FIO2070_MOST_ENTRIES) > FIO2070_MOST_ENTRIES) continue;
         sum += items[place].leading;
     }
     return sum;
@@ -104,7 +104,7 @@ COUNTED static uint32_t decode_answers(const struct frame *frames, unsigned coun
     memset(&answer, 0, sizeof answer);
     for (turn = 0; turn < count; turn++) {
         const struct frame *frame = &frames[turn % 2];
-        if (fio2070_decode_answer(frame->octets, frame->length, &answer).kind != FIO2070_NO_FAULT) continue;
+        if (fio2070_decode_answer(frame->octets, frame->length, &answer).kind != FIO2070_FAULT_NONE) continue;
         sum += answer.flags + answer.status + answer.stamp + (uint32_t)(answer.inputs >> 40) + answer.body;
         sum += answer.count;
     }
@@ -114,17 +114,17 @@ COUNTED static uint32_t decode_answers(const struct frame *frames, unsigned coun
 static size_t write_command(const struct fio2070_command *command, const struct frame *given, struct frame *out) {
     uint8_t *octets = out->octets;
     switch (command->code) {
-    case FIO2070_STATUS: return fio2070_encode_status(command->clear, octets, FIO2070_LONGEST_FRAME);
-    case FIO2070_LOAD_COUNTER: return fio2070_encode_load_counter(command->load, octets, FIO2070_LONGEST_FRAME);
-    case FIO2070_CONFIGURE_INPUTS:
+    case FIO2070_TYPE_STATUS: return fio2070_encode_status(command->clear, octets, FIO2070_LONGEST_FRAME);
+    case FIO2070_TYPE_LOAD_COUNTER: return fio2070_encode_load_counter(command->load, octets, FIO2070_LONGEST_FRAME);
+    case FIO2070_TYPE_CONFIGURE_INPUTS:
         return fio2070_encode_configure_inputs(items, command->count, octets, FIO2070_LONGEST_FRAME);
-    case FIO2070_RAW_INPUTS: return fio2070_encode_raw_inputs(octets, FIO2070_LONGEST_FRAME);
-    case FIO2070_FILTERED_INPUTS: return fio2070_encode_filtered_inputs(octets, FIO2070_LONGEST_FRAME);
-    case FIO2070_POLL: return fio2070_encode_poll(command->block, octets, FIO2070_LONGEST_FRAME);
-    case FIO2070_SET_OUTPUTS:
+    case FIO2070_TYPE_RAW_INPUTS: return fio2070_encode_raw_inputs(octets, FIO2070_LONGEST_FRAME);
+    case FIO2070_TYPE_FILTERED_INPUTS: return fio2070_encode_filtered_inputs(octets, FIO2070_LONGEST_FRAME);
+    case FIO2070_TYPE_POLL: return fio2070_encode_poll(command->block, octets, FIO2070_LONGEST_FRAME);
+    case FIO2070_TYPE_SET_OUTPUTS:
         return fio2070_encode_set_outputs(command->levels, command->controls, octets, FIO2070_LONGEST_FRAME);
-    case FIO2070_WATCHDOG: return fio2070_encode_watchdog(command->timeout, octets, FIO2070_LONGEST_FRAME);
-    case FIO2070_IDENTIFY: return fio2070_encode_identify(octets, FIO2070_LONGEST_FRAME);
+    case FIO2070_TYPE_WATCHDOG: return fio2070_encode_watchdog(command->timeout, octets, FIO2070_LONGEST_FRAME);
+    case FIO2070_TYPE_IDENTIFY: return fio2070_encode_identify(octets, FIO2070_LONGEST_FRAME);
     default:
         return fio2070_encode_other_command(command->code, given->octets + 1, command->body, octets,
                                             FIO2070_LONGEST_FRAME);
@@ -144,22 +144,22 @@ COUNTED static uint32_t write_commands(const struct fio2070_command *commands, c
 
 static size_t write_answer(const struct fio2070_answer *answer, const struct frame *given, struct frame *out) {
     uint8_t *octets = out->octets;
-    switch (answer->code - FIO2070_ANSWER) {
-    case FIO2070_STATUS:
+    switch (answer->code - FIO2070_TYPE_ANSWER) {
+    case FIO2070_TYPE_STATUS:
         return fio2070_encode_status_answer(answer->flags, answer->receive_errors, answer->transmit_errors,
                                             answer->stamp, octets, FIO2070_LONGEST_FRAME);
-    case FIO2070_LOAD_COUNTER:
+    case FIO2070_TYPE_LOAD_COUNTER:
         return fio2070_encode_load_counter_answer(answer->status, octets, FIO2070_LONGEST_FRAME);
-    case FIO2070_CONFIGURE_INPUTS:
+    case FIO2070_TYPE_CONFIGURE_INPUTS:
         return fio2070_encode_configure_inputs_answer(answer->status, octets, FIO2070_LONGEST_FRAME);
-    case FIO2070_RAW_INPUTS:
+    case FIO2070_TYPE_RAW_INPUTS:
         return fio2070_encode_raw_inputs_answer(answer->inputs, answer->stamp, octets, FIO2070_LONGEST_FRAME);
-    case FIO2070_FILTERED_INPUTS:
+    case FIO2070_TYPE_FILTERED_INPUTS:
         return fio2070_encode_filtered_inputs_answer(answer->inputs, answer->stamp, octets, FIO2070_LONGEST_FRAME);
-    case FIO2070_POLL:
+    case FIO2070_TYPE_POLL:
         return fio2070_encode_block_answer(answer->block, entries, answer->count, answer->status, answer->stamp,
                                            octets, FIO2070_LONGEST_FRAME);
-    case FIO2070_WATCHDOG: return fio2070_encode_watchdog_answer(answer->status, octets, FIO2070_LONGEST_FRAME);
+    case FIO2070_TYPE_WATCHDOG: return fio2070_encode_watchdog_answer(answer->status, octets, FIO2070_LONGEST_FRAME);
     default:
         return fio2070_encode_other_answer(answer->code, given->octets + 1, answer->body, octets,
                                            FIO2070_LONGEST_FRAME);
@@ -184,7 +184,7 @@ COUNTED static uint32_t read_headers(const struct frame *frames, unsigned count)
     unsigned turn;
     for (turn = 0; turn < count; turn++) {
         const struct frame *frame = &frames[turn % 2];
-        if (fio2070_read_block(frame->octets, frame->length, &header).kind != FIO2070_NO_FAULT) return sum;
+        if (fio2070_read_block(frame->octets, frame->length, &header).kind != FIO2070_FAULT_NONE) return sum;
         sum += header.stamp + header.number + header.status + header.count;
     }
     return sum;
@@ -195,7 +195,7 @@ COUNTED static uint32_t copy_entries(const struct frame *frames, unsigned count)
     unsigned turn;
     for (turn = 0; turn < count; turn++) {
         const struct frame *frame = &frames[turn % 2];
-        if (fio2070_block_entries(frame->octets, frame->length, entries, FIO2070_MOST_ENTRIES) == 0) continue;
+        if (fio2070_block_entries(frame->octets, frame->length, entries, FIO2070_MOST_ENTRIES) > FIO2070_MOST_ENTRIES) continue;
         sum += entries[place].stamp;
     }
     return sum;
@@ -207,8 +207,8 @@ COUNTED static uint32_t read_blocks(const struct frame *frames, unsigned count) 
     unsigned turn, entry;
     for (turn = 0; turn < count; turn++) {
         const struct frame *frame = &frames[turn % 2];
-        if (fio2070_read_block(frame->octets, frame->length, &header).kind != FIO2070_NO_FAULT) return sum;
-        if (header.count > 0) fio2070_block_entries(frame->octets, frame->length, entries, FIO2070_MOST_ENTRIES);
+        if (fio2070_read_block(frame->octets, frame->length, &header).kind != FIO2070_FAULT_NONE) return sum;
+        if (fio2070_block_entries(frame->octets, frame->length, entries, FIO2070_MOST_ENTRIES) != header.count) return sum;
         for (entry = 0; entry < header.count; entry++) {
             sum += entries[entry].stamp + ((uint32_t)entries[entry].input << entries[entry].state);
         }
@@ -224,11 +224,11 @@ static void count_command(const char *name, const uint8_t *octets, size_t length
     memset(&frame, 0, sizeof frame);
     frames[0] = frames[1] = frame_of(octets, length);
     for (turn = 0; turn < 2; turn++) {
-        fio2070_decode_command(octets, length, &commands[turn]);
+        kept += fio2070_decode_command(octets, length, &commands[turn]).kind;
         says("decode_commands", "decode_command", name, count);
         kept += decode_commands(frames, count);
     }
-    for (turn = 0; turn < 2 && octets[0] == FIO2070_CONFIGURE_INPUTS; turn++) {
+    for (turn = 0; turn < 2 && octets[0] == FIO2070_TYPE_CONFIGURE_INPUTS; turn++) {
         says("copy_items", "command_items", name, count);
         kept += copy_items(frames, count);
     }
@@ -244,11 +244,11 @@ static void count_answer(const char *name, const uint8_t *octets, size_t length,
     memset(&frame, 0, sizeof frame);
     frames[0] = frames[1] = frame_of(octets, length);
     for (turn = 0; turn < 2; turn++) {
-        fio2070_decode_answer(octets, length, &answers[turn]);
+        kept += fio2070_decode_answer(octets, length, &answers[turn]).kind;
         says("decode_answers", "decode_answer", name, count);
         kept += decode_answers(frames, count);
     }
-    fio2070_block_entries(octets, length, entries, FIO2070_MOST_ENTRIES);
+    kept += fio2070_block_entries(octets, length, entries, FIO2070_MOST_ENTRIES) == answers[0].count;
     says("write_answers", "encode_.._answer", name, count);
     kept += write_answers(answers, frames, &frame, count);
 }
@@ -330,9 +330,9 @@ static void count_filters(void) {
     for (turn = 0; turn < 6; turn++) {
         struct frame frame = configure_frame(cases[turn / 2].filter);
         if (turn % 2 == 0) {
-            fio2070_command_items(frame.octets, frame.length, items, FIO2070_MOST_ENTRIES);
+            kept += fio2070_command_items(frame.octets, frame.length, items, FIO2070_MOST_ENTRIES) == 64;
             fio2070_filters_start(&filters);
-            fio2070_filters_configure(&filters, items, 64);
+            kept += fio2070_filters_configure(&filters, items, 64).kind;
         }
         says("scan_filters", "filters_scan", cases[turn / 2].name, MANY);
         kept += scan_filters(&filters, cases[turn / 2].flips, MANY);

@@ -1,5 +1,6 @@
 """The worked examples in Python: `python3 -m unittest test`, with FIO2070_LIBRARY naming the library."""
 
+import ctypes
 import doctest
 import os
 import pickle
@@ -100,6 +101,13 @@ class Messages(unittest.TestCase):
         self.assertEqual(encode.other_command(59, memoryview(b'\1\2')), b'\x3b\1\2')
         self.assertEqual(encode.set_outputs(bytearray(8), memoryview(bytes(8))), b'\x37' + bytes(16))
 
+    def test_words(self):
+        self.assertEqual([fio2070.rule_text(rule) for rule in (0, 1, 9, 10)], ['', 'readable', 'refusal', ''])
+        self.assertEqual([fio2070.content_rule_text(rule) for rule in (0, 1, 3, 4)], ['', 'order', 'apart', ''])
+        for octets, text in [(BLOCK, 'block entries 1 status 00'), (b'\xb3\0', 'other 179'), (BLOCK[:1] + b'\7' + BLOCK[2:], 'stale 7'),
+                             (b'', 'unreadable empty'), (BLOCK[:-1], 'unreadable wrong length needed 11 got 10')]:
+            self.assertEqual(fio2070.Poller(5).hear(octets).text, text)
+
     def test_faults_pickle(self):
         with self.assertRaises(fio2070.Fault) as caught:
             fio2070.decode_command(b'\x33')
@@ -112,11 +120,9 @@ class Messages(unittest.TestCase):
         with open(header, encoding='ascii') as text:
             declared = text.read()
         given = {name: int(number) for name, number in re.findall(
-            r'^(?: +|#define )FIO2070_([A-Z0-9_]+)(?: =)? (\d+)\b', declared, re.M)}
+            r'^(?: +|enum \{ |#define )FIO2070_([A-Z0-9_]+)(?: =)? (\d+)\b', declared, re.M)}
         self.assertGreater(len(given), 30)
-        older = re.findall(r'\bFIO2070_([A-Z0-9_]+) = FIO2070_([A-Z0-9_]+)', declared)
-        self.assertEqual(len(older), 42)
-        given.update((name, given[new]) for name, new in older)
+        given['NO_MESSAGE'] = ctypes.c_size_t(-1).value
         ours = {name: number for name, number in vars(fio2070.constants).items() if name.isupper()}
         self.assertEqual(ours, given)
         self.assertEqual(fio2070.version(), fio2070.constants.VERSION)

@@ -101,8 +101,7 @@ static int print_frame(unsigned long line, const uint8_t *octets, size_t length)
     struct fio2070_command command;
     struct fio2070_answer answer;
     struct fio2070_fault fault;
-    uint8_t text[FIO2070_LONGEST_FAULT_TEXT];
-    size_t count;
+    char text[FIO2070_LONGEST_TEXT];
     if (octets[0] < 128) {
         fault = fio2070_decode_command(octets, length, &command);
         if (fault.kind == FIO2070_FAULT_NONE) print_command(&command, octets, length);
@@ -111,8 +110,7 @@ static int print_frame(unsigned long line, const uint8_t *octets, size_t length)
         if (fault.kind == FIO2070_FAULT_NONE) print_answer(&answer, octets, length);
     }
     if (fault.kind == FIO2070_FAULT_NONE) return 0;
-    count = fio2070_fault_text(&fault, text, sizeof text);
-    printf("line %lu: %.*s\n", line, (int)count, (const char *)text);
+    if (fio2070_fault_text(&fault, text, sizeof text) < sizeof text) printf("line %lu: %s\n", line, text);
     return 1;
 }
 

@@ -34,7 +34,7 @@ static void saw_taken(struct cpu_history *history, const uint8_t *octets, size_t
                       struct rule_set *rules) {
     struct fio2070_block_header header;
     memset(&header, 0, sizeof header);
-    fio2070_read_block(octets, length, &header);
+    if (fio2070_read_block(octets, length, &header).kind != FIO2070_FAULT_NONE) return;
     conformance_put(rules, RULE_NUMBER_RISES);
     put_if(rules, RULE_NUMBER_AROUND, header.number == 255);
     conformance_put(rules, RULE_TAKEN_WHOLE);

@@ -113,7 +113,9 @@ static void saw_configuration(struct history *history, const struct view *before
     struct fio2070_configuration_item items[FIO2070_MOST_ENTRIES];
     size_t count = fio2070_command_items(octets, length, items, FIO2070_MOST_ENTRIES), place;
     int is_twice;
-    uint64_t named = named_inputs(items, count, &is_twice);
+    uint64_t named;
+    if (count > FIO2070_MOST_ENTRIES) return;
+    named = named_inputs(items, count, &is_twice);
     conformance_put(rules, status & FIO2070_BIT_ERROR ? RULE_ABSENT_INPUT : RULE_ITEMS_APPLY);
     put_if(rules, RULE_CASE_65_ITEMS, count > 64);
     put_if(rules, RULE_CASE_255_ITEMS, count == 255);

@@ -80,30 +80,57 @@ static struct fio2070_fault fault_in(const uint8_t *p) {
     return fault;
 }
 
-size_t fio2070_fault_text(const struct fio2070_fault *fault, uint8_t *out, size_t room) {
+static void put_fault(uint8_t *p, const struct fio2070_fault *fault) {
+    p[0] = fault->kind;
+    p[1] = fault->code;
+    put16(p + 2, fault->needed);
+    put64(p + 8, fault->got);
+}
+
+/* ---- Texts ---- */
+
+size_t fio2070_fault_text(const struct fio2070_fault *fault, char *text, size_t room) {
     uint8_t octets[16] = {0};
     MACHINE(fio2070_fault_text);
-    octets[0] = fault->kind;
-    octets[1] = fault->code;
-    put16(octets + 2, fault->needed);
-    put64(octets + 8, fault->got);
+    put_fault(octets, fault);
     {
-        uint64_t a = READS(octets, 16), b = WRITES(out, room);
+        uint64_t a = READS(octets, 16), b = WRITES(text, room);
         return (size_t)call_fio2070_fault_text(&machine, a, b, room);
     }
 }
 
-size_t fio2070_show(const uint8_t *octets, size_t length, uint8_t *text, size_t room) {
+size_t fio2070_heard_text(const struct fio2070_heard *heard, char *text, size_t room) {
+    uint8_t octets[24] = {0};
+    MACHINE(fio2070_heard_text);
+    octets[0] = heard->kind;
+    octets[1] = heard->code;
+    octets[2] = heard->number;
+    octets[3] = heard->status;
+    octets[4] = heard->entries;
+    put16(octets + 6, heard->items);
+    put_fault(octets + 8, &heard->fault);
+    {
+        uint64_t a = READS(octets, 24), b = WRITES(text, room);
+        return (size_t)call_fio2070_heard_text(&machine, a, b, room);
+    }
+}
+
+size_t fio2070_rule_text(uint8_t rule, char *text, size_t room) {
+    MACHINE(fio2070_rule_text);
+    return (size_t)call_fio2070_rule_text(&machine, rule, WRITES(text, room), room);
+}
+
+size_t fio2070_content_rule_text(uint8_t rule, char *text, size_t room) {
+    MACHINE(fio2070_content_rule_text);
+    return (size_t)call_fio2070_content_rule_text(&machine, rule, WRITES(text, room), room);
+}
+
+size_t fio2070_show(const uint8_t *octets, size_t length, char *text, size_t room) {
     MACHINE(fio2070_show);
     {
         uint64_t a = READS(octets, length), b = WRITES(text, room);
         return (size_t)call_fio2070_show(&machine, a, length, b, room);
     }
-}
-
-size_t fio2070_show_length(const uint8_t *octets, size_t length) {
-    MACHINE(fio2070_show_length);
-    return (size_t)call_fio2070_show_length(&machine, READS(octets, length), length);
 }
 
 uint32_t fio2070_version(void) {
@@ -143,7 +170,7 @@ size_t fio2070_block_entries(const uint8_t *octets, size_t length, struct fio207
         uint64_t a = READS(octets, length), b = WRITES(entries, room * sizeof *entries);
         count = (size_t)call_fio2070_block_entries(&machine, a, length, b, room);
     }
-    settle_entries(entries, count);
+    if (count <= room) settle_entries(entries, count);
     return count;
 }
 
@@ -262,27 +289,6 @@ size_t fio2070_encode_block_answer(uint8_t block, const struct fio2070_entry *en
         from = READS(octets, 4 * most);
     }
     return (size_t)call_fio2070_encode_block_answer(&machine, block, from, count, status, stamp, to, room);
-}
-
-/* Calls that say how long a message would be. */
-size_t fio2070_encode_configure_inputs_length(const struct fio2070_configuration_item *items, size_t count) {
-    MACHINE(fio2070_encode_configure_inputs_length);
-    return (size_t)call_fio2070_encode_configure_inputs_length(&machine, READS(items, count * sizeof *items), count);
-}
-
-size_t fio2070_encode_block_answer_length(const struct fio2070_entry *entries, size_t count) {
-    MACHINE(fio2070_encode_block_answer_length);
-    return (size_t)call_fio2070_encode_block_answer_length(&machine, READS(entries, count * sizeof *entries), count);
-}
-
-size_t fio2070_encode_other_command_length(uint8_t code, size_t length) {
-    MACHINE(fio2070_encode_other_command_length);
-    return (size_t)call_fio2070_encode_other_command_length(&machine, code, length);
-}
-
-size_t fio2070_encode_other_answer_length(uint8_t code, size_t length) {
-    MACHINE(fio2070_encode_other_answer_length);
-    return (size_t)call_fio2070_encode_other_answer_length(&machine, code, length);
 }
 
 /* ---- The CPU's end ---- */

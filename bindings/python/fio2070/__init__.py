@@ -18,16 +18,29 @@ from .records import Answer, Breach, Command, ConfigurationItem, ContentBreach, 
 
 __all__ = ['Answer', 'Breach', 'Checker', 'Command', 'ConfigurationItem', 'ContentBreach', 'ContentChecker', 'Counter',
            'Entry', 'Fault', 'Filters', 'Heard', 'Module', 'Octets', 'Poller', 'RecordItem', 'SizedModule', 'constants',
-           'decode_answer', 'decode_command', 'encode', 'version', 'widen']
+           'content_rule_text', 'decode_answer', 'decode_command', 'encode', 'rule_text', 'show', 'version', 'widen']
 
 
-def _text_of(fault: c.CFault) -> str:
-    out = (ctypes.c_uint8 * c.LONGEST_FAULT_TEXT)()
-    return bytes(out[:c.library.fio2070_fault_text(fault, out, len(out))]).decode('ascii')
+def _text(name: str, of: Any) -> str:
+    text = (ctypes.c_uint8 * c.LONGEST_TEXT)()
+    count = getattr(c.library, 'fio2070_' + name)(of, text, len(text))
+    return bytes(text[:count]).decode('ascii')
 
 
 def _fault(fault: c.CFault) -> Fault:
-    return Fault(fault.kind, fault.code, fault.needed, fault.got, _text_of(fault))
+    return Fault(fault.kind, fault.code, fault.needed, fault.got, _text('fault_text', fault))
+
+
+def rule_text(rule: int) -> str:
+    """The name of a rule, such as 'advance'; empty for what is none."""
+    encode.check_range(256, rule)
+    return _text('rule_text', rule)
+
+
+def content_rule_text(rule: int) -> str:
+    """The name of a rule on content, such as 'order'; empty for what is none."""
+    encode.check_range(256, rule)
+    return _text('content_rule_text', rule)
 
 
 def version() -> int:
@@ -46,15 +59,20 @@ def decode_command(octets: Octets) -> Command:
     count = c.library.fio2070_command_items(octets, len(octets), items, len(items))
     return Command(read.code, read.clear, read.block, read.timeout, read.load, bytes(read.levels),
                    bytes(read.controls), octets[1:1 + read.body],
-                   [ConfigurationItem(one.input, bool(one.ignore), one.leading, one.trailing) for one in items[:count]])
+                   [ConfigurationItem(one.input, bool(one.ignore), one.leading, one.trailing)
+                    for one in items[:_written(count)]])
+
+
+def _written(count: int) -> int:
+    return 0 if count == c.NO_MESSAGE else count
 
 
 def show(octets: Octets) -> str:
     """What `fio2070 show` writes of a frame, or the words of its fault and a line feed."""
     octets = bytes(octets)
-    text = (c.c_uint8 * c.library.fio2070_show_length(octets, len(octets)))()
-    c.library.fio2070_show(octets, len(octets), text, len(text))
-    return bytes(text).decode('ascii')
+    text = (c.c_uint8 * (c.library.fio2070_show(octets, len(octets), None, 0) + 1))()
+    count = c.library.fio2070_show(octets, len(octets), text, len(text))
+    return bytes(text[:count]).decode('ascii')
 
 
 def decode_answer(octets: Octets) -> Answer:
@@ -68,7 +86,7 @@ def decode_answer(octets: Octets) -> Answer:
     count = c.library.fio2070_block_entries(octets, len(octets), entries, len(entries))
     return Answer(read.code, read.flags, read.receive_errors, read.transmit_errors, read.status, read.block,
                   read.stamp, read.inputs, octets[1:1 + read.body],
-                  [Entry(one.input, one.state, one.stamp) for one in entries[:count]])
+                  [Entry(one.input, one.state, one.stamp) for one in entries[:_written(count)]])
 
 
 def widen(answer_stamp: int, stamp: int) -> int:
@@ -86,6 +104,15 @@ class Heard(NamedTuple):
     code: int = 0
     number: int = 0
     fault: Optional[Fault] = None
+
+    @property
+    def text(self) -> str:
+        """In the words of `fio2070 simulate`."""
+        kind = ('taken', 'unreadable', 'other', 'stale').index(self.kind)
+        heard = c.CHeard(kind=kind, code=self.code, number=self.number, status=self.status, entries=self.entries)
+        if self.fault:
+            heard.fault = c.CFault(self.fault.kind, self.fault.code, self.fault.needed, got=self.fault.got)
+        return _text('heard_text', heard)
 
 
 class Poller:

@@ -5,7 +5,7 @@ import os
 from ctypes import POINTER, c_char_p, c_size_t, c_uint8, c_uint16, c_uint32, c_uint64
 from typing import Any
 
-from .constants import LONGEST_FAULT_TEXT, LONGEST_FRAME, MOST_ENTRIES, MOST_RECORD_ITEMS
+from .constants import LONGEST_FRAME, LONGEST_TEXT, MOST_ENTRIES, MOST_RECORD_ITEMS, NO_MESSAGE
 
 
 def _load() -> ctypes.CDLL:
@@ -123,10 +123,8 @@ _declare('fio2070_encode_raw_inputs_answer', c_size_t, c_uint64, c_uint32, POINT
 _declare('fio2070_encode_filtered_inputs_answer', c_size_t, c_uint64, c_uint32, POINTER(c_uint8), c_size_t)
 _declare('fio2070_encode_block_answer', c_size_t, c_uint8, POINTER(CEntry), c_size_t, c_uint8, c_uint32,
          POINTER(c_uint8), c_size_t)
-_declare('fio2070_encode_block_answer_length', c_size_t, POINTER(CEntry), c_size_t)
 _declare('fio2070_encode_watchdog_answer', c_size_t, c_uint8, POINTER(c_uint8), c_size_t)
 _declare('fio2070_encode_other_answer', c_size_t, c_uint8, c_char_p, c_size_t, POINTER(c_uint8), c_size_t)
-_declare('fio2070_encode_other_answer_length', c_size_t, c_uint8, c_size_t)
 _declare('fio2070_decode_answer', CFault, c_char_p, c_size_t, POINTER(CAnswer))
 _declare('fio2070_block_entries', c_size_t, c_char_p, c_size_t, POINTER(CEntry), c_size_t)
 _declare('fio2070_checker_start', None, POINTER(CChecker))
@@ -135,7 +133,6 @@ _declare('fio2070_checker_heard', c_uint8, POINTER(CChecker), c_char_p, c_size_t
 _declare('fio2070_encode_status', c_size_t, c_uint8, POINTER(c_uint8), c_size_t)
 _declare('fio2070_encode_load_counter', c_size_t, c_uint32, POINTER(c_uint8), c_size_t)
 _declare('fio2070_encode_configure_inputs', c_size_t, POINTER(CItem), c_size_t, POINTER(c_uint8), c_size_t)
-_declare('fio2070_encode_configure_inputs_length', c_size_t, POINTER(CItem), c_size_t)
 _declare('fio2070_encode_raw_inputs', c_size_t, POINTER(c_uint8), c_size_t)
 _declare('fio2070_encode_filtered_inputs', c_size_t, POINTER(c_uint8), c_size_t)
 _declare('fio2070_encode_poll', c_size_t, c_uint8, POINTER(c_uint8), c_size_t)
@@ -143,7 +140,6 @@ _declare('fio2070_encode_set_outputs', c_size_t, c_char_p, c_char_p, POINTER(c_u
 _declare('fio2070_encode_watchdog', c_size_t, c_uint8, POINTER(c_uint8), c_size_t)
 _declare('fio2070_encode_identify', c_size_t, POINTER(c_uint8), c_size_t)
 _declare('fio2070_encode_other_command', c_size_t, c_uint8, c_char_p, c_size_t, POINTER(c_uint8), c_size_t)
-_declare('fio2070_encode_other_command_length', c_size_t, c_uint8, c_size_t)
 _declare('fio2070_decode_command', CFault, c_char_p, c_size_t, POINTER(CCommand))
 _declare('fio2070_command_items', c_size_t, c_char_p, c_size_t, POINTER(CItem), c_size_t)
 _declare('fio2070_content_start', None, POINTER(CContentChecker))
@@ -155,7 +151,6 @@ _declare('fio2070_counter_ask_load', None, POINTER(CCounter), c_uint32)
 _declare('fio2070_counter_line_sync', None, POINTER(CCounter))
 _declare('fio2070_counter_now', c_uint32, POINTER(CCounter))
 _declare('fio2070_widen', c_uint32, c_uint32, c_uint16)
-_declare('fio2070_fault_text', c_size_t, POINTER(CFault), POINTER(c_uint8), c_size_t)
 _declare('fio2070_filters_start', None, POINTER(CFilters))
 _declare('fio2070_filters_scan', c_uint64, POINTER(CFilters), c_uint64)
 _declare('fio2070_filters_filtered', c_uint64, POINTER(CFilters))
@@ -179,7 +174,6 @@ _declare('fio2070_module_waiting', c_size_t, POINTER(CModule))
 _declare('fio2070_poller_poll', c_size_t, POINTER(CPoller), POINTER(c_uint8), c_size_t)
 _declare('fio2070_poller_hear', CHeard, POINTER(CPoller), c_char_p, c_size_t, POINTER(CRecordItem), c_size_t)
 _declare('fio2070_show', c_size_t, c_char_p, c_size_t, POINTER(c_uint8), c_size_t)
-_declare('fio2070_show_length', c_size_t, c_char_p, c_size_t)
 _declare('fio2070_sized_module_start', c_uint8, POINTER(CSizedModule), c_uint8, c_uint8)
 _declare('fio2070_sized_module_restart', None, POINTER(CSizedModule))
 _declare('fio2070_sized_module_scan', None, POINTER(CSizedModule), POINTER(c_uint8 * 3), c_size_t, c_uint64)
@@ -196,4 +190,8 @@ _declare('fio2070_sized_module_counter', c_uint32, POINTER(CSizedModule))
 _declare('fio2070_sized_module_filtered', c_uint64, POINTER(CSizedModule))
 _declare('fio2070_sized_module_raw', c_uint64, POINTER(CSizedModule))
 _declare('fio2070_sized_module_waiting', c_size_t, POINTER(CSizedModule), c_size_t)
+_declare('fio2070_fault_text', c_size_t, POINTER(CFault), POINTER(c_uint8), c_size_t)
+_declare('fio2070_rule_text', c_size_t, c_uint8, POINTER(c_uint8), c_size_t)
+_declare('fio2070_content_rule_text', c_size_t, c_uint8, POINTER(c_uint8), c_size_t)
+_declare('fio2070_heard_text', c_size_t, POINTER(CHeard), POINTER(c_uint8), c_size_t)
 _declare('fio2070_version', c_uint32)

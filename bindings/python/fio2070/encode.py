@@ -20,7 +20,7 @@ def check_range(bound: int, *numbers: int) -> None:
 def _write(name: str, *arguments: Any) -> bytes:
     out = (ctypes.c_uint8 * c.LONGEST_FRAME)()
     count = getattr(c.library, 'fio2070_encode_' + name)(*arguments, out, len(out))
-    if count == 0:
+    if count > len(out):
         raise ValueError('there is no such message')
     return bytes(out[:count])
 

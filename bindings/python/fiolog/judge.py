@@ -61,7 +61,7 @@ def words_of(octets):
     fault = fault_of(octets)
     if fault.kind == 0:
         return ''
-    out = (c.c_uint8 * c.LONGEST_FAULT_TEXT)()
+    out = (c.c_uint8 * c.LONGEST_TEXT)()
     return bytes(out[:c.library.fio2070_fault_text(fault, out, len(out))]).decode('ascii')
 
 

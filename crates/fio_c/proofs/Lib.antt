@@ -2,5 +2,6 @@ pub mod Appending
 pub mod Found
 pub mod Needs
 pub mod Overwriting
+pub mod TextLengths
 pub mod Checkers
 mod Started

@@ -4,7 +4,7 @@ use Rattle.std.specs.List.{flat_map}
 use Rattle.std.proofs.lemmas.List.{length-append, length-take-le, take_more, flat_map_more}
 use Rattle.std.proofs.lemmas.Slice.{drop-append-drop}
 use Rattle.std.proofs.Math.Seq.{take-append_seam}
-use Rattle.fio_flat.specs.Written.{Writes, buffer_with}
+use Rattle.fio_flat.specs.Written.{Writes, WritesText, buffer_with}
 
 -- octets that are written behind others
 pub buffer_with-more : (from place : ℕ) (octets more before now after : List ℕ)
@@ -35,17 +35,31 @@ pub writes-whole : (octets before after : List ℕ) (count : ℕ) → length oct
 writes-whole octets before after count long room is =
     let none : 0 + length octets ≡ length octets = omega arith in
     record {
-      room = λ le. (sym long, is ∙ ap (λ n. octets ++ drop n before) none);
+      counted = sym long;
+      room = λ le. is ∙ ap (λ n. octets ++ drop n before) none;
       no_room = λ lt. absurd (omega arith);
     }
 
 -- where there is no room for them nothing is written
 pub writes-none : (octets before : List ℕ) (count : ℕ) → length octets ≡ count → length before < count
-    → Writes octets before before 0
+    → Writes octets before before count
 writes-none octets before count long short = record {
+  counted = sym long;
   room = λ le. absurd (omega arith);
-  no_room = λ lt. (refl, refl);
+  no_room = λ lt. refl;
 }
+
+-- a text and a zero octet behind it at the front of a buffer that has room for both are a text that is written
+pub writes-text : (words before after : List ℕ) (count : ℕ) → count ≡ length words → count < length before
+    → after ≡ buffer_with 0 (words ++ (0 ∷ [])) before → WritesText words before after count
+writes-text words before after count long room is =
+    let whole = words ++ (0 ∷ []) in
+    let one : 0 + length whole ≡ 1 + length words = omega (arith, length-append words (0 ∷ [])) in
+    record {
+      counted = long;
+      room = λ lt. is ∙ ap (λ n. whole ++ drop n before) one ∙ append_assoc words (0 ∷ []) (drop (1 + length words) before);
+      no_room = λ le. absurd (omega arith);
+    }
 
 module _ {X : Type 0} (spelled : X → List ℕ) (three : (part : X) → length (spelled part) ≡ 3) where
   -- parts have three octets each

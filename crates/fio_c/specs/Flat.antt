@@ -1,5 +1,5 @@
 -- Messages and their parts as C sees them: numbers side by side, those that a message lacks 0.
-use Rattle.std.specs.Prelude.{ℕ, ◌==◌, ◌&&◌, nat_le, nat_lt, Bool, not, List, [], ◌∷◌, length, map, Option, Some, replicate}
+use Rattle.std.specs.Prelude.{ℕ, ◌==◌, ◌&&◌, nat_le, nat_lt, Bool, not, List, [], ◌∷◌, length, map, Option, Some, None, replicate}
 use Rattle.std.specs.List.{list_all, position}
 use Rattle.fio_message.specs.Bits.{bit_of}
 use Rattle.fio_message.specs.Blocks.{Block as BlockOf}
@@ -84,10 +84,10 @@ with_command_fields flat (commands.Other kind body) = record flat { body = lengt
 abbrev pub flat_command : CommandOf → Command
 flat_command command = with_command_fields (command_of_type (command_code command)) command
 
--- the items of a configuration; any other command has none
-abbrev pub configured_items : Option CommandOf → List InputItem
-configured_items (Some (commands.ConfigureInputs items)) = items.items
-configured_items other = []
+-- the items of a command that is a configuration
+abbrev pub configured_items : Option CommandOf → Option (List InputItem)
+configured_items (Some (commands.ConfigureInputs items)) = Some items.items
+configured_items other = None
 
 -- an item of a configuration that C gives: any ignore flag but 0 says that the input is ignored
 abbrev pub read_item : ConfigurationItem → InputItem

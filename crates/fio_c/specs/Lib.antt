@@ -1,3 +1,4 @@
 pub mod Flat
 pub mod Checkers
+pub mod Texts
 pub mod Version

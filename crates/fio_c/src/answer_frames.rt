@@ -8,18 +8,19 @@ ghost use Rattle.fio_message.specs.Octets.{entry_octets};
 ghost use Rattle.fio_message.specs.declared.answers.Answer.TheVariants as answers;
 ghost use Rattle.fio_message.specs.declared.answers.OtherAnswer.{OtherAnswer as Kind};
 ghost use Rattle.fio_c.specs.Flat.{are_entries, can_be_named, read_entry, read_entries};
-ghost use Rattle.fio_flat.specs.Written.{Writes, WritesNothing, buffer_with};
+ghost use Rattle.fio_flat.specs.Written.{Writes, WritesNoMessage, buffer_with};
 
 use crate::blocks::Entry;
 use crate::parts::{Part, are_parts, write_with_parts};
-use crate::written::{length_with_body, write_front, write_with_body};
+use crate::written::{write_front, write_with_body};
+use fio_flat::NO_MESSAGE;
 use fio_message::{
     Answer, BLOCK_ENTRIES, InputNumber, OtherAnswer, before_entries, encode_answer,
     status_and_stamp,
 };
 
-/// Writes an answer, and returns how many octets it has: 0 where there is no room. Inlined, so that no
-/// answer and no frame is made where the type is known.
+/// Writes an answer where there is room for it, and returns how many octets it has. Inlined, so that
+/// no answer and no frame is made where the type is known.
 #[inline(always)]
 fn write_answer(answer: &Answer, out: &mut [u8]) -> usize
     ensures { Writes (answer_octets answer.now) out.old out.new result }
@@ -27,8 +28,8 @@ fn write_answer(answer: &Answer, out: &mut [u8]) -> usize
     write_front(encode_answer(answer).as_slice(), out)
 }
 
-/// Writes the module's status (TEES 2009, answer 177). Returns how many octets it has: 0 where there
-/// is no room.
+/// Writes the module's status (TEES 2009, answer 177). Returns how many octets it has; where there is
+/// no room nothing is written.
 #[unsafe(no_mangle)]
 pub extern "C" fn fio2070_encode_status_answer(
     flags: u8,
@@ -50,7 +51,7 @@ pub extern "C" fn fio2070_encode_status_answer(
 }
 
 /// Writes the answer to a load of the counter (TEES 2009, answer 178). Returns how many octets it
-/// has: 0 where there is no room.
+/// has; where there is no room nothing is written.
 #[unsafe(no_mangle)]
 pub extern "C" fn fio2070_encode_load_counter_answer(status: u8, out: &mut [u8]) -> usize
     ensures { Writes (answer_octets (answers.LoadCounter status)) out.old out.new result }
@@ -58,8 +59,8 @@ pub extern "C" fn fio2070_encode_load_counter_answer(status: u8, out: &mut [u8])
     write_answer(&Answer::LoadCounter { status }, out)
 }
 
-/// Writes the answer to a configuration of inputs (TEES 2009, answer 179). Returns how many octets
-/// it has: 0 where there is no room.
+/// Writes the answer to a configuration of inputs (TEES 2009, answer 179). Returns how many octets it
+/// has; where there is no room nothing is written.
 #[unsafe(no_mangle)]
 pub extern "C" fn fio2070_encode_configure_inputs_answer(status: u8, out: &mut [u8]) -> usize
     ensures { Writes (answer_octets (answers.ConfigureInputs status)) out.old out.new result }
@@ -68,7 +69,7 @@ pub extern "C" fn fio2070_encode_configure_inputs_answer(status: u8, out: &mut [
 }
 
 /// Writes the levels at the last scan (TEES 2009, answer 180): bit i of `inputs` is input i. Returns
-/// how many octets the answer has: 0 where there is no room.
+/// how many octets the answer has; where there is no room nothing is written.
 #[unsafe(no_mangle)]
 pub extern "C" fn fio2070_encode_raw_inputs_answer(inputs: u64, stamp: u32, out: &mut [u8]) -> usize
     ensures { Writes (answer_octets (answers.RawInputs inputs stamp)) out.old out.new result }
@@ -76,8 +77,8 @@ pub extern "C" fn fio2070_encode_raw_inputs_answer(inputs: u64, stamp: u32, out:
     write_answer(&Answer::RawInputs { inputs, stamp }, out)
 }
 
-/// Writes the filtered states (TEES 2009, answer 181): bit i of `inputs` is input i. Returns how
-/// many octets the answer has: 0 where there is no room.
+/// Writes the filtered states (TEES 2009, answer 181): bit i of `inputs` is input i. Returns how many
+/// octets the answer has; where there is no room nothing is written.
 #[unsafe(no_mangle)]
 pub extern "C" fn fio2070_encode_filtered_inputs_answer(
     inputs: u64,
@@ -89,9 +90,9 @@ pub extern "C" fn fio2070_encode_filtered_inputs_answer(
     write_answer(&Answer::FilteredInputs { inputs, stamp }, out)
 }
 
-/// Writes a block answer (TEES 2009, answer 182). Returns how many octets it has: 0 where there is
-/// no room, where there are more than 255 entries, and where one names an input above 127.
-/// `fio2070_encode_block_answer_length` tells these apart.
+/// Writes a block answer (TEES 2009, answer 182). Returns how many octets it has; where there is no
+/// room nothing is written. Where there are more than 255 entries, or one names an input above 127,
+/// no message has them, and the result is `NO_MESSAGE`.
 #[unsafe(no_mangle)]
 pub extern "C" fn fio2070_encode_block_answer(
     block: u8,
@@ -104,29 +105,13 @@ pub extern "C" fn fio2070_encode_block_answer(
         → Writes (answer_octets
         (answers.Block block (record { items = read_entries entries.now }) status stamp))
         out.old out.new result }
-    ensures refused { are_entries entries.now ≡ false → WritesNothing out.old out.new result }
+    ensures refused { are_entries entries.now ≡ false → WritesNoMessage out.old out.new result }
 {
     if !are_parts(entries, BLOCK_ENTRIES) {
-        return 0;
+        return NO_MESSAGE;
     }
     let before = before_entries(block, entries.len() as u8);
     write_with_parts(&before, entries, &status_and_stamp(status, stamp), out)
-}
-
-/// Returns the length in octets of the block answer with these entries (TEES 2009, answer 182): 0 if there
-/// are more than 255 entries, or if one names an input above 127, since no message has these.
-#[unsafe(no_mangle)]
-pub extern "C" fn fio2070_encode_block_answer_length(entries: &[Entry]) -> usize
-    ensures written { (block status stamp : ℕ) → are_entries entries.now ≡ true
-        → result ≡ length (answer_octets
-        (answers.Block block (record { items = read_entries entries.now }) status stamp)) }
-    ensures refused { are_entries entries.now ≡ false → result ≡ 0 }
-{
-    if are_parts(entries, BLOCK_ENTRIES) {
-        8 + 3 * entries.len()
-    } else {
-        0
-    }
 }
 
 impl Part for Entry {
@@ -155,8 +140,8 @@ impl Part for Entry {
     }
 }
 
-/// Writes the answer to a watchdog command (TEES 2009, answer 186). Returns how many octets it has:
-/// 0 where there is no room.
+/// Writes the answer to a watchdog command (TEES 2009, answer 186). Returns how many octets it has;
+/// where there is no room nothing is written.
 #[unsafe(no_mangle)]
 pub extern "C" fn fio2070_encode_watchdog_answer(status: u8, out: &mut [u8]) -> usize
     ensures { Writes (answer_octets (answers.Watchdog status)) out.old out.new result }
@@ -165,34 +150,18 @@ pub extern "C" fn fio2070_encode_watchdog_answer(status: u8, out: &mut [u8]) -> 
 }
 
 /// Writes an answer of type 183, 184, 185, 187 or 188 with the octets after its type (TEES 2009).
-/// Returns how many octets it has: 0 where there is no room, for any other type, and for more than
-/// 772 octets. `fio2070_encode_other_answer_length` tells these apart.
+/// Returns how many octets it has; where there is no room nothing is written. For any other type, and
+/// for more than 772 octets, there is no message, and the result is `NO_MESSAGE`.
 #[unsafe(no_mangle)]
 pub extern "C" fn fio2070_encode_other_answer(code: u8, body: &[u8], out: &mut [u8]) -> usize
     ensures written { (kind : Kind) → other_answer_of code ≡ Some kind → length body.now ≤ BODY_OCTETS
         → Writes (answer_octets (answers.Other kind (record { items = body.now })))
         out.old out.new result }
-    ensures unknown { other_answer_of code ≡ None → WritesNothing out.old out.new result }
-    ensures long { BODY_OCTETS < length body.now → WritesNothing out.old out.new result }
+    ensures unknown { other_answer_of code ≡ None → WritesNoMessage out.old out.new result }
+    ensures long { BODY_OCTETS < length body.now → WritesNoMessage out.old out.new result }
 {
     match OtherAnswer::of_type(code) {
         Some(kind) => write_with_body(kind.code(), body, out),
-        None => 0,
-    }
-}
-
-/// Returns the length in octets of an answer of type 183, 184, 185, 187 or 188 with `count` octets after
-/// its type (TEES 2009): 0 for any other type, and for more than 772 octets, since no message has these.
-#[unsafe(no_mangle)]
-pub extern "C" fn fio2070_encode_other_answer_length(code: u8, count: usize) -> usize
-    ensures written { (kind : Kind) (body : List ℕ) → other_answer_of code ≡ Some kind
-        → length body ≡ count → count ≤ BODY_OCTETS
-        → result ≡ length (answer_octets (answers.Other kind (record { items = body }))) }
-    ensures unknown { other_answer_of code ≡ None → result ≡ 0 }
-    ensures long { BODY_OCTETS < count → result ≡ 0 }
-{
-    match OtherAnswer::of_type(code) {
-        Some(_) => length_with_body(count),
-        None => 0,
+        None => NO_MESSAGE,
     }
 }

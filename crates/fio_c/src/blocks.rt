@@ -6,10 +6,10 @@ ghost use Rattle.fio_message.specs.Refusals.{Refuses};
 ghost use Rattle.fio_message.specs.declared.faults.DecodeError.{DecodeError};
 ghost use Rattle.fio_flat.specs.Faults.{ReadsBlock};
 ghost use Rattle.fio_c.specs.Flat.{flat_header, flat_entry};
-ghost use Rattle.fio_flat.specs.Written.{Writes};
+ghost use Rattle.fio_flat.specs.Written.{Writes, WritesNoMessage};
 
 use crate::faults::{NO_FAULT, fault_from};
-use fio_flat::Fault;
+use fio_flat::{Fault, NO_MESSAGE};
 use fio_message::{BlockView, read_block};
 
 /// A block answer (TEES 2009, answer 182) without its entries.
@@ -80,25 +80,24 @@ pub extern "C" fn fio2070_read_block(octets: &[u8], header: &mut BlockHeader) ->
     }
 }
 
-/// Copies the entries of a block answer, and returns how many they are: 0 where there is no room for
-/// all of them, and where the octets are no block answer. The block's header says how many it has.
+/// Copies the entries of a block answer where there is room for all of them, and returns how many they
+/// are. Where the octets are no block answer nothing is copied, and the result is `NO_MESSAGE`.
 #[unsafe(no_mangle)]
 pub extern "C" fn fio2070_block_entries(octets: &[u8], entries: &mut [Entry]) -> usize
     ensures block { (block : Block) → SpellsBlock block octets.now
         → Writes (map flat_entry block.entries) entries.old entries.new result }
     ensures refused { (error : DecodeError) → Refuses (block_length octets.now) octets.now error
-        → (result ≡ 0) × (entries.new ≡ entries.old) }
+        → WritesNoMessage entries.old entries.new result }
 {
     match read_block(octets) {
         Ok(view) => {
             let count = view.len();
-            if entries.len() < count {
-                return 0;
+            if count <= entries.len() {
+                copy_entries(&view, entries);
             }
-            copy_entries(&view, entries);
             count
         }
-        Err(_) => 0,
+        Err(_) => NO_MESSAGE,
     }
 }
 

@@ -8,18 +8,19 @@ ghost use Rattle.fio_message.specs.Octets.{item_octets};
 ghost use Rattle.fio_message.specs.declared.commands.OtherCommand.{OtherCommand as Kind};
 ghost use Rattle.fio_message.specs.declared.commands.Command.TheVariants as commands;
 ghost use Rattle.fio_c.specs.Flat.{are_items, can_be_named, read_item, read_items};
-ghost use Rattle.fio_flat.specs.Written.{Writes, WritesNothing, buffer_with};
+ghost use Rattle.fio_flat.specs.Written.{Writes, WritesNoMessage, buffer_with};
 
 use crate::commands::ConfigurationItem;
 use crate::parts::{Part, are_parts, write_with_parts};
-use crate::written::{length_with_body, write_front, write_with_body};
+use crate::written::{write_front, write_with_body};
+use fio_flat::NO_MESSAGE;
 use fio_message::{
     CONFIGURATION_ITEMS, Command, InputItem, InputNumber, OtherCommand, before_items,
     encode_command,
 };
 
-/// Writes a command, and returns how many octets it has: 0 where there is no room. Inlined, so that no
-/// command and no frame is made where the type is known.
+/// Writes a command where there is room for it, and returns how many octets it has. Inlined, so that
+/// no command and no frame is made where the type is known.
 #[inline(always)]
 fn write_command(command: &Command, out: &mut [u8]) -> usize
     ensures { Writes (command_octets command.now) out.old out.new result }
@@ -28,7 +29,7 @@ fn write_command(command: &Command, out: &mut [u8]) -> usize
 }
 
 /// Writes the request for the module's status (TEES 2009, command 49), which clears the flags whose
-/// bits are one. Returns how many octets it has: 0 where there is no room.
+/// bits are one. Returns how many octets it has; where there is no room nothing is written.
 #[unsafe(no_mangle)]
 pub extern "C" fn fio2070_encode_status(clear: u8, out: &mut [u8]) -> usize
     ensures { Writes (command_octets (commands.Status clear)) out.old out.new result }
@@ -37,7 +38,7 @@ pub extern "C" fn fio2070_encode_status(clear: u8, out: &mut [u8]) -> usize
 }
 
 /// Writes the command that loads the millisecond counter at the next line sync (TEES 2009, command
-/// 50). Returns how many octets it has: 0 where there is no room.
+/// 50). Returns how many octets it has; where there is no room nothing is written.
 #[unsafe(no_mangle)]
 pub extern "C" fn fio2070_encode_load_counter(load: u32, out: &mut [u8]) -> usize
     ensures { Writes (command_octets (commands.LoadCounter load)) out.old out.new result }
@@ -45,9 +46,9 @@ pub extern "C" fn fio2070_encode_load_counter(load: u32, out: &mut [u8]) -> usiz
     write_command(&Command::LoadCounter { load }, out)
 }
 
-/// Writes the configuration of inputs (TEES 2009, command 51). Returns how many octets it has: 0
-/// where there is no room, where there are more than 255 items, and where one names an input above
-/// 127. `fio2070_encode_configure_inputs_length` tells these apart.
+/// Writes the configuration of inputs (TEES 2009, command 51). Returns how many octets it has; where
+/// there is no room nothing is written. Where there are more than 255 items, or one names an input
+/// above 127, no message has them, and the result is `NO_MESSAGE`.
 #[unsafe(no_mangle)]
 pub extern "C" fn fio2070_encode_configure_inputs(
     items: &[ConfigurationItem],
@@ -56,27 +57,12 @@ pub extern "C" fn fio2070_encode_configure_inputs(
     ensures written { are_items items.now ≡ true
         → Writes (command_octets (commands.ConfigureInputs (record { items = read_items items.now })))
         out.old out.new result }
-    ensures refused { are_items items.now ≡ false → WritesNothing out.old out.new result }
+    ensures refused { are_items items.now ≡ false → WritesNoMessage out.old out.new result }
 {
     if !are_parts(items, CONFIGURATION_ITEMS) {
-        return 0;
+        return NO_MESSAGE;
     }
     write_with_parts(&before_items(items.len() as u8), items, &[], out)
-}
-
-/// Returns the length in octets of the configuration of these items (TEES 2009, command 51): 0 if there are
-/// more than 255 items, or if one names an input above 127, since no message has these.
-#[unsafe(no_mangle)]
-pub extern "C" fn fio2070_encode_configure_inputs_length(items: &[ConfigurationItem]) -> usize
-    ensures written { are_items items.now ≡ true
-        → result ≡ length (command_octets (commands.ConfigureInputs (record { items = read_items items.now }))) }
-    ensures refused { are_items items.now ≡ false → result ≡ 0 }
-{
-    if are_parts(items, CONFIGURATION_ITEMS) {
-        2 + 3 * items.len()
-    } else {
-        0
-    }
 }
 
 impl Part for ConfigurationItem {
@@ -115,7 +101,7 @@ pub(crate) fn read_item(item: &ConfigurationItem) -> InputItem
 }
 
 /// Writes the request for the levels at the last scan (TEES 2009, command 52). Returns how many
-/// octets it has: 0 where there is no room.
+/// octets it has; where there is no room nothing is written.
 #[unsafe(no_mangle)]
 pub extern "C" fn fio2070_encode_raw_inputs(out: &mut [u8]) -> usize
     ensures { Writes (command_octets commands.RawInputs) out.old out.new result }
@@ -124,7 +110,7 @@ pub extern "C" fn fio2070_encode_raw_inputs(out: &mut [u8]) -> usize
 }
 
 /// Writes the request for the filtered states (TEES 2009, command 53). Returns how many octets it
-/// has: 0 where there is no room.
+/// has; where there is no room nothing is written.
 #[unsafe(no_mangle)]
 pub extern "C" fn fio2070_encode_filtered_inputs(out: &mut [u8]) -> usize
     ensures { Writes (command_octets commands.FilteredInputs) out.old out.new result }
@@ -133,7 +119,7 @@ pub extern "C" fn fio2070_encode_filtered_inputs(out: &mut [u8]) -> usize
 }
 
 /// Writes a poll for the block with this number (TEES 2009, command 54). Returns how many octets it
-/// has: 0 where there is no room.
+/// has; where there is no room nothing is written.
 #[unsafe(no_mangle)]
 pub extern "C" fn fio2070_encode_poll(block: u8, out: &mut [u8]) -> usize
     ensures { Writes (command_octets (commands.Poll block)) out.old out.new result }
@@ -142,7 +128,7 @@ pub extern "C" fn fio2070_encode_poll(block: u8, out: &mut [u8]) -> usize
 }
 
 /// Writes the command that sets the outputs (TEES 2009, command 55; eight octets for each half are
-/// own profile). Returns how many octets it has: 0 where there is no room.
+/// own profile). Returns how many octets it has; where there is no room nothing is written.
 #[unsafe(no_mangle)]
 pub extern "C" fn fio2070_encode_set_outputs(
     levels: &[u8; 8],
@@ -160,7 +146,7 @@ pub extern "C" fn fio2070_encode_set_outputs(
 }
 
 /// Writes the command that sets the watchdog (TEES 2009, command 58), with the timeout in
-/// milliseconds. Returns how many octets it has: 0 where there is no room.
+/// milliseconds. Returns how many octets it has; where there is no room nothing is written.
 #[unsafe(no_mangle)]
 pub extern "C" fn fio2070_encode_watchdog(timeout: u8, out: &mut [u8]) -> usize
     ensures { Writes (command_octets (commands.Watchdog timeout)) out.old out.new result }
@@ -168,8 +154,8 @@ pub extern "C" fn fio2070_encode_watchdog(timeout: u8, out: &mut [u8]) -> usize
     write_command(&Command::Watchdog { timeout }, out)
 }
 
-/// Writes the question which module it is (TEES 2009, command 60). Returns how many octets it has:
-/// 0 where there is no room.
+/// Writes the question which module it is (TEES 2009, command 60). Returns how many octets it has;
+/// where there is no room nothing is written.
 #[unsafe(no_mangle)]
 pub extern "C" fn fio2070_encode_identify(out: &mut [u8]) -> usize
     ensures { Writes (command_octets commands.Identify) out.old out.new result }
@@ -177,35 +163,19 @@ pub extern "C" fn fio2070_encode_identify(out: &mut [u8]) -> usize
     write_command(&Command::Identify, out)
 }
 
-/// Writes a command of type 56, 57 or 59 with the octets after its type (TEES 2009). Returns how
-/// many octets it has: 0 where there is no room, for any other type, and for more than 772 octets.
-/// `fio2070_encode_other_command_length` tells these apart.
+/// Writes a command of type 56, 57 or 59 with the octets after its type (TEES 2009). Returns how many
+/// octets it has; where there is no room nothing is written. For any other type, and for more than
+/// 772 octets, there is no message, and the result is `NO_MESSAGE`.
 #[unsafe(no_mangle)]
 pub extern "C" fn fio2070_encode_other_command(code: u8, body: &[u8], out: &mut [u8]) -> usize
     ensures written { (kind : Kind) → other_command_of code ≡ Some kind → length body.now ≤ BODY_OCTETS
         → Writes (command_octets (commands.Other kind (record { items = body.now })))
         out.old out.new result }
-    ensures unknown { other_command_of code ≡ None → WritesNothing out.old out.new result }
-    ensures long { BODY_OCTETS < length body.now → WritesNothing out.old out.new result }
+    ensures unknown { other_command_of code ≡ None → WritesNoMessage out.old out.new result }
+    ensures long { BODY_OCTETS < length body.now → WritesNoMessage out.old out.new result }
 {
     match OtherCommand::of_type(code) {
         Some(kind) => write_with_body(kind.code(), body, out),
-        None => 0,
-    }
-}
-
-/// Returns the length in octets of a command of type 56, 57 or 59 with `count` octets after its type (TEES
-/// 2009): 0 for any other type, and for more than 772 octets, since no message has these.
-#[unsafe(no_mangle)]
-pub extern "C" fn fio2070_encode_other_command_length(code: u8, count: usize) -> usize
-    ensures written { (kind : Kind) (body : List ℕ) → other_command_of code ≡ Some kind
-        → length body ≡ count → count ≤ BODY_OCTETS
-        → result ≡ length (command_octets (commands.Other kind (record { items = body }))) }
-    ensures unknown { other_command_of code ≡ None → result ≡ 0 }
-    ensures long { BODY_OCTETS < count → result ≡ 0 }
-{
-    match OtherCommand::of_type(code) {
-        Some(_) => length_with_body(count),
-        None => 0,
+        None => NO_MESSAGE,
     }
 }

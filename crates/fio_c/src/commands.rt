@@ -1,13 +1,14 @@
 //! Commands, read into structs of the caller.
-ghost use Rattle.std.specs.Prelude.{◌≡◌, ◌≤◌, ◌++◌, length, map, drop};
+ghost use Rattle.std.specs.Prelude.{◌≡◌, ◌≤◌, ◌++◌, List, length, map, drop, Some, None};
 ghost use Rattle.fio_message.specs.Decoding.{command_in, decoded_command};
+ghost use Rattle.fio_message.specs.declared.fields.InputItem.{InputItem as ItemOf};
 ghost use Rattle.fio_message.specs.Views.{command_of, items_of};
 ghost use Rattle.fio_flat.specs.Faults.{Reads};
 ghost use Rattle.fio_c.specs.Flat.{command_of_type, flat_command, flat_item, configured_items};
-ghost use Rattle.fio_flat.specs.Written.{Writes};
+ghost use Rattle.fio_flat.specs.Written.{Writes, WritesNoMessage};
 
 use crate::faults::{NO_FAULT, fault_from};
-use fio_flat::Fault;
+use fio_flat::{Fault, NO_MESSAGE};
 use fio_message::{CommandView, InputItem, ItemsView, read_command};
 
 /// A command of the CPU: the fields of its type, the others 0.
@@ -108,23 +109,25 @@ pub extern "C" fn fio2070_decode_command(octets: &[u8], command: &mut Command) -
     }
 }
 
-/// Copies the items of a configuration (TEES 2009, command 51), and returns how many they are: 0 where
-/// there is no room for all of them, and where the octets are no configuration. The command's `count`
-/// says how many it has.
+/// Copies the items of a configuration (TEES 2009, command 51) where there is room for all of them, and
+/// returns how many they are. Where the octets are no configuration nothing is copied, and the result is
+/// `NO_MESSAGE`.
 #[unsafe(no_mangle)]
 pub extern "C" fn fio2070_command_items(octets: &[u8], items: &mut [ConfigurationItem]) -> usize
-    ensures { Writes (map flat_item (configured_items (command_in octets.now))) items.old items.new result }
+    ensures configuration { (read : List ItemOf) → configured_items (command_in octets.now) ≡ Some read
+        → Writes (map flat_item read) items.old items.new result }
+    ensures refused { configured_items (command_in octets.now) ≡ None
+        → WritesNoMessage items.old items.new result }
 {
     match read_command(octets) {
         Ok(CommandView::ConfigureInputs { items: read }) => {
             let count = read.len();
-            if count > items.len() {
-                return 0;
+            if count <= items.len() {
+                copy_items(read, items);
             }
-            copy_items(read, items);
             count
         }
-        _ => 0,
+        _ => NO_MESSAGE,
     }
 }
 

@@ -9,8 +9,9 @@
 //! |---|---|
 //! | read a block answer in place | `fio2070_read_block`, `fio2070_block_entries` |
 //! | read any message | `fio2070_decode_command`, `fio2070_command_items`, `fio2070_decode_answer` |
-//! | write a message, say how long it is | `fio2070_encode_..`, `fio2070_encode_.._length` |
-//! | write what `show` writes of a message | `fio2070_show`, `fio2070_show_length` |
+//! | write a message | `fio2070_encode_..` |
+//! | write what `show` writes of a message | `fio2070_show` |
+//! | write a code in words | `fio2070_fault_text`, `fio2070_rule_text`, `fio2070_content_rule_text`, `fio2070_heard_text` |
 //! | judge what the CPU's end sends and hears | `fio2070_checker_..`, `fio2070_content_..` |
 //! | be the CPU's end | `fio2070_poller_poll`, `fio2070_poller_hear` |
 //! | be the module | `fio2070_module_..`; with another limit of waiting entries, `fio2070_sized_module_..` |
@@ -18,7 +19,7 @@
 //! | use its parts | `fio2070_counter_..`, `fio2070_filters_..`, `fio2070_widen` |
 //!
 //! The definitions are in `specs/`: flat forms of commands, answers and blocks (`Flat`), checkers
-//! (`Checkers`), versions (`Version`). `fio_flat` has the other structs, and what calls do to them
+//! (`Checkers`), words (`Texts`), versions (`Version`). `fio_flat` has the other structs, and what calls do to them
 //! and to the caller's arrays.
 #![tactic(auto)]
 
@@ -39,5 +40,6 @@ mod poller;
 mod show;
 mod sized_module;
 mod text_buffer;
+mod texts;
 mod version;
 mod written;

@@ -49,8 +49,8 @@ fn are_named<T: Part>(parts: &[T]) -> bool
     named
 }
 
-/// Writes a message: the octets before its parts, the parts, and the octets after them. Returns how many
-/// octets it has: 0 where there is no room.
+/// Writes a message where there is room for it: the octets before its parts, the parts, and the octets
+/// after them. Returns how many octets it has.
 #[inline]
 pub(crate) fn write_with_parts<T: Part>(
     before: &[u8],
@@ -64,12 +64,11 @@ pub(crate) fn write_with_parts<T: Part>(
 {
     let inner = before.len() + 3 * parts.len();
     let length = inner + after.len();
-    if out.len() < length {
-        return 0;
+    if length <= out.len() {
+        write_at(0, before, out);
+        write_parts(parts, before.len(), out);
+        write_at(inner, after, out);
     }
-    write_at(0, before, out);
-    write_parts(parts, before.len(), out);
-    write_at(inner, after, out);
     length
 }
 

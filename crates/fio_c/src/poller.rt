@@ -38,7 +38,7 @@ const HEARD_NOTHING: Heard = Heard {
 };
 
 /// Writes a poll with the present block number (TEES 2009, command 54). Returns how many octets it
-/// has: 0 where there is no room.
+/// has; where there is no room nothing is written.
 #[unsafe(no_mangle)]
 pub extern "C" fn fio2070_poller_poll(poller: &Poller, out: &mut [u8]) -> usize
     ensures { Writes (command_octets (commands.Poll poller.now.number)) out.old out.new result }

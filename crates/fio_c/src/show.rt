@@ -1,36 +1,31 @@
 //! The text of a frame, as `show` of the program writes it.
-ghost use Rattle.std.specs.Prelude.{◌≡◌, length, OnOk};
+ghost use Rattle.std.specs.Prelude.{◌≡◌, OnOk};
 ghost use Rattle.fio_show.specs.FrameLines.{frame_text};
-ghost use Rattle.fio_flat.specs.Written.{Appends, Writes};
+ghost use Rattle.fio_flat.specs.Written.{Appends, WritesText};
 
 use crate::text_buffer::TextBuffer;
+use crate::written::write_at;
 use fio_show::{LINE_OCTETS, TextSink, append_further, put_frame};
 use std::convert::Infallible;
 
 /// Writes what `fio2070 show` writes of a frame, with a line feed at the end of each line: the lines of
 /// the message, of an answer where its first octet is 128 or more, else of a command; the words of the
-/// fault where the octets are none. Returns how many octets the text has: 0 where there is no room.
+/// fault where the octets are none. A zero octet is written behind it. Returns how many octets the text
+/// has; where there is no room for it and the zero octet, nothing is written.
 #[unsafe(no_mangle)]
 pub extern "C" fn fio2070_show(octets: &[u8], text: &mut [u8]) -> usize
-    ensures { Writes (frame_text octets.now) text.old text.new result }
+    ensures { WritesText (frame_text octets.now) text.old text.new result }
 {
-    let count = fio2070_show_length(octets);
-    if count <= text.len() {
-        return write_text(octets, text);
+    let count = write_lines(octets, &mut []);
+    if count < text.len() {
+        write_lines(octets, text);
+        write_at(count, &[0], text);
     }
-    0
-}
-
-/// Returns how many octets the text of a frame has, as `fio2070_show` writes it.
-#[unsafe(no_mangle)]
-pub extern "C" fn fio2070_show_length(octets: &[u8]) -> usize
-    ensures { result ≡ length (frame_text octets.now) }
-{
-    write_text(octets, &mut [])
+    count
 }
 
 /// Writes the text of a frame where there is room for all of it, and returns how many octets it has.
-fn write_text(octets: &[u8], text: &mut [u8]) -> usize
+fn write_lines(octets: &[u8], text: &mut [u8]) -> usize
     ensures { Appends (frame_text octets.now) text.old text.new 0 result }
 {
     let mut buffer = TextBuffer { text, end: 0 };

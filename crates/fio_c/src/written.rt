@@ -1,50 +1,52 @@
-//! Octets in a buffer of the caller.
+//! Octets and texts in a buffer of the caller.
 ghost use Rattle.std.specs.Prelude.{◌≡◌, ◌<◌, ◌≤◌, ◌+◌, ◌∷◌, length};
 ghost use Rattle.fio_message.specs.declared.limits.TheConstants.{BODY_OCTETS};
-ghost use Rattle.fio_flat.specs.Written.{Writes, WritesNothing, buffer_with};
+ghost use Rattle.fio_flat.specs.Written.{Writes, WritesNoMessage, WritesText, buffer_with};
 
+use fio_flat::NO_MESSAGE;
 use fio_message::BODY_OCTETS;
 
-/// Writes octets to the front of the buffer, and returns how many. Where the buffer is shorter
-/// nothing is written, and the result is 0.
+/// Writes octets to the front of the buffer where it has room for them, and returns how many they are.
 pub(crate) fn write_front(octets: &[u8], out: &mut [u8]) -> usize
     ensures { Writes octets.now out.old out.new result }
 {
     let count = octets.len();
-    if out.len() < count {
-        return 0;
+    if count <= out.len() {
+        write_at(0, octets, out);
     }
-    let (front, _) = out.split_at_mut(count);
-    front.copy_from_slice(octets);
     count
 }
 
-/// Writes a message that is its type and a body of at most 772 octets, without a frame between. For a
-/// longer body, and where the buffer is shorter, nothing is written, and the result is 0.
+/// Writes a message that is its type and a body of at most 772 octets, without a frame between, where the
+/// buffer has room for it, and returns how many octets it has. For a longer body nothing is written, and
+/// the result is `NO_MESSAGE`.
 pub(crate) fn write_with_body(code: u8, body: &[u8], out: &mut [u8]) -> usize
     ensures written { length body.now ≤ BODY_OCTETS
         → Writes (code ∷ body.now) out.old out.new result }
-    ensures long { BODY_OCTETS < length body.now → WritesNothing out.old out.new result }
+    ensures long { BODY_OCTETS < length body.now → WritesNoMessage out.old out.new result }
 {
-    if body.len() > BODY_OCTETS || out.len() <= body.len() {
-        return 0;
+    if body.len() > BODY_OCTETS {
+        return NO_MESSAGE;
     }
-    match out.split_first_mut() {
-        Some((first, rest)) => {
-            *first = code;
-            write_front(body, rest) + 1
-        }
-        None => 0,
+    let count = 1 + body.len();
+    if count <= out.len() {
+        out[0] = code;
+        write_at(1, body, out);
     }
+    count
 }
 
-/// Returns 1 + `count`, the length of a message that is its type and a body of `count` octets: 0 for more
-/// than 772.
-pub(crate) fn length_with_body(count: usize) -> usize
-    ensures fits { count ≤ BODY_OCTETS → result ≡ 1 + count }
-    ensures long { BODY_OCTETS < count → result ≡ 0 }
+/// Writes a text and a zero octet behind it where the buffer has room for both, and returns how many octets
+/// the text has.
+pub(crate) fn write_text(words: &[u8], text: &mut [u8]) -> usize
+    ensures { WritesText words.now text.old text.new result }
 {
-    if count <= BODY_OCTETS { 1 + count } else { 0 }
+    let count = words.len();
+    if count < text.len() {
+        write_at(0, words, text);
+        text[count] = 0;
+    }
+    count
 }
 
 /// Writes octets from the place on, where there is room for them.

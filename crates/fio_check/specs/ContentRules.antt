@@ -1,7 +1,7 @@
 -- The rules on content: what an entry of the record may break, of a transcript that keeps those of `Rules`.
 --
 -- Each rule is stated once, by what is above an entry and what the entry says.
-use Rattle.std.specs.Prelude.{ℕ, ◌+◌, ◌-◌, ◌%◌, ◌^◌, Bool, ◌&&◌, List, [], ◌∷◌, Option, None, codes, find, length, nat_le, nat_lt, not, option_map, option_and_then, slice_get, take, if◌then◌else◌}
+use Rattle.std.specs.Prelude.{ℕ, ◌==◌, ◌+◌, ◌-◌, ◌%◌, ◌^◌, Bool, ◌&&◌, List, [], ◌∷◌, Option, None, codes, find, length, nat_le, nat_lt, not, option_map, option_and_then, slice_get, take, if◌then◌else◌}
 use Rattle.std.specs.Bool.{beq}
 use Rattle.fio_input.specs.FilterRule.{filter_in_force}
 use Rattle.fio_cpu.specs.declared.record.Item.{Item}
@@ -65,6 +65,10 @@ content_rule_number Apart = 3
 -- in the order in which they are tried
 abbrev pub content_rules : List ContentRule
 content_rules = Order ∷ Alternate ∷ Apart ∷ []
+
+-- the rule on content with this number
+abbrev pub content_rule_of_number : ℕ → Option ContentRule
+content_rule_of_number number = find (λ rule. content_rule_number rule == number) content_rules
 
 -- the first rule on content that an entry breaks
 abbrev pub first_content_broken : ContentFacts → ℕ → TimedState → Option ContentRule

@@ -86,6 +86,10 @@ rule_number Refusal = 9
 abbrev pub rules : List Rule
 rules = Readable ∷ Pair ∷ Number ∷ Advance ∷ Same ∷ Sequence ∷ Limits ∷ Rest ∷ Refusal ∷ []
 
+-- the rule with this number
+abbrev pub rule_of_number : ℕ → Option Rule
+rule_of_number number = find (λ rule. rule_number rule == number) rules
+
 -- the first rule that a line breaks which says this, below lines of which these facts hold
 abbrev pub first_broken : Facts → Observation → Option Rule
 first_broken facts observation = find (breaks facts observation) rules

@@ -1,6 +1,6 @@
 //! The rules on content, by what is above an entry and what the entry says.
 ghost use Rattle.std.specs.Prelude.{◌≡◌};
-ghost use Rattle.fio_check.specs.ContentRules.{content_rule_name, content_rule_number};
+ghost use Rattle.fio_check.specs.ContentRules.{content_rule_name, content_rule_number, content_rule_of_number};
 
 /// What an entry of the record may break, in the order in which the rules are tried (own profile).
 /// They judge a transcript that keeps the rules of `Rule`. `tools/generate-constants` makes the words
@@ -43,6 +43,18 @@ impl ContentRule {
             ContentRule::Order => 1,
             ContentRule::Alternate => 2,
             ContentRule::Apart => 3,
+        }
+    }
+
+    /// Returns the rule with this number, if there is one.
+    pub fn of_number(number: u8) -> Option<ContentRule>
+        ensures { result ≡ content_rule_of_number number }
+    {
+        match number {
+            1 => Some(ContentRule::Order),
+            2 => Some(ContentRule::Alternate),
+            3 => Some(ContentRule::Apart),
+            _ => None,
         }
     }
 }

@@ -1,6 +1,6 @@
 //! The rules of a transcript, by what is above a line and what the line says.
 ghost use Rattle.std.specs.Prelude.{◌≡◌};
-ghost use Rattle.fio_check.specs.Rules.{breaks, first_broken, is_overfull, rule_name, rule_number};
+ghost use Rattle.fio_check.specs.Rules.{breaks, first_broken, is_overfull, rule_name, rule_number, rule_of_number};
 
 use crate::facts::Facts;
 use crate::observation::Observation;
@@ -81,6 +81,24 @@ impl Rule {
             Rule::Limits => 7,
             Rule::Rest => 8,
             Rule::Refusal => 9,
+        }
+    }
+
+    /// Returns the rule with this number, if there is one.
+    pub fn of_number(number: u8) -> Option<Rule>
+        ensures { result ≡ rule_of_number number }
+    {
+        match number {
+            1 => Some(Rule::Readable),
+            2 => Some(Rule::Pair),
+            3 => Some(Rule::Number),
+            4 => Some(Rule::Advance),
+            5 => Some(Rule::Same),
+            6 => Some(Rule::Sequence),
+            7 => Some(Rule::Limits),
+            8 => Some(Rule::Rest),
+            9 => Some(Rule::Refusal),
+            _ => None,
         }
     }
 

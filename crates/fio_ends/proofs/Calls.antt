@@ -65,16 +65,12 @@ record Follows (settings : Settings) (first : ℕ) (machine : Machine) (held : C
 
 -- ---- what a call wrote to the front of a buffer
 
--- the octets that were written, where any were
-written_front : (octets before after : List ℕ) (count : ℕ) → Writes octets before after count → count ≢ 0
+-- the octets that were written, where there was room for them
+written_front : (octets before after : List ℕ) (count : ℕ) → Writes octets before after count → count ≤ length before
     → take count after ≡ octets
-written_front octets before after count wrote some =
-    elim (cases_lt (length before) (length octets)) as (λ _. take count after ≡ octets) [
-      | inl short ↦ absurd (some (wrote.no_room short).0)
-      | inr long ↦
-          let room = wrote.room long in
-          ap₂ (λ n l. take n l) room.0 room.1 ∙ take-append_seam octets (drop (length octets) before)
-    ]
+written_front octets before after count wrote room =
+    let long : length octets ≤ length before = omega (arith, wrote.counted, room) in
+    ap₂ (λ n l. take n l) wrote.counted (wrote.room long) ∙ take-append_seam octets (drop (length octets) before)
 
 -- ---- each event
 
@@ -126,7 +122,7 @@ module _ (settings : Settings) (first : ℕ) (machine : Machine) (held next : Ca
   follows_poll : HasPolled held next → Follows settings first (after_sending machine (commands.Poll (number_of first machine.round))) next
   follows_poll h =
       let wrote : take h.count h.after ≡ command_octets (commands.Poll held.number) =
-      written_front (command_octets (commands.Poll held.number)) h.before h.after h.count h.wrote h.some in
+      written_front (command_octets (commands.Poll held.number)) h.before h.after h.count h.wrote h.room in
       follows_sent (commands.Poll (number_of first machine.round))
       (h.rest
       ∙ ap (λ octets. record held { to_module = held.to_module ++ octets ∷ [] })
@@ -181,8 +177,7 @@ frames_written_say : (reply : Option Answer) (before after : List ℕ) (count : 
     → map block_in (frames_written count after) ≡ map block_of (answer_frames reply 0)
 frames_written_say None before after count fits wrote = ap (λ n. map block_in (frames_written n after)) wrote.0
 frames_written_say (Some answer) before after count fits wrote =
-    let room = wrote.room (fits answer refl) in
-    ap₂ (λ n l. map block_in (frames_written n l)) room.0 room.1
+    ap₂ (λ n l. map block_in (frames_written n l)) wrote.counted (wrote.room (fits answer refl))
     ∙ ap (map block_in)
     (frames_some (length (answer_octets answer)) (answer_octets answer ++ drop (length (answer_octets answer)) before) (omega arith))
     ∙ ap (λ front. block_in front ∷ []) (take-append_seam (answer_octets answer) (drop (length (answer_octets answer)) before))

@@ -1,6 +1,6 @@
 -- What a caller does with one module and one poller, call by call, and the frames that it carries between
 -- them, in order, with losses and immediate repeats.
-use Rattle.std.specs.Prelude.{◌≡◌, ◌≢◌, ℕ, ◌<◌, ◌==◌, List, [], ◌∷◌, ◌++◌, length, map, take, Option, Some, None, if◌then◌else◌}
+use Rattle.std.specs.Prelude.{◌≡◌, ◌≢◌, ℕ, ◌<◌, ◌≤◌, ◌==◌, List, [], ◌∷◌, ◌++◌, length, map, take, Option, Some, None, if◌then◌else◌}
 use Rattle.fio_message.specs.declared.commands.Command.TheVariants as commands
 use Rattle.fio_message.specs.declared.limits.TheConstants.{FRAME_OCTETS}
 use Rattle.fio_message.specs.Commands.{command_octets}
@@ -58,13 +58,13 @@ pub record HasHappened (event : module_events.DeviceEvent) (old new : CallerStat
   pub had : AddsEvent event old.device device
   pub rest : new ≡ record old { device = device }
 
--- `fio2070_poller_poll` wrote a poll, and the caller sends what it wrote
+-- `fio2070_poller_poll` wrote a poll, for which there was room, and the caller sends what it wrote
 pub record HasPolled (old new : CallerState) : Type 0 where
   pub before : List ℕ
   pub after : List ℕ
   pub count : ℕ
   pub wrote : Writes (command_octets (commands.Poll old.number)) before after count
-  pub some : count ≢ 0
+  pub room : count ≤ length before
   pub rest : new ≡ record old { to_module = old.to_module ++ take count after ∷ [] }
 
 -- the answer of a call that wrote so many octets to the front of a buffer, none where it wrote none

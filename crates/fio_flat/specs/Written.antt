@@ -1,15 +1,34 @@
 -- Octets and lists in arrays of the caller.
-use Rattle.std.specs.Prelude.{◌≡◌, ◌<◌, ◌≤◌, ℕ, List, ◌+◌, ◌++◌, length, take, drop, Option, Some, None}
+use Rattle.std.specs.Prelude.{◌≡◌, ◌<◌, ◌≤◌, ℕ, List, ◌∷◌, ◌+◌, ◌++◌, length, take, drop, Option, Some, None}
 use Rattle.fio_message.specs.declared.answers.Answer.{Answer}
 use Rattle.fio_message.specs.Answers.{answer_octets}
+use Rattle.fio_flat.specs.declared.written.TheConstants.{NO_MESSAGE}
 
--- Octets, entries or items are written to the front of the array, and the count is how many they
--- are. Where the array is shorter nothing is written, and the count is 0.
+-- Octets, entries or items are written to the front of the array where it has room for them. The count
+-- is how many they are.
 pub record Writes {T : Type 0} (items before after : List T) (count : ℕ) : Type 0 where
+  -- with room or without
+  pub counted : count ≡ length items
+  -- the rest of the array is unchanged
+  pub room : length items ≤ length before → after ≡ items ++ drop (length items) before
+  -- nothing is written
+  pub no_room : length before < length items → after ≡ before
+
+-- A text is written to the front of the array, with a zero octet behind it, where it has room for both.
+-- The count is how many octets the text has.
+pub record WritesText (text before after : List ℕ) (count : ℕ) : Type 0 where
+  -- with room or without
+  pub counted : count ≡ length text
+  -- the rest of the array is unchanged
   pub room :
-      length items ≤ length before
-      → (count ≡ length items) × (after ≡ items ++ drop (length items) before)
-  pub no_room : length before < length items → (count ≡ 0) × (after ≡ before)
+      length text < length before → after ≡ text ++ (0 ∷ drop (1 + length text) before)
+  -- nothing is written
+  pub no_room : length before ≤ length text → after ≡ before
+
+-- there is no such message: nothing is written, and the count is more than any array has
+abbrev pub WritesNoMessage : {T : Type 0} → List T → List T → ℕ → Type 0
+WritesNoMessage before after count =
+    (count ≡ NO_MESSAGE) × ((length before < count) × (after ≡ before))
 
 -- the buffer with these octets in it from the place on
 abbrev pub buffer_with : ℕ → List ℕ → List ℕ → List ℕ

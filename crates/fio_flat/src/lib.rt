@@ -10,8 +10,10 @@ mod faults;
 mod module;
 mod poller;
 mod sized_module;
+mod written;
 
 pub use faults::Fault;
 pub use module::{ErrorCounts, Module};
 pub use poller::{Heard, Poller, RecordItem};
 pub use sized_module::SizedModule;
+pub use written::NO_MESSAGE;

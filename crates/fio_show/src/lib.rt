@@ -3,10 +3,11 @@
 //!
 //! What the crates above use: `put_frame` gives the text of a frame, as its first line and what follows
 //! it, which `append_further` appends to any `TextSink`; `EntryLines` gives the line of an entry, and `push_items` appends those of a record.
+//! `put_heard` gives what a poller heard.
 //!
 //! The definitions are in `specs/`, in this order: the lines of entries
 //! and of items (`EntryLines`), the lines of commands (`CommandLines`), of answers (`AnswerLines`) and of frames
-//! (`FrameLines`), what follows a first line (`FurtherLines`).
+//! (`FrameLines`), what follows a first line (`FurtherLines`), what a poller heard (`HeardWords`).
 //!
 //! # Examples
 //!
@@ -25,6 +26,7 @@ mod entry_lines;
 mod frame;
 mod fronts;
 mod further_lines;
+mod heard;
 mod lines;
 mod record_lines;
 mod sink;
@@ -33,6 +35,7 @@ pub use entry_lines::{ENTRY_OCTETS, EntryLines};
 pub use fio_text::LINE_OCTETS;
 pub use frame::put_frame;
 pub use further_lines::{FurtherLines, append_further};
+pub use heard::put_heard;
 pub use lines::{entry_line, put_item};
 pub use record_lines::push_items;
 pub use sink::TextSink;

@@ -1,35 +1,26 @@
 -- The lines of a report.
 use Rattle.std.specs.Prelude.{ℕ, List, ◌++◌, length, codes, decimal, Option, Some, None}
 use Rattle.std.specs.List.{flat_map}
-use Rattle.fio_message.specs.Texts.{fault_text}
 use Rattle.fio_cpu.specs.declared.poller.Heard.{Heard}
-use Rattle.fio_cpu.specs.declared.poller.Heard.TheVariants.{Unreadable, Other, Stale, Block}
 use Rattle.fio_cpu.specs.declared.record.Item.{Item}
 use Rattle.fio_module.specs.Blocks.{waiting_of}
 use Rattle.fio_module.specs.Life.{life_of, counter_of}
 use Rattle.fio_module.specs.Settings.{Settings}
 use Rattle.fio_world.specs.Faults.{refusal_text}
-use Rattle.fio_text.specs.Digits.{digits_of, octet_digits}
+use Rattle.fio_text.specs.Digits.{digits_of}
 use Rattle.fio_world.specs.declared.outcome.Outcome.{Outcome}
 use Rattle.fio_world.specs.declared.outcome.Outcome.TheVariants as outcomes
 use Rattle.fio_world.specs.declared.outcome.WorldError.{WorldError}
 use Rattle.fio_world.specs.declared.outcome.WorldError.TheVariants as errors
 use Rattle.fio_link.specs.Link.{Machine, Refusal, NotSent, OutOfOrder, PollIsOurs, number_of}
 use Rattle.fio_show.specs.EntryLines.{item_line}
+use Rattle.fio_show.specs.HeardWords.{heard_text}
 
 -- ---- one event
 
 -- what the CPU made of a frame
 abbrev pub heard_line : ℕ → Heard → List ℕ
-heard_line number (Block entries status) =
-    decimal number ++ (codes " block entries " ++ (decimal entries ++ (codes " status "
-    ++ (octet_digits status ++ codes "\n"))))
-heard_line number (Stale block) =
-    decimal number ++ (codes " stale " ++ (decimal block ++ codes "\n"))
-heard_line number (Other code) =
-    decimal number ++ (codes " other " ++ (decimal code ++ codes "\n"))
-heard_line number (Unreadable fault) =
-    decimal number ++ (codes " unreadable " ++ (fault_text fault ++ codes "\n"))
+heard_line number heard = decimal number ++ (codes " " ++ (heard_text heard ++ codes "\n"))
 
 -- a frame was sent, with its number and its octets
 abbrev pub sent_line : ℕ → ℕ → List ℕ → List ℕ

@@ -22,7 +22,7 @@ static void *fresh(size_t size) {
 static uint8_t *room(void) { return (uint8_t *)fresh(FIO2070_LONGEST_FRAME); }
 
 /* Whether these octets are written. */
-static int is_written(size_t count, const uint8_t *octets, const char *expected, size_t length) {
+static int is_written(size_t count, const void *octets, const char *expected, size_t length) {
     return count == length && memcmp(octets, expected, length) == 0;
 }
 
@@ -35,7 +35,7 @@ static void reads(void) {
     struct fio2070_entry *entries = (struct fio2070_entry *)fresh(2 * sizeof *entries);
     struct fio2070_configuration_item *items = (struct fio2070_configuration_item *)fresh(2 * sizeof *items);
     struct fio2070_fault fault;
-    uint8_t *text = room();
+    char *text = (char *)room();
     CHECK(fio2070_read_block(block, sizeof block, header).kind == FIO2070_FAULT_NONE);
     CHECK(header->number == 5 && header->status == 0 && header->count == 1 && header->reserved == 0 && header->stamp == 1000);
     CHECK(fio2070_block_entries(block, sizeof block, entries, 2) == 1 && entries[0].input == 12 && entries[0].state == 1);
@@ -44,9 +44,13 @@ static void reads(void) {
     CHECK(fio2070_command_items(configuration, 5, items, 2) == 1 && items[0].input == 12 && items[0].trailing == 3);
     CHECK(fio2070_decode_answer(block, sizeof block, answer).kind == FIO2070_FAULT_NONE);
     CHECK(answer->code == 182 && answer->count == 1 && answer->reserved[2] == 0 && answer->inputs == 0);
-    CHECK(is_written(fio2070_show(configuration + 1, 1, text, FIO2070_LONGEST_FRAME), text, "unknown type 1\n", 15));
+    CHECK(is_written(fio2070_show(configuration + 1, 1, text, FIO2070_LONGEST_FRAME), text, "unknown type 1\n", 15) && text[15] == 0);
     fault = fio2070_decode_command(configuration + 1, 1, (struct fio2070_command *)fresh(sizeof *command));
-    CHECK(is_written(fio2070_fault_text(&fault, text, FIO2070_LONGEST_FRAME), text, "unknown type 1", 14));
+    CHECK(is_written(fio2070_fault_text(&fault, text, FIO2070_LONGEST_FRAME), text, "unknown type 1", 14) && text[14] == 0);
+    text = (char *)room();
+    CHECK(is_written(fio2070_rule_text(FIO2070_RULE_PAIR, text, 5), text, "pair", 4) && text[4] == 0);
+    text = (char *)room();
+    CHECK(is_written(fio2070_content_rule_text(FIO2070_CONTENT_ORDER, text, 6), text, "order", 5) && text[5] == 0);
 }
 
 static void writes(void) {
@@ -54,7 +58,7 @@ static void writes(void) {
     static const struct fio2070_configuration_item item = {12, 0, 5, 3};
     uint8_t *out = room();
     CHECK(is_written(fio2070_encode_load_counter(65536, out, 5), out, "\x32\0\1\0\0", 5));
-    CHECK(is_written(fio2070_encode_configure_inputs(&item, 1, room(), 4), out, "", 0));
+    CHECK(fio2070_encode_configure_inputs(&item, 1, room(), 4) == 5);
     out = room();
     CHECK(is_written(fio2070_encode_configure_inputs(&item, 1, out, 5), out, "\x33\1\x0c\5\3", 5));
     out = room();

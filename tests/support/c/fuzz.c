@@ -28,6 +28,7 @@ static struct fio2070_configuration_item items[FIO2070_MOST_ENTRIES];
 static struct fio2070_entry entries[FIO2070_MOST_ENTRIES];
 static struct fio2070_record_item record[FIO2070_MOST_RECORD_ITEMS];
 static uint8_t written[FIO2070_LONGEST_FRAME];
+static char heard_words[FIO2070_LONGEST_TEXT];
 
 static size_t write_command(const struct fio2070_command *command, const uint8_t *octets, size_t count) {
     switch (command->code) {
@@ -67,8 +68,9 @@ static int is_again(size_t count, const uint8_t *octets, size_t length) {
 
 /* The words of a fault are there exactly for a fault. */
 static int has_text(struct fio2070_fault fault, uint8_t *text_end) {
-    size_t count = fio2070_fault_text(&fault, text_end - FIO2070_LONGEST_FAULT_TEXT, FIO2070_LONGEST_FAULT_TEXT);
-    return (count == 0) == (fault.kind == FIO2070_FAULT_NONE);
+    char *text = (char *)text_end - FIO2070_LONGEST_TEXT;
+    size_t count = fio2070_fault_text(&fault, text, FIO2070_LONGEST_TEXT);
+    return count < FIO2070_LONGEST_TEXT && count == strlen(text) && (count == 0) == (fault.kind == FIO2070_FAULT_NONE);
 }
 
 static int reads_command(const uint8_t *octets, size_t length, uint8_t *text_end) {
@@ -78,8 +80,10 @@ static int reads_command(const uint8_t *octets, size_t length, uint8_t *text_end
     memset(&command, 0, sizeof command);
     fault = fio2070_decode_command(octets, length, &command);
     if (!has_text(fault, text_end)) return 0;
-    if (fault.kind != FIO2070_FAULT_NONE) return count == 0 && command.code == 0;
-    return command.count == count && is_again(write_command(&command, octets, count), octets, length);
+    if (fault.kind != FIO2070_FAULT_NONE) return count == FIO2070_NO_MESSAGE && command.code == 0;
+    if ((count == FIO2070_NO_MESSAGE) != (command.code != 51)) return 0;
+    return (command.code != 51 || command.count == count) &&
+           is_again(write_command(&command, octets, command.count), octets, length);
 }
 
 static int reads_answer(const uint8_t *octets, size_t length, uint8_t *text_end) {
@@ -93,8 +97,10 @@ static int reads_answer(const uint8_t *octets, size_t length, uint8_t *text_end)
     block_fault = fio2070_read_block(octets, length, &header);
     if (!has_text(fault, text_end) || !has_text(block_fault, text_end)) return 0;
     if ((block_fault.kind == FIO2070_FAULT_NONE) != (answer.code == 182)) return 0;
-    if (fault.kind != FIO2070_FAULT_NONE) return count == 0 && answer.code == 0;
-    return answer.count == count && header.count == count && is_again(write_answer(&answer, octets, count), octets, length);
+    if ((count == FIO2070_NO_MESSAGE) != (answer.code != 182)) return 0;
+    if (fault.kind != FIO2070_FAULT_NONE) return answer.code == 0;
+    return header.count == answer.count && (answer.code != 182 || answer.count == count) &&
+           is_again(write_answer(&answer, octets, answer.count), octets, length);
 }
 
 static int is_heard(const uint8_t *octets, size_t length) {
@@ -104,6 +110,7 @@ static int is_heard(const uint8_t *octets, size_t length) {
     poller.number = length > 1 && below(2) ? octets[1] : (uint8_t)next_random();
     before = poller.number;
     heard = fio2070_poller_hear(&poller, octets, length, record + FIO2070_MOST_RECORD_ITEMS - room, room);
+    if (fio2070_heard_text(&heard, heard_words, sizeof heard_words) >= sizeof heard_words) return 0;
     if (heard.kind == FIO2070_HEARD_TAKEN) return heard.items <= room && poller.number == (before + 1) % 256;
     return poller.number == before && (heard.kind != FIO2070_HEARD_NO_ROOM || heard.items > room);
 }

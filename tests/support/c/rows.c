@@ -24,7 +24,7 @@ static void reads_blocks(void) {
     CHECK(fio2070_block_entries(SHORTEST, sizeof SHORTEST, entries, 2) == 0 && entries[0].input == 7);
     CHECK(same_fault(fio2070_read_block(BLOCK, sizeof BLOCK, &header), FIO2070_FAULT_NONE, 0, 0, 0));
     CHECK(header.number == 5 && header.status == 0 && header.count == 1 && header.stamp == 1000);
-    CHECK(fio2070_block_entries(BLOCK, sizeof BLOCK, entries, 0) == 0 && entries[0].input == 7);
+    CHECK(fio2070_block_entries(BLOCK, sizeof BLOCK, entries, 0) == 1 && entries[0].input == 7);
     CHECK(fio2070_block_entries(BLOCK, sizeof BLOCK, entries, 2) == 1);
     CHECK(entries[0].input == 12 && entries[0].state == 1 && entries[0].stamp == 999 && entries[1].input == 7);
     memcpy(two, BLOCK, sizeof two);
@@ -32,7 +32,8 @@ static void reads_blocks(void) {
     header.number = 9;
     CHECK(same_fault(fio2070_read_block(two, sizeof two, &header), FIO2070_FAULT_WRONG_LENGTH, 0, 14, 11));
     CHECK(header.number == 9 && header.count == 1);
-    CHECK(fio2070_block_entries(two, sizeof two, entries, 2) == 0);
+    CHECK(fio2070_block_entries(two, sizeof two, entries, 2) == FIO2070_NO_MESSAGE && entries[1].input == 7);
+    CHECK(fio2070_block_entries((const uint8_t *)"\xb2\1", 2, entries, 2) == FIO2070_NO_MESSAGE);
     CHECK(same_fault(fio2070_read_block(BLOCK, 1, &header), FIO2070_FAULT_WRONG_LENGTH, 0, 8, 1));
     CHECK(same_fault(fio2070_read_block((const uint8_t *)"\xb1", 1, &header), FIO2070_FAULT_UNKNOWN_TYPE, 0xb1, 0, 0));
     CHECK(fio2070_widen(0x10002, 0xfffe) == 0xfffe && fio2070_widen(0x10002, 3) == 3);
@@ -58,24 +59,49 @@ static void refuses(void) {
     CHECK(command.code == 9 && command.controls[7] == 9 && answer.code == 9 && answer.status == 9);
 }
 
-static int has_words(struct fio2070_fault fault, const char *words) {
-    uint8_t out[FIO2070_LONGEST_FAULT_TEXT + 1];
+/* Whether a call wrote these words and their zero octet into this room, and nothing where it is one octet less. */
+static int has_words(size_t count, const char *text, const char *words) {
+    return count == strlen(words) && strcmp(text, words) == 0 && text[count + 1] == '?';
+}
+
+static int says_fault(struct fio2070_fault fault, const char *words) {
+    char text[FIO2070_LONGEST_TEXT + 1];
     size_t count;
-    memset(out, '?', sizeof out);
-    count = fio2070_fault_text(&fault, out, sizeof out);
-    if (count != strlen(words) || memcmp(out, words, count) != 0 || out[count] != '?') return 0;
-    return count == 0 || fio2070_fault_text(&fault, out, count - 1) == 0;
+    memset(text, '?', sizeof text);
+    count = fio2070_fault_text(&fault, text, strlen(words));
+    if (count != strlen(words) || text[0] != '?') return 0;
+    return has_words(fio2070_fault_text(&fault, text, count + 1), text, words);
 }
 
 static void says_faults(void) {
     static const struct fio2070_fault none = {0, 0, 0, {0}, 0}, empty = {1, 0, 0, {0}, 0};
     static const struct fio2070_fault too_long = {2, 0, 0, {0}, 774};
     static const struct fio2070_fault unknown = {3, 48, 0, {0}, 0}, wrong = {4, 0, 14, {7, 7, 7, 7}, 11};
-    CHECK(has_words(none, ""));
-    CHECK(has_words(empty, "empty"));
-    CHECK(has_words(too_long, "too long got 774"));
-    CHECK(has_words(unknown, "unknown type 48"));
-    CHECK(has_words(wrong, "wrong length needed 14 got 11"));
+    CHECK(says_fault(none, ""));
+    CHECK(says_fault(empty, "empty"));
+    CHECK(says_fault(too_long, "too long got 774"));
+    CHECK(says_fault(unknown, "unknown type 48"));
+    CHECK(says_fault(wrong, "wrong length needed 14 got 11"));
+}
+
+static void says_rules(void) {
+    static const char *const names[] = {"", "readable", "pair", "number", "advance", "same", "sequence", "limits", "rest", "refusal", ""};
+    static const char *const content[] = {"", "order", "alternate", "apart", ""};
+    char text[FIO2070_LONGEST_TEXT + 1];
+    uint8_t rule;
+    for (rule = 0; rule < 11; rule++) {
+        memset(text, '?', sizeof text);
+        CHECK(fio2070_rule_text(rule, text, strlen(names[rule])) == strlen(names[rule]) && text[0] == '?');
+        CHECK(has_words(fio2070_rule_text(rule, text, sizeof text), text, names[rule]));
+    }
+    for (rule = 0; rule < 5; rule++) {
+        memset(text, '?', sizeof text);
+        CHECK(fio2070_content_rule_text(rule, text, strlen(content[rule])) == strlen(content[rule]) && text[0] == '?');
+        CHECK(has_words(fio2070_content_rule_text(rule, text, sizeof text), text, content[rule]));
+    }
+    memset(text, '?', sizeof text);
+    CHECK(has_words(fio2070_rule_text(255, text, 1), text, "") && has_words(fio2070_content_rule_text(255, text, 1), text, ""));
+    CHECK(FIO2070_RULE_NONE == 0 && FIO2070_CONTENT_NONE == 0 && FIO2070_STARTED == 0);
 }
 
 /* ---- Messages, from octets and to octets ---- */
@@ -95,18 +121,14 @@ static void writes_commands(void) {
     CHECK(is_written(fio2070_encode_load_counter(65536, out, sizeof out), "\x32\0\1\0\0", 5));
     CHECK(is_written(fio2070_encode_configure_inputs(items, 2, out, sizeof out), "\x33\2\x0c\5\3\x83\0\0", 8));
     CHECK(is_written(fio2070_encode_configure_inputs(&ignored, 1, out, sizeof out), "\x33\1\x83\0\0", 5));
-    CHECK(fio2070_encode_configure_inputs(&absent, 1, out, sizeof out) == 0);
+    CHECK(fio2070_encode_configure_inputs(items, 2, out, 4) == 8 && out[1] == 1);
+    CHECK(fio2070_encode_configure_inputs(&absent, 1, out, sizeof out) == FIO2070_NO_MESSAGE);
     CHECK(fio2070_encode_configure_inputs(many, 255, out, sizeof out) == 767);
-    CHECK(fio2070_encode_configure_inputs(many, 256, out, sizeof out) == 0);
-    CHECK(fio2070_encode_configure_inputs_length(items, 2) == 8 && fio2070_encode_configure_inputs_length(many, 255) == 767);
-    CHECK(fio2070_encode_configure_inputs_length(&absent, 1) == 0);
-    CHECK(fio2070_encode_configure_inputs_length(many, 256) == 0);
-    CHECK(fio2070_encode_other_command_length(57, 772) == 773 && fio2070_encode_other_command_length(56, 0) == 1);
-    CHECK(fio2070_encode_other_command_length(57, 773) == 0 && fio2070_encode_other_command_length(54, 1) == 0);
+    CHECK(fio2070_encode_configure_inputs(many, 256, out, sizeof out) == FIO2070_NO_MESSAGE);
     CHECK(is_written(fio2070_encode_raw_inputs(out, sizeof out), "\x34", 1));
     CHECK(is_written(fio2070_encode_filtered_inputs(out, sizeof out), "\x35", 1));
     CHECK(is_written(fio2070_encode_poll(5, out, sizeof out), "\x36\5", 2));
-    CHECK(fio2070_encode_poll(6, out, 1) == 0 && out[1] == 5 && fio2070_encode_poll(6, out, 2) == 2);
+    CHECK(fio2070_encode_poll(6, out, 1) == 2 && out[1] == 5 && fio2070_encode_poll(6, out, 2) == 2 && out[1] == 6);
     CHECK(is_written(fio2070_encode_set_outputs(levels, controls, out, sizeof out),
                      "\x37\0\0\0\0\0\0\0\1\0\0\0\0\0\0\0\0", 17));
     CHECK(is_written(fio2070_encode_watchdog(200, out, sizeof out), "\x3a\xc8", 2));
@@ -114,8 +136,9 @@ static void writes_commands(void) {
     CHECK(is_written(fio2070_encode_other_command(56, levels, 0, out, sizeof out), "\x38", 1));
     CHECK(is_written(fio2070_encode_other_command(59, (const uint8_t *)"\1\2", 2, out, sizeof out), "\x3b\1\2", 3));
     CHECK(fio2070_encode_other_command(57, long_octets, 772, out, sizeof out) == 773);
-    CHECK(fio2070_encode_other_command(57, long_octets, 773, out, sizeof out) == 0);
-    CHECK(fio2070_encode_other_command(54, levels, 1, out, sizeof out) == 0);
+    CHECK(fio2070_encode_other_command(57, long_octets, 772, out, 1) == 773);
+    CHECK(fio2070_encode_other_command(57, long_octets, 773, out, sizeof out) == FIO2070_NO_MESSAGE);
+    CHECK(fio2070_encode_other_command(54, levels, 1, out, sizeof out) == FIO2070_NO_MESSAGE && out[0] == 57);
 }
 
 static void writes_answers(void) {
@@ -131,19 +154,15 @@ static void writes_answers(void) {
     CHECK(is_written(fio2070_encode_block_answer(5, &entry, 1, 0, 1000, out, sizeof out), BLOCK, sizeof BLOCK));
     CHECK(is_written(fio2070_encode_block_answer(5, &high, 1, 0, 1000, out, sizeof out), BLOCK, sizeof BLOCK));
     CHECK(is_written(fio2070_encode_block_answer(5, &entry, 0, 0, 1000, out, sizeof out), SHORTEST, sizeof SHORTEST));
-    CHECK(fio2070_encode_block_answer(5, &entry, 1, 0, 1000, out, sizeof BLOCK - 1) == 0);
-    CHECK(fio2070_encode_block_answer(5, &absent, 1, 0, 1000, out, sizeof out) == 0);
+    CHECK(fio2070_encode_block_answer(6, &entry, 1, 0, 1000, out, sizeof BLOCK - 1) == sizeof BLOCK && out[1] == 5);
+    CHECK(fio2070_encode_block_answer(5, &absent, 1, 0, 1000, out, sizeof out) == FIO2070_NO_MESSAGE);
     CHECK(fio2070_encode_block_answer(5, many, 255, 0, 1000, out, sizeof out) == 773);
-    CHECK(fio2070_encode_block_answer(5, many, 256, 0, 1000, out, sizeof out) == 0);
-    CHECK(fio2070_encode_block_answer_length(&entry, 1) == 11 && fio2070_encode_block_answer_length(many, 255) == 773);
-    CHECK(fio2070_encode_block_answer_length(&absent, 1) == 0);
-    CHECK(fio2070_encode_block_answer_length(many, 256) == 0);
-    CHECK(fio2070_encode_other_answer_length(188, 1) == 2 && fio2070_encode_other_answer_length(184, 772) == 773);
-    CHECK(fio2070_encode_other_answer_length(184, 773) == 0 && fio2070_encode_other_answer_length(182, 1) == 0);
+    CHECK(fio2070_encode_block_answer(5, many, 256, 0, 1000, out, sizeof out) == FIO2070_NO_MESSAGE);
     CHECK(is_written(fio2070_encode_watchdog_answer(1, out, sizeof out), "\xba\1", 2));
     CHECK(is_written(fio2070_encode_other_answer(188, (const uint8_t *)"\2", 1, out, sizeof out), "\xbc\2", 2));
-    CHECK(fio2070_encode_other_answer(182, BLOCK, 1, out, sizeof out) == 0);
-    CHECK(fio2070_encode_other_answer(184, long_octets, 773, out, sizeof out) == 0);
+    CHECK(fio2070_encode_other_answer(184, long_octets, 772, out, 772) == 773 && out[0] == 188);
+    CHECK(fio2070_encode_other_answer(182, BLOCK, 1, out, sizeof out) == FIO2070_NO_MESSAGE);
+    CHECK(fio2070_encode_other_answer(184, long_octets, 773, out, sizeof out) == FIO2070_NO_MESSAGE && out[0] == 188);
 }
 
 static struct fio2070_command command_in(const char *octets, size_t length) {
@@ -163,13 +182,11 @@ static struct fio2070_answer answer_in(const void *octets, size_t length) {
 /* Whether this is the text of a frame, written where there is room for it alone. */
 static int shows(const char *octets, size_t length, const char *expected) {
     const uint8_t *frame = (const uint8_t *)octets;
-    uint8_t text[64];
+    char text[64];
     size_t count = strlen(expected);
     memset(text, '?', sizeof text);
-    if (fio2070_show_length(frame, length) != count) return 0;
-    if (fio2070_show(frame, length, text, count - 1) != 0 || text[0] != '?') return 0;
-    return fio2070_show(frame, length, text, sizeof text) == count && memcmp(text, expected, count) == 0
-           && text[count] == '?';
+    if (fio2070_show(frame, length, text, count) != count || text[0] != '?') return 0;
+    return has_words(fio2070_show(frame, length, text, count + 1), text, expected);
 }
 
 static void reads_commands(void) {
@@ -179,11 +196,12 @@ static void reads_commands(void) {
     CHECK(command.code == 49 && command.clear == 0xa5 && command.block == 0 && command.load == 0 && command.count == 0);
     CHECK(command_in("\x32\0\1\0\0", 5).load == 65536);
     CHECK(command_in(configuration, 8).count == 2);
-    CHECK(fio2070_command_items((const uint8_t *)configuration, 8, items, 1) == 0 && items[0].input == 7);
+    CHECK(fio2070_command_items((const uint8_t *)configuration, 8, items, 1) == 2 && items[0].input == 7);
     CHECK(fio2070_command_items((const uint8_t *)configuration, 8, items, 2) == 2);
     CHECK(items[0].input == 12 && items[0].ignore == 0 && items[0].leading == 5 && items[0].trailing == 3);
     CHECK(items[1].input == 3 && items[1].ignore == 1 && items[1].leading == 0 && items[1].trailing == 0);
-    CHECK(fio2070_command_items((const uint8_t *)"\x36\5", 2, items, 2) == 0);
+    CHECK(fio2070_command_items((const uint8_t *)"\x36\5", 2, items, 2) == FIO2070_NO_MESSAGE);
+    CHECK(fio2070_command_items((const uint8_t *)"\x33\0", 2, items, 2) == 0 && items[0].input == 12);
     CHECK(command_in("\x36\5", 2).block == 5);
     CHECK(shows("\x36\5", 2, "poll block 5\n"));
     CHECK(shows("\xb2\1", 2, "counter load status 01\n"));
@@ -237,6 +255,39 @@ static void hears(void) {
     CHECK(heard.kind == FIO2070_HEARD_OTHER && heard.code == 179 && poller.number == 0);
     heard = fio2070_poller_hear(&poller, BLOCK, sizeof BLOCK - 1, items, 2);
     CHECK(heard.kind == FIO2070_HEARD_UNREADABLE && same_fault(heard.fault, FIO2070_FAULT_WRONG_LENGTH, 0, 11, 10));
+}
+
+static int says_heard(struct fio2070_heard heard, const char *words) {
+    char text[FIO2070_LONGEST_TEXT + 1];
+    memset(text, '?', sizeof text);
+    if (fio2070_heard_text(&heard, text, strlen(words)) != strlen(words) || text[0] != '?') return 0;
+    return has_words(fio2070_heard_text(&heard, text, strlen(words) + 1), text, words);
+}
+
+/* The longest text has room in FIO2070_LONGEST_TEXT octets, and none in one less. */
+static void says_what_was_heard(void) {
+    struct fio2070_heard heard;
+    memset(&heard, 0, sizeof heard);
+    CHECK(says_heard(heard, "block entries 0 status 00"));
+    heard.entries = 255, heard.status = 0x0c, heard.number = 4, heard.code = 177, heard.items = 256;
+    CHECK(says_heard(heard, "block entries 255 status 0c"));
+    heard.kind = FIO2070_HEARD_UNREADABLE;
+    CHECK(says_heard(heard, ""));
+    heard.fault.kind = FIO2070_FAULT_EMPTY;
+    CHECK(says_heard(heard, "unreadable empty"));
+    heard.fault.kind = FIO2070_FAULT_WRONG_LENGTH, heard.fault.needed = 65535, heard.fault.got = ~(uint64_t)0;
+    CHECK(sizeof(size_t) < 8 || says_heard(heard, "unreadable wrong length needed 65535 got 18446744073709551615"));
+    CHECK(sizeof(size_t) < 8 || fio2070_heard_text(&heard, NULL, 0) == FIO2070_LONGEST_TEXT - 1);
+    heard.kind = FIO2070_HEARD_OTHER;
+    CHECK(says_heard(heard, "other 177"));
+    heard.kind = FIO2070_HEARD_STALE;
+    CHECK(says_heard(heard, "stale 4"));
+    heard.kind = FIO2070_HEARD_NO_ROOM;
+    CHECK(says_heard(heard, "no room needed 256"));
+    heard.kind = 5;
+    CHECK(says_heard(heard, ""));
+    heard.kind = 255;
+    CHECK(says_heard(heard, ""));
 }
 
 /* ---- The rules of a transcript ---- */
@@ -503,22 +554,25 @@ static void takes_nulls(void) {
     struct fio2070_command command;
     struct fio2070_answer answer;
     struct fio2070_fault empty = {1, 0, 0, {0}, 0};
+    char text[16];
     CHECK(fio2070_read_block(NULL, 0, &header).kind == FIO2070_FAULT_EMPTY);
     CHECK(fio2070_decode_command(NULL, 0, &command).kind == FIO2070_FAULT_EMPTY);
     CHECK(fio2070_decode_answer(NULL, 0, &answer).kind == FIO2070_FAULT_EMPTY);
-    CHECK(fio2070_block_entries(NULL, 0, NULL, 0) == 0 && fio2070_block_entries(BLOCK, sizeof BLOCK, NULL, 0) == 0);
+    CHECK(fio2070_block_entries(NULL, 0, NULL, 0) == FIO2070_NO_MESSAGE);
+    CHECK(fio2070_block_entries(BLOCK, sizeof BLOCK, NULL, 0) == 1);
     CHECK(fio2070_block_entries(SHORTEST, sizeof SHORTEST, NULL, 0) == 0);
-    CHECK(fio2070_command_items(NULL, 0, NULL, 0) == 0 && fio2070_command_items((const uint8_t *)"3", 2, NULL, 0) == 0);
-    CHECK(fio2070_show(NULL, 0, NULL, 0) == 0 && fio2070_show_length(NULL, 0) == 6);
-    CHECK(fio2070_show(NULL, 0, out, sizeof out) == 6 && memcmp(out, "empty\n", 6) == 0);
-    CHECK(fio2070_fault_text(&empty, NULL, 0) == 0 && fio2070_encode_poll(5, NULL, 0) == 0);
+    CHECK(fio2070_command_items(NULL, 0, NULL, 0) == FIO2070_NO_MESSAGE);
+    CHECK(fio2070_command_items((const uint8_t *)"3", 2, NULL, 0) == 0);
+    CHECK(fio2070_show(NULL, 0, NULL, 0) == 6 && fio2070_show(NULL, 0, text, sizeof text) == 6 && strcmp(text, "empty\n") == 0);
+    CHECK(fio2070_fault_text(&empty, NULL, 0) == 5 && fio2070_encode_poll(5, NULL, 0) == 2);
+    CHECK(fio2070_rule_text(FIO2070_RULE_REST, NULL, 0) == 4 && fio2070_content_rule_text(FIO2070_CONTENT_ORDER, NULL, 0) == 5);
     CHECK(is_written(fio2070_encode_configure_inputs(NULL, 0, out, sizeof out), "\x33\0", 2));
-    CHECK(fio2070_encode_configure_inputs(NULL, 0, NULL, 0) == 0 && fio2070_encode_configure_inputs_length(NULL, 0) == 2);
+    CHECK(fio2070_encode_configure_inputs(NULL, 0, NULL, 0) == 2);
     CHECK(is_written(fio2070_encode_block_answer(5, NULL, 0, 0, 1000, out, sizeof out), SHORTEST, sizeof SHORTEST));
-    CHECK(fio2070_encode_block_answer(5, NULL, 0, 0, 0, NULL, 0) == 0 && fio2070_encode_block_answer_length(NULL, 0) == 8);
+    CHECK(fio2070_encode_block_answer(5, NULL, 0, 0, 0, NULL, 0) == 8);
     CHECK(is_written(fio2070_encode_other_command(56, NULL, 0, out, sizeof out), "\x38", 1));
     CHECK(is_written(fio2070_encode_other_answer(183, NULL, 0, out, sizeof out), "\xb7", 1));
-    CHECK(fio2070_encode_other_command(56, NULL, 0, NULL, 0) == 0 && fio2070_encode_other_answer(183, NULL, 0, NULL, 0) == 0);
+    CHECK(fio2070_encode_other_command(56, NULL, 0, NULL, 0) == 1 && fio2070_encode_other_answer(183, NULL, 0, NULL, 0) == 1);
 }
 
 static void ends_take_nulls(void) {
@@ -535,7 +589,7 @@ static void ends_take_nulls(void) {
     CHECK(fio2070_content_heard(&content, NULL, 0, &entry) == 0);
     CHECK(fio2070_module_start(&device, 2, 255) == 0 && fio2070_module_receive(&device, NULL, 0, out) == 0);
     CHECK(fio2070_filters_configure(&inputs, NULL, 0).kind == FIO2070_CONFIGURED_APPLIED);
-    CHECK(fio2070_poller_poll(&poller, NULL, 0) == 0);
+    CHECK(fio2070_poller_poll(&poller, NULL, 0) == 2);
     CHECK(fio2070_poller_hear(&poller, NULL, 0, NULL, 0).kind == FIO2070_HEARD_UNREADABLE);
     CHECK(fio2070_poller_hear(&poller, BLOCK, sizeof BLOCK, NULL, 0).kind == FIO2070_HEARD_NO_ROOM);
     CHECK(fio2070_poller_hear(&poller, SHORTEST, sizeof SHORTEST, NULL, 0).kind == FIO2070_HEARD_TAKEN);
@@ -547,11 +601,13 @@ int main(void) {
     reads_blocks();
     refuses();
     says_faults();
+    says_rules();
     writes_commands();
     writes_answers();
     reads_commands();
     reads_answers();
     hears();
+    says_what_was_heard();
     checks();
     judges_content();
     counts();

@@ -117,9 +117,8 @@ static void writes_bodies(void) {
         const struct answer_row *row = &answers[place];
         const uint8_t *octets = (const uint8_t *)row->octets;
         int is_body = row->code >= 183 && row->code != 186;
-        size_t length = is_body ? row->length : 0;
-        check(fio2070_encode_other_answer(row->code, octets + 1, row->length - 1, out, sizeof out) == length &&
-                  memcmp(out, octets, length) == 0,
+        size_t count = fio2070_encode_other_answer(row->code, octets + 1, row->length - 1, out, sizeof out);
+        check(is_body ? count == row->length && memcmp(out, octets, count) == 0 : count == FIO2070_NO_MESSAGE,
               "answers with a body", place);
     }
 }
@@ -216,12 +215,12 @@ static void says_faults(void) {
     unsigned place;
     for (place = 0; place < ROWS(words); place++) {
         const struct words_row *row = &words[place];
-        uint8_t out[FIO2070_LONGEST_FAULT_TEXT + 1];
-        size_t count, length = strlen(row->words);
-        memset(out, '?', sizeof out);
-        count = fio2070_fault_text(&row->fault, out, sizeof out);
-        check(count == length && memcmp(out, row->words, length) == 0 && out[length] == '?' &&
-                  (length == 0 || fio2070_fault_text(&row->fault, out, length - 1) == 0),
+        char text[FIO2070_LONGEST_TEXT + 1];
+        size_t length = strlen(row->words);
+        memset(text, '?', sizeof text);
+        check(fio2070_fault_text(&row->fault, text, length) == length && text[0] == '?', "words without room", place);
+        check(fio2070_fault_text(&row->fault, text, length + 1) == length && strcmp(text, row->words) == 0 &&
+                  text[length + 1] == '?',
               "words", place);
     }
 }

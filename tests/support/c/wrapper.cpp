@@ -30,6 +30,8 @@ static void reads_and_writes() {
     auto configuration = fio2070::encode::configure_inputs(items);
     CHECK(configuration && octets(*configuration) == List({0x33, 2, 12, 5, 3, 0x83, 0, 0}));
     CHECK(!fio2070::encode::configure_inputs(absent));
+    CHECK(fio2070::command_items(List({0x33, 0})).empty() && fio2070::command_items(BLOCK).empty());
+    CHECK(fio2070::block_entries(*configuration).empty());
     CHECK(fio2070::command_items(*configuration).size() == 2 && fio2070::command_items(*configuration)[1].ignore == 1);
     auto command = fio2070::decode_command(fio2070::encode::poll(5));
     CHECK(command && command->code == 54 && command->block == 5 && command.fault().kind() == FIO2070_FAULT_NONE);
@@ -137,6 +139,14 @@ static void has_the_most() {
     CHECK(poller.record() == std::vector<fio2070::RecordItem>({{1, 0, 0, {}, 0, 0}, {0, 12, 1, {}, 999, 999}}));
 }
 
+static void has_words() {
+    CHECK(fio2070::rule_text(FIO2070_RULE_ADVANCE) == "advance" && fio2070::rule_text(FIO2070_RULE_NONE).empty());
+    CHECK(fio2070::content_rule_text(FIO2070_CONTENT_APART) == "apart" && fio2070::content_rule_text(4).empty());
+    fio2070::Poller poller(5);
+    CHECK(poller.hear(List({0xb3, 0})).text() == "other 179" && poller.hear(List()).text() == "unreadable empty");
+    CHECK(poller.hear(BLOCK).text() == "block entries 1 status 00" && poller.hear(BLOCK).text() == "stale 5");
+}
+
 static void checks() {
     fio2070::Checker checker;
     CHECK(checker.sent(fio2070::encode::poll(255)) == fio2070_breach());
@@ -238,6 +248,7 @@ int main() {
     has_values();
     tells_values();
     has_the_most();
+    has_words();
     checks();
     polls_a_module<fio2070::Module>();
     polls_a_module<fio2070::SizedModule<1>>();

@@ -6,6 +6,6 @@ export const STANDARD_WAITING = 1024;
 export const MOST_WAITING = 8192;
 export const LONGEST_FRAME = 773;
 export const MOST_RECORD_ITEMS = 256;
-export const LONGEST_FAULT_TEXT = 65;
+export const LONGEST_TEXT = 62;
 export const RULES = ['', 'readable', 'pair', 'number', 'advance', 'same', 'sequence', 'limits', 'rest', 'refusal'];
 export const CONTENT_RULES = ['', 'order', 'alternate', 'apart'];

@@ -3,7 +3,7 @@
 //
 // A message is given by its address and length in the machine's memory: `place` puts octets there.
 
-import { LONGEST_FAULT_TEXT, LONGEST_FRAME, MOST_RECORD_ITEMS } from './constants.js';
+import { LONGEST_FRAME, LONGEST_TEXT, MOST_RECORD_ITEMS } from './constants.js';
 import { AT, SIZE } from './layouts.js';
 
 const FAULTS = { none: 0, unknownType: 3 };
@@ -70,20 +70,25 @@ export class Library {
     data.setUint8(at + AT.fault.code, fault.code);
     data.setUint16(at + AT.fault.needed, fault.needed, true);
     data.setBigUint64(at + AT.fault.got, BigInt(fault.got), true);
-    const length = Number(this.calls.fio2070_fault_text(BigInt(this.result), BigInt(this.text), BigInt(LONGEST_FAULT_TEXT)));
+    const length = Number(this.calls.fio2070_fault_text(BigInt(this.result), BigInt(this.text), BigInt(LONGEST_TEXT)));
     return this.decoder.decode(this.machine.octets(this.text, length));
   }
 
-  // The octets of a configuration with these items.
+  // What a call wrote to the longest room, which returned this count: none where there is no such message, whose count is -1 as
+  // a signed number.
+  written(count) {
+    return this.machine.octets(this.out, Math.max(Number(count), 0)).slice();
+  }
+
+  // The octets of a configuration with these items; none where there is none.
   encodeConfiguration(items) {
     const { all } = this.machine;
     for (const [index, item] of items.entries()) {
       const at = this.elements + index * SIZE.configurationItem;
       for (const [name, place] of Object.entries(AT.configurationItem)) all[at + place] = item[name];
     }
-    const length = Number(this.calls.fio2070_encode_configure_inputs(BigInt(this.elements), BigInt(items.length), BigInt(this.out),
+    return this.written(this.calls.fio2070_encode_configure_inputs(BigInt(this.elements), BigInt(items.length), BigInt(this.out),
       BigInt(LONGEST_FRAME)));
-    return this.machine.octets(this.out, length).slice();
   }
 
   // The text that `show` writes of a message, or the words of its fault.
@@ -132,8 +137,7 @@ class Poller {
   // The octets of a poll.
   poll() {
     const { library } = this;
-    const length = Number(library.calls.fio2070_poller_poll(BigInt(this.address), BigInt(library.out), BigInt(LONGEST_FRAME)));
-    return library.machine.octets(library.out, length).slice();
+    return library.written(library.calls.fio2070_poller_poll(BigInt(this.address), BigInt(library.out), BigInt(LONGEST_FRAME)));
   }
 
   // What a frame was, and how many items it added to the record: `recordItem` has them until the next call.
@@ -188,9 +192,8 @@ class Module {
   receive(octets) {
     const { library } = this;
     const address = library.place(octets);
-    const length = Number(library.calls.fio2070_module_receive(this.at, BigInt(address), BigInt(octets.length),
+    return library.written(library.calls.fio2070_module_receive(this.at, BigInt(address), BigInt(octets.length),
       BigInt(library.out)));
-    return library.machine.octets(library.out, length).slice();
   }
 
   get counter() {

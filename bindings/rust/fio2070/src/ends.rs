@@ -1,10 +1,14 @@
 //! Both ends of the link, and the filters.
 
+use crate::constants::LONGEST_TEXT;
 use crate::raw::{
     self, Breach, ConfigurationItem, ContentBreach, ErrorCounts, Fault, Outputs, RawChecker,
-    RawContentChecker, RawCounter, RawFilters, RawModule, RawPoller, RawSizedModule, RecordItem,
+    RawContentChecker, RawCounter, RawFilters, RawHeard, RawModule, RawPoller, RawSizedModule,
+    RecordItem,
 };
+use crate::written::{text, Unwritten};
 use crate::LONGEST_FRAME;
+use core::fmt;
 
 // SAFETY of the calls below: slices are given with their lengths, all memory is initialised and,
 // where it is written, borrowed by the call alone; the structs are begun by `_start`.
@@ -28,6 +32,24 @@ pub enum Heard {
     NoRoom(usize),
 }
 
+impl fmt::Display for Heard {
+    /// As `fio2070 simulate` writes it.
+    fn fmt(&self, formatter: &mut fmt::Formatter<'_>) -> fmt::Result {
+        let mut heard = RawHeard::default();
+        match *self {
+            Heard::Taken {
+                entries, status, ..
+            } => (heard.kind, heard.entries, heard.status) = (0, entries, status),
+            Heard::Unreadable(fault) => (heard.kind, heard.fault) = (1, fault),
+            Heard::Other(code) => (heard.kind, heard.code) = (2, code),
+            Heard::Stale(number) => (heard.kind, heard.number) = (3, number),
+            Heard::NoRoom(items) => (heard.kind, heard.items) = (4, items as u16),
+        }
+        let write = |out, room| unsafe { raw::fio2070_heard_text(&heard, out, room) };
+        formatter.write_str(text(&mut [0; LONGEST_TEXT], write).unwrap_or(""))
+    }
+}
+
 /// The CPU's end.
 pub struct Poller(RawPoller);
 
@@ -42,8 +64,8 @@ impl Poller {
         self.0.number
     }
 
-    /// Writes a poll with the present number to the front of `out`; `None` where there is no room.
-    pub fn poll<'a>(&self, out: &'a mut [u8]) -> Option<&'a [u8]> {
+    /// Writes a poll with the present number to the front of `out`.
+    pub fn poll<'a>(&self, out: &'a mut [u8]) -> Result<&'a [u8], Unwritten> {
         crate::poll(self.0.number, out)
     }
 

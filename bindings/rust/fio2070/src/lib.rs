@@ -22,31 +22,33 @@ pub mod constants;
 mod encode;
 mod ends;
 mod raw;
+mod written;
 
 pub use encode::{
-    block_answer, block_answer_length, configure_inputs, configure_inputs_answer,
-    configure_inputs_length, filtered_inputs, filtered_inputs_answer, identify, load_counter,
-    load_counter_answer, other_answer, other_answer_length, other_command, other_command_length,
-    poll, raw_inputs, raw_inputs_answer, set_outputs, status, status_answer, watchdog,
-    watchdog_answer,
+    block_answer, configure_inputs, configure_inputs_answer, filtered_inputs,
+    filtered_inputs_answer, identify, load_counter, load_counter_answer, other_answer,
+    other_command, poll, raw_inputs, raw_inputs_answer, set_outputs, status, status_answer,
+    watchdog, watchdog_answer,
 };
 pub use ends::{Checker, ContentChecker, Counter, Filters, Heard, Module, Poller, SizedModule};
 pub use raw::{
     Answer, Breach, Command, ConfigurationItem, ContentBreach, Entry, ErrorCounts, Fault, Outputs,
     RecordItem,
 };
+pub use written::Unwritten;
 
+use constants::LONGEST_TEXT;
 use core::fmt;
+use written::{front, text};
 
 pub use constants::{LONGEST_FRAME, MOST_ENTRIES, MOST_RECORD_ITEMS};
 
 impl fmt::Display for Fault {
     /// As `fio2070 show` writes it.
     fn fmt(&self, formatter: &mut fmt::Formatter<'_>) -> fmt::Result {
-        let mut text = [0; 65];
-        // SAFETY: `text` is initialised and has as many octets as its length says.
-        let count = unsafe { raw::fio2070_fault_text(self, text.as_mut_ptr(), text.len()) };
-        formatter.write_str(core::str::from_utf8(&text[..count]).unwrap_or(""))
+        // SAFETY: `out` is initialised and has as many octets as `room` says.
+        let write = |out, room| unsafe { raw::fio2070_fault_text(self, out, room) };
+        formatter.write_str(text(&mut [0; LONGEST_TEXT], write).unwrap_or(""))
     }
 }
 
@@ -75,42 +77,51 @@ pub fn decode_answer(octets: &[u8]) -> Result<Answer, Fault> {
     read(fault, answer)
 }
 
-/// Copies the entries of a block answer, and returns how many they are: 0 where there is no room for all.
-pub fn block_entries(octets: &[u8], entries: &mut [Entry]) -> usize {
+/// Copies the entries of a block answer to the front of `entries`.
+pub fn block_entries<'a>(
+    octets: &[u8],
+    entries: &'a mut [Entry],
+) -> Result<&'a [Entry], Unwritten> {
     // SAFETY: both slices are initialised memory of their lengths and do not overlap.
-    unsafe {
-        raw::fio2070_block_entries(
-            octets.as_ptr(),
-            octets.len(),
-            entries.as_mut_ptr(),
-            entries.len(),
-        )
-    }
+    front(entries, |out, room| unsafe {
+        raw::fio2070_block_entries(octets.as_ptr(), octets.len(), out, room)
+    })
 }
 
-/// Copies the items of a configuration, and returns how many they are: 0 where there is no room for all.
-pub fn command_items(octets: &[u8], items: &mut [ConfigurationItem]) -> usize {
+/// Copies the items of a configuration to the front of `items`.
+pub fn command_items<'a>(
+    octets: &[u8],
+    items: &'a mut [ConfigurationItem],
+) -> Result<&'a [ConfigurationItem], Unwritten> {
     // SAFETY: both slices are initialised memory of their lengths and do not overlap.
-    unsafe {
-        raw::fio2070_command_items(
-            octets.as_ptr(),
-            octets.len(),
-            items.as_mut_ptr(),
-            items.len(),
-        )
-    }
+    front(items, |out, room| unsafe {
+        raw::fio2070_command_items(octets.as_ptr(), octets.len(), out, room)
+    })
 }
 
-/// Writes what `fio2070 show` writes of a frame, and returns how many octets it has: 0 where there is no room for all.
-pub fn show(octets: &[u8], text: &mut [u8]) -> usize {
+/// Writes what `fio2070 show` writes of a frame, and a zero octet behind it, which needs room too.
+pub fn show<'a>(octets: &[u8], out: &'a mut [u8]) -> Result<&'a str, Unwritten> {
     // SAFETY: both slices are initialised memory of their lengths and do not overlap.
-    unsafe { raw::fio2070_show(octets.as_ptr(), octets.len(), text.as_mut_ptr(), text.len()) }
+    text(out, |out, room| unsafe {
+        raw::fio2070_show(octets.as_ptr(), octets.len(), out, room)
+    })
 }
 
-/// How many octets `show` writes of a frame.
-pub fn show_length(octets: &[u8]) -> usize {
-    // SAFETY: as in `decode_command`.
-    unsafe { raw::fio2070_show_length(octets.as_ptr(), octets.len()) }
+/// Writes the name of a rule, such as `advance`, and a zero octet behind it, which needs room too; the empty
+/// text for what is no rule.
+pub fn rule_text(rule: u8, out: &mut [u8]) -> Result<&str, Unwritten> {
+    // SAFETY: `out` is initialised and has as many octets as `room` says.
+    text(out, |out, room| unsafe {
+        raw::fio2070_rule_text(rule, out, room)
+    })
+}
+
+/// The same of a rule on content, such as `order`.
+pub fn content_rule_text(rule: u8, out: &mut [u8]) -> Result<&str, Unwritten> {
+    // SAFETY: as in `rule_text`.
+    text(out, |out, room| unsafe {
+        raw::fio2070_content_rule_text(rule, out, room)
+    })
 }
 
 /// The time in milliseconds, modulo 2^32, of an entry with this stamp in an answer with that one.

@@ -1,7 +1,7 @@
 //! The calls and structs of include/fio2070.h that the safe ones use.
 
 /// Why octets are no message: 1 empty, 2 too long, 3 unknown type, 4 wrong length.
-#[derive(Clone, Copy, Debug, PartialEq, Eq)]
+#[derive(Clone, Copy, Debug, Default, PartialEq, Eq)]
 #[repr(C)]
 pub struct Fault {
     pub kind: u8,
@@ -80,6 +80,7 @@ pub(crate) struct RawPoller {
     pub number: u8,
 }
 
+#[derive(Default)]
 #[repr(C)]
 pub(crate) struct RawHeard {
     pub kind: u8,
@@ -222,10 +223,6 @@ extern "C" {
         out: *mut u8,
         out_count: usize,
     ) -> usize;
-    pub(crate) fn fio2070_encode_block_answer_length(
-        entries: *const Entry,
-        entries_count: usize,
-    ) -> usize;
     pub(crate) fn fio2070_encode_watchdog_answer(
         status: u8,
         out: *mut u8,
@@ -238,7 +235,6 @@ extern "C" {
         out: *mut u8,
         out_count: usize,
     ) -> usize;
-    pub(crate) fn fio2070_encode_other_answer_length(code: u8, count: usize) -> usize;
     pub(crate) fn fio2070_decode_answer(
         octets: *const u8,
         octets_count: usize,
@@ -271,10 +267,6 @@ extern "C" {
         out: *mut u8,
         out_count: usize,
     ) -> usize;
-    pub(crate) fn fio2070_encode_configure_inputs_length(
-        items: *const ConfigurationItem,
-        items_count: usize,
-    ) -> usize;
     pub(crate) fn fio2070_encode_raw_inputs(out: *mut u8, out_count: usize) -> usize;
     pub(crate) fn fio2070_encode_filtered_inputs(out: *mut u8, out_count: usize) -> usize;
     pub(crate) fn fio2070_encode_poll(block: u8, out: *mut u8, out_count: usize) -> usize;
@@ -293,7 +285,6 @@ extern "C" {
         out: *mut u8,
         out_count: usize,
     ) -> usize;
-    pub(crate) fn fio2070_encode_other_command_length(code: u8, count: usize) -> usize;
     pub(crate) fn fio2070_decode_command(
         octets: *const u8,
         octets_count: usize,
@@ -323,7 +314,6 @@ extern "C" {
     pub(crate) fn fio2070_counter_line_sync(counter: &mut RawCounter);
     pub(crate) fn fio2070_counter_now(counter: &RawCounter) -> u32;
     pub(crate) fn fio2070_widen(answer_stamp: u32, low: u16) -> u32;
-    pub(crate) fn fio2070_fault_text(fault: &Fault, out: *mut u8, out_count: usize) -> usize;
     pub(crate) fn fio2070_filters_start(filters: &mut RawFilters);
     pub(crate) fn fio2070_filters_scan(filters: &mut RawFilters, raw: u64) -> u64;
     pub(crate) fn fio2070_filters_filtered(filters: &RawFilters) -> u64;
@@ -367,7 +357,6 @@ extern "C" {
         text: *mut u8,
         text_count: usize,
     ) -> usize;
-    pub(crate) fn fio2070_show_length(octets: *const u8, octets_count: usize) -> usize;
     pub(crate) fn fio2070_sized_module_start(
         device: &mut RawSizedModule,
         id: u8,
@@ -403,5 +392,9 @@ extern "C" {
     pub(crate) fn fio2070_sized_module_filtered(device: &RawSizedModule) -> u64;
     pub(crate) fn fio2070_sized_module_raw(device: &RawSizedModule) -> u64;
     pub(crate) fn fio2070_sized_module_waiting(device: &RawSizedModule, capacity: usize) -> usize;
+    pub(crate) fn fio2070_fault_text(fault: &Fault, text: *mut u8, text_count: usize) -> usize;
+    pub(crate) fn fio2070_rule_text(rule: u8, text: *mut u8, text_count: usize) -> usize;
+    pub(crate) fn fio2070_content_rule_text(rule: u8, text: *mut u8, text_count: usize) -> usize;
+    pub(crate) fn fio2070_heard_text(heard: &RawHeard, text: *mut u8, text_count: usize) -> usize;
     pub(crate) fn fio2070_version() -> u32;
 }

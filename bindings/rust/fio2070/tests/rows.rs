@@ -7,17 +7,17 @@ const BLOCK: [u8; 11] = [0xb6, 5, 1, 0x8c, 3, 0xe7, 0, 0, 0, 3, 0xe8];
 #[test]
 fn commands_are_written_and_read() {
     let mut out = [0; LONGEST_FRAME];
-    assert_eq!(status(0x80, &mut out), Some(&[0x31, 0x80][..]));
-    assert_eq!(load_counter(65536, &mut out), Some(&[0x32, 0, 1, 0, 0][..]));
-    assert_eq!(raw_inputs(&mut out), Some(&[0x34][..]));
-    assert_eq!(filtered_inputs(&mut out), Some(&[0x35][..]));
-    assert_eq!(poll(5, &mut out), Some(&[0x36, 5][..]));
-    assert_eq!(poll(5, &mut out[..1]), None);
-    assert_eq!(watchdog(200, &mut out), Some(&[0x3a, 200][..]));
-    assert_eq!(identify(&mut out), Some(&[0x3c][..]));
+    assert_eq!(status(0x80, &mut out), Ok(&[0x31, 0x80][..]));
+    assert_eq!(load_counter(65536, &mut out), Ok(&[0x32, 0, 1, 0, 0][..]));
+    assert_eq!(raw_inputs(&mut out), Ok(&[0x34][..]));
+    assert_eq!(filtered_inputs(&mut out), Ok(&[0x35][..]));
+    assert_eq!(poll(5, &mut out), Ok(&[0x36, 5][..]));
+    assert_eq!(poll(5, &mut out[..1]), Err(Unwritten::NoRoom(2)));
+    assert_eq!(watchdog(200, &mut out), Ok(&[0x3a, 200][..]));
+    assert_eq!(identify(&mut out), Ok(&[0x3c][..]));
     assert_eq!(
         set_outputs(&[1; 8], &[2; 8], &mut out).map(<[u8]>::len),
-        Some(17)
+        Ok(17)
     );
     let items = [
         ConfigurationItem {
@@ -34,27 +34,34 @@ fn commands_are_written_and_read() {
         },
     ];
     let octets = [0x33, 2, 12, 5, 3, 0x83, 0, 0];
-    assert_eq!(configure_inputs(&items, &mut out), Some(&octets[..]));
-    assert_eq!(configure_inputs(&items, &mut out[..7]), None);
-    assert_eq!(configure_inputs_length(&items), Some(8));
+    assert_eq!(configure_inputs(&items, &mut out), Ok(&octets[..]));
     assert_eq!(
-        (other_command_length(56, 0), other_command_length(54, 0)),
-        (Some(1), None)
+        configure_inputs(&items, &mut out[..7]),
+        Err(Unwritten::NoRoom(8))
     );
     assert_eq!(
-        (other_answer_length(183, 772), other_answer_length(183, 773)),
-        (Some(773), None)
+        configure_inputs(&[items[0]; 256], &mut out),
+        Err(Unwritten::NoMessage)
     );
-    assert_eq!(block_answer_length(&[Entry::default()]), Some(11));
     let mut read = [ConfigurationItem::default(); MOST_ENTRIES];
-    assert_eq!(command_items(&octets, &mut read), 2);
-    assert_eq!(read[..2], items);
+    assert_eq!(command_items(&octets, &mut read), Ok(&items[..]));
+    assert_eq!(
+        command_items(&octets, &mut read[..1]),
+        Err(Unwritten::NoRoom(2))
+    );
+    assert_eq!(command_items(&[0x33, 0], &mut read), Ok(&[][..]));
+    assert_eq!(
+        command_items(&[0x36, 5], &mut read),
+        Err(Unwritten::NoMessage)
+    );
     let mut text = [b'?'; 16];
-    assert_eq!(show_length(&[0x36, 5]), 13);
-    assert_eq!(show(&[0x36, 5], &mut text[..12]), 0);
+    assert_eq!(
+        show(&[0x36, 5], &mut text[..13]),
+        Err(Unwritten::NoRoom(14))
+    );
     assert_eq!(text[0], b'?');
-    assert_eq!(show(&[0x36, 5], &mut text), 13);
-    assert_eq!(&text, b"poll block 5\n???");
+    assert_eq!(show(&[0x36, 5], &mut text), Ok("poll block 5\n"));
+    assert_eq!(&text, b"poll block 5\n\0??");
     assert_eq!(
         decode_command(&octets),
         Ok(Command {
@@ -73,10 +80,7 @@ fn answers_are_written_and_read() {
         state: 1,
         stamp: 999,
     };
-    assert_eq!(
-        block_answer(5, &[entry], 0, 1000, &mut out),
-        Some(&BLOCK[..])
-    );
+    assert_eq!(block_answer(5, &[entry], 0, 1000, &mut out), Ok(&BLOCK[..]));
     assert_eq!(
         block_answer(
             5,
@@ -88,26 +92,26 @@ fn answers_are_written_and_read() {
             1000,
             &mut out
         ),
-        None
+        Err(Unwritten::NoMessage)
     );
     assert_eq!(
         status_answer(0x80, 0, 1, 1000, &mut out),
-        Some(&[0xb1, 0x80, 0, 1, 0, 0, 3, 0xe8][..])
+        Ok(&[0xb1, 0x80, 0, 1, 0, 0, 3, 0xe8][..])
     );
-    assert_eq!(load_counter_answer(0xfe, &mut out), Some(&[0xb2, 0xfe][..]));
-    assert_eq!(configure_inputs_answer(1, &mut out), Some(&[0xb3, 1][..]));
+    assert_eq!(load_counter_answer(0xfe, &mut out), Ok(&[0xb2, 0xfe][..]));
+    assert_eq!(configure_inputs_answer(1, &mut out), Ok(&[0xb3, 1][..]));
     assert_eq!(
         raw_inputs_answer(1, 2, &mut out),
-        Some(&[0xb4, 1, 0, 0, 0, 0, 0, 0, 0, 0, 0, 0, 2][..])
+        Ok(&[0xb4, 1, 0, 0, 0, 0, 0, 0, 0, 0, 0, 0, 2][..])
     );
     assert_eq!(
         filtered_inputs_answer(1, 2, &mut out),
-        Some(&[0xb5, 1, 0, 0, 0, 0, 0, 0, 0, 0, 0, 0, 2][..])
+        Ok(&[0xb5, 1, 0, 0, 0, 0, 0, 0, 0, 0, 0, 0, 2][..])
     );
-    assert_eq!(watchdog_answer(1, &mut out), Some(&[0xba, 1][..]));
-    assert_eq!(other_answer(188, &[2], &mut out), Some(&[0xbc, 2][..]));
-    assert_eq!(other_command(56, &[], &mut out), Some(&[0x38][..]));
-    assert_eq!(other_command(54, &[], &mut out), None);
+    assert_eq!(watchdog_answer(1, &mut out), Ok(&[0xba, 1][..]));
+    assert_eq!(other_answer(188, &[2], &mut out), Ok(&[0xbc, 2][..]));
+    assert_eq!(other_command(56, &[], &mut out), Ok(&[0x38][..]));
+    assert_eq!(other_command(54, &[], &mut out), Err(Unwritten::NoMessage));
     let answer = Answer {
         code: 182,
         block: 5,
@@ -117,9 +121,11 @@ fn answers_are_written_and_read() {
     };
     assert_eq!(decode_answer(&BLOCK), Ok(answer));
     let mut entries = [Entry::default(); MOST_ENTRIES];
+    assert_eq!(block_entries(&BLOCK, &mut entries), Ok(&[entry][..]));
+    assert_eq!(block_entries(&BLOCK, &mut []), Err(Unwritten::NoRoom(1)));
     assert_eq!(
-        (block_entries(&BLOCK, &mut entries), entries[0]),
-        (1, entry)
+        block_entries(&[0xb3, 0], &mut entries),
+        Err(Unwritten::NoMessage)
     );
     assert_eq!(
         (widen(0x10002, 0xfffe), widen(5, 0xfffe)),
@@ -161,10 +167,11 @@ fn declared(text: &str, before: &str) -> std::collections::BTreeMap<String, Stri
 fn constants_are_those_of_the_header() {
     let header = include_str!("../../../../include/fio2070.h")
         .replace("= FIO2070_", "= ")
-        .replace("#define FIO2070_VERSION ", "FIO2070_VERSION = ");
+        .replace("#define FIO2070_VERSION ", "FIO2070_VERSION = ")
+        .replace("NO_MESSAGE SIZE_MAX", "NO_MESSAGE = usize::MAX");
     let ours = declared(include_str!("../src/constants.rs"), "pub const ");
     assert_eq!(ours, declared(&header, "FIO2070_"));
-    assert!(ours.len() > 80);
+    assert!(ours.len() > 50);
 }
 
 #[test]
@@ -174,6 +181,37 @@ fn faults_have_words() {
     assert_eq!(words(&[0x30; 774]), "too long got 774");
     assert_eq!(words(&[0x30]), "unknown type 48");
     assert_eq!(words(&[0x33]), "wrong length needed 2 got 1");
+}
+
+#[test]
+fn codes_have_words() {
+    let mut out = [0; constants::LONGEST_TEXT];
+    assert_eq!(rule_text(constants::RULE_ADVANCE, &mut out), Ok("advance"));
+    assert_eq!(rule_text(constants::RULE_NONE, &mut out), Ok(""));
+    assert_eq!(
+        rule_text(constants::RULE_PAIR, &mut out[..4]),
+        Err(Unwritten::NoRoom(5))
+    );
+    assert_eq!(
+        content_rule_text(constants::CONTENT_APART, &mut out),
+        Ok("apart")
+    );
+    assert_eq!(content_rule_text(4, &mut out), Ok(""));
+    let taken = Heard::Taken {
+        entries: 3,
+        status: 0x0c,
+        items: 4,
+    };
+    assert_eq!(taken.to_string(), "block entries 3 status 0c");
+    assert_eq!(Heard::Stale(4).to_string(), "stale 4");
+    assert_eq!(Heard::Other(177).to_string(), "other 177");
+    assert_eq!(Heard::NoRoom(256).to_string(), "no room needed 256");
+    let fault = decode_command(&[0x33]).unwrap_err();
+    assert_eq!(
+        Heard::Unreadable(fault).to_string(),
+        "unreadable wrong length needed 2 got 1"
+    );
+    assert_eq!(Unwritten::NoRoom(5).to_string(), "no room: 5 are needed");
 }
 
 /// Four transitions of inputs 0 and 1 where three may wait: the first is pushed out.

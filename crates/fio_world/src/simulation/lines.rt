@@ -1,18 +1,16 @@
 //! The lines of a report, appended to its text.
-ghost use Rattle.std.specs.Prelude.{◌≡◌, ◌≤◌, ℕ, ◌++◌, IsSomeAnd, OnOk, codes, decimal};
+ghost use Rattle.std.specs.Prelude.{◌≡◌, ℕ, ◌++◌, IsSomeAnd, OnOk};
 ghost use Rattle.fio_module.specs.Settings.{Settings};
 ghost use Rattle.fio_link.specs.Link.{Machine};
 ghost use Rattle.fio_world.specs.ReportLines.{ending_lines, ending_text, heard_line, outcome_line, refusal_in, refused_line, sent_line};
 ghost use Rattle.fio_world.specs.Worlds.{ShowsMachine};
 ghost use Rattle.fio_world.specs.declared.outcome.Outcome.TheVariants as outcomes;
-ghost use Rattle.fio_cpu.specs.declared.poller.Heard.TheVariants as heards;
-ghost use Rattle.fio_text.specs.declared.pieces.TheConstants.{NAME_OCTETS};
 
 use crate::outcome::WorldError;
 use crate::world::World;
 use fio_cpu::{Heard, Item};
 use fio_message::Memory;
-use fio_show::push_items;
+use fio_show::{LINE_OCTETS, push_items, put_heard};
 use fio_text::{push_hexadecimal, push_line};
 use std::alloc::AllocError;
 
@@ -43,46 +41,11 @@ pub(crate) fn push_heard(text: &mut Vec<u8>, number: usize, heard: Heard) -> Res
     ensures { OnOk result (text.new.items
         ≡ text.old.items ++ heard_line number heard) }
 {
-    match heard {
-        Heard::Block { entries, status } => push_taken(text, number, entries, status),
-        Heard::Stale { block } => push_untaken(text, number, b" stale ", block),
-        Heard::Other { code } => push_untaken(text, number, b" other ", code),
-        Heard::Unreadable(fault) => {
-            let line = format!(in *text.allocator(); "{number} unreadable {fault}\n")?;
-            text.extend_from_slice(line.as_bytes())
-        }
-    }
-}
-
-/// Appends that the CPU received a frame that it does not take: why, in words of at most `NAME_OCTETS`, and the octet
-/// that says so.
-fn push_untaken<const N: usize>(
-    text: &mut Vec<u8>,
-    number: usize,
-    words: &[u8; N],
-    octet: u8,
-) -> Result<(), AllocError>
-    requires { N ≤ NAME_OCTETS }
-    ensures { OnOk result (text.new.items ≡ text.old.items
-        ++ (decimal number ++ (words.now ++ (decimal octet ++ codes "\n")))) }
-{
-    push_line!(text; {number as u64} (words) {octet} b"\n")
-}
-
-/// Appends that a block was taken.
-fn push_taken(
-    text: &mut Vec<u8>,
-    number: usize,
-    entries: usize,
-    status: u8,
-) -> Result<(), AllocError>
-    ensures { OnOk result (text.new.items
-        ≡ text.old.items ++ heard_line number (heards.Block entries status)) }
-{
-    push_line!(
-        text;
-        {number as u64} b" block entries " {entries as u64} b" status " [status] b"\n"
-    )
+    let mut line = [0; LINE_OCTETS];
+    let start = put_heard(&mut line, heard);
+    push_line!(text; {number as u64} b" ")?;
+    text.extend_from_slice(&line[start..])?;
+    text.extend_from_slice(b"\n")
 }
 
 /// Appends why the event with this number did not happen, if that is a refusal.

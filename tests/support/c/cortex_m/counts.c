@@ -30,7 +30,8 @@ static struct fio2070_heard heard;
 static struct fio2070_configuration_item items[FIO2070_MOST_ENTRIES];
 static struct fio2070_entry entries[FIO2070_MOST_ENTRIES];
 static struct fio2070_record_item record[FIO2070_MOST_RECORD_ITEMS];
-static uint8_t frame[FIO2070_LONGEST_FRAME], block[FIO2070_LONGEST_FRAME], out[FIO2070_LONGEST_FRAME], text[12288];
+static uint8_t frame[FIO2070_LONGEST_FRAME], block[FIO2070_LONGEST_FRAME], out[FIO2070_LONGEST_FRAME];
+static char text[12288];
 static size_t length, block_length, count;
 static uint64_t levels;
 static uint8_t number;
@@ -105,7 +106,7 @@ static void nothing(void) {}
 static void start(void) { fio2070_module_start(&device, 2, 255); }
 static void decode_command(void) { fault = fio2070_decode_command(frame, length, &command); }
 static void command_items(void) { count = fio2070_command_items(frame, length, items, FIO2070_MOST_ENTRIES); }
-static void configure(void) { fio2070_filters_configure(&filters, items, FIO2070_MOST_ENTRIES); }
+static void configure(void) { count = fio2070_filters_configure(&filters, items, FIO2070_MOST_ENTRIES).kind; }
 static void filters_scan(void) { levels = fio2070_filters_scan(&filters, ~levels); }
 static void encode_items(void) { length = fio2070_encode_configure_inputs(items, FIO2070_MOST_ENTRIES, frame, sizeof frame); }
 static void decode_answer(void) { fault = fio2070_decode_answer(block, block_length, &answer); }
