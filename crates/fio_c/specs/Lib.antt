@@ -1,3 +1,4 @@
 pub mod Flat
+pub mod AnswerNumbers
 pub mod Checkers
 pub mod Version
