@@ -1,18 +1,19 @@
 //! The CPU's end, in memory of the caller.
-ghost use Rattle.std.specs.Prelude.{◌≡◌, ◌<◌, ◌≤◌, ◌++◌, length, map, drop};
+ghost use Rattle.std.specs.Prelude.{◌≡◌, ◌<◌, ◌≤◌, ◌++◌, length, map, drop, Some};
 ghost use Rattle.fio_message.specs.declared.faults.DecodeError.{DecodeError};
 ghost use Rattle.fio_message.specs.Commands.{command_octets};
-ghost use Rattle.fio_message.specs.Decoding.{block_in};
+ghost use Rattle.fio_message.specs.Decoding.{answered_block};
+ghost use Rattle.fio_message.specs.Views.{answer_of};
 ghost use Rattle.fio_message.specs.declared.commands.Command.TheVariants as commands;
 ghost use Rattle.fio_cpu.specs.declared.poller.Heard.TheVariants as outcomes;
-ghost use Rattle.fio_cpu.specs.Hearing.{items_added, HasFewEntries};
+ghost use Rattle.fio_cpu.specs.Hearing.{heard_answer, items_added, HasFewEntries};
 ghost use Rattle.fio_flat.specs.Faults.{NeedFitsFrame};
-ghost use Rattle.fio_flat.specs.Hearing.{Hears, flat_heard, flat_record_item, with_block};
+ghost use Rattle.fio_flat.specs.Hearing.{Hears, HearsAs, flat_heard, flat_record_item, with_block};
 ghost use Rattle.fio_flat.specs.Written.{Writes};
 
 use crate::command_frames::fio2070_encode_poll;
 use crate::faults::{NO_FAULT, fault_from};
-use fio_cpu::{BlockItems, Item, Record, hear_frame};
+use fio_cpu::{BlockItems, Item, Record, hear_read_answer};
 use fio_flat::{Heard, Poller, RecordItem};
 use fio_message::{AnswerView, BlockStatus, read_answer};
 
@@ -65,6 +66,7 @@ pub extern "C" fn fio2070_poller_poll(poller: &Poller, out: &mut [u8]) -> usize
 /// are always enough. Anything else is reported and changes nothing (own profile). Of any block answer
 /// the result has the number and the stamp.
 #[unsafe(no_mangle)]
+#[tactic(auto, using(crate::proofs::Decoded::block_decoded))]
 pub extern "C" fn fio2070_poller_hear(
     poller: &mut Poller,
     octets: &[u8],
@@ -72,8 +74,23 @@ pub extern "C" fn fio2070_poller_hear(
 ) -> Heard
     ensures { Hears poller.old.number octets.now items.old items.new poller.new.number result }
 {
+    match read_answer(octets) {
+        Ok(answer) => hear_answer(poller, &answer, items),
+        Err(error) => Heard {
+            kind: 1,
+            fault: fault_from(error),
+            ..HEARD_NOTHING
+        },
+    }
+}
+
+/// Hears an answer that is read already.
+fn hear_answer(poller: &mut Poller, answer: &AnswerView<'_>, items: &mut [RecordItem]) -> Heard
+    ensures { HearsAs poller.old.number (heard_answer poller.old.number (answer_of answer.now))
+        (answered_block (Some (answer_of answer.now))) items.old items.new poller.new.number result }
+{
     let mut places = ItemSlots { items };
-    let heard = match hear_frame(&mut poller.number, &mut places, octets) {
+    let heard = match hear_read_answer(&mut poller.number, &mut places, answer) {
         Ok(heard) => flat_heard(heard),
         Err(count) => Heard {
             kind: 4,
@@ -81,16 +98,15 @@ pub extern "C" fn fio2070_poller_hear(
             ..HEARD_NOTHING
         },
     };
-    with_block(octets, heard)
+    with_block(heard, answer)
 }
 
-/// Returns what was heard, with the number and the stamp of the block that the octets spell, if they spell
-/// one.
-fn with_block(octets: &[u8], heard: Heard) -> Heard
-    ensures { result ≡ with_block (block_in octets.now) heard }
+/// Returns what was heard, with the number and the stamp of the answer, if it is a block.
+fn with_block(heard: Heard, answer: &AnswerView<'_>) -> Heard
+    ensures { result ≡ with_block (answered_block (Some (answer_of answer.now))) heard }
 {
-    match read_answer(octets) {
-        Ok(AnswerView::Block { block, stamp, .. }) => Heard {
+    match *answer {
+        AnswerView::Block { block, stamp, .. } => Heard {
             number: block,
             stamp,
             ..heard

@@ -164,7 +164,7 @@ static void polls_a_module() {
     auto heard = poller.hear(*answer);
     CHECK(heard.is_taken() && heard.entries() == 1 && heard.status() == 0 && poller.number() == 6);
     CHECK(poller.record().size() == 1 && poller.record()[0].input == 12 && poller.record()[0].wide == 1);
-    CHECK(poller.hear(*answer).kind() == FIO2070_HEARD_STALE && poller.hear(*answer).stale_number() == 5);
+    CHECK(poller.hear(*answer).kind() == FIO2070_HEARD_STALE && poller.hear(*answer).number() == 5);
     CHECK(poller.hear(List({0xb3, 0})).other_code() == 179);
     CHECK(poller.hear(List()).kind() == FIO2070_HEARD_UNREADABLE && poller.hear(List()).fault().text() == "empty");
     CHECK(poller.hear(List({0xb6, 6, 0, 12, 0, 0, 0, 1})).is_taken() && poller.record().size() == 2);
