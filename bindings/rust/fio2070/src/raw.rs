@@ -25,7 +25,7 @@ pub struct Entry {
 #[repr(C)]
 pub struct ConfigurationItem {
     pub input: u8,
-    pub ignore: u8,
+    pub ignore: bool,
     pub leading: u8,
     pub trailing: u8,
 }
@@ -67,7 +67,7 @@ pub struct Answer {
 #[derive(Clone, Copy, Debug, Default, PartialEq, Eq)]
 #[repr(C)]
 pub struct RecordItem {
-    pub gap: u8,
+    pub gap: bool,
     pub input: u8,
     pub state: u8,
     pub reserved: [u8; 3],
@@ -130,7 +130,7 @@ pub(crate) struct RawCounter {
 #[repr(C)]
 pub struct Breach {
     pub rule: u8,
-    pub has_due: u8,
+    pub has_due: bool,
     pub due: u8,
     pub got: u8,
 }
