@@ -5,7 +5,11 @@ import os
 from ctypes import POINTER, c_char_p, c_size_t, c_uint8, c_uint16, c_uint32, c_uint64
 from typing import Any
 
-from .constants import LONGEST_FAULT_TEXT, LONGEST_FRAME, MOST_ENTRIES, MOST_RECORD_ITEMS
+# With these the calls take their arrays.
+from .constants import LONGEST_FAULT_TEXT as LONGEST_FAULT_TEXT
+from .constants import LONGEST_FRAME as LONGEST_FRAME
+from .constants import MOST_ENTRIES as MOST_ENTRIES
+from .constants import MOST_RECORD_ITEMS as MOST_RECORD_ITEMS
 
 
 def _load() -> ctypes.CDLL:
