@@ -155,7 +155,8 @@ $(OUT)/aarch64/libfio2070.a: crates/fio_c/out/aarch64-unknown-linux-gnu/libfio_c
 $(module): crates/fio_c/out/$(wasm)/libfio_c.a
 	'$(kit)/bin/rattle-link' --target $(wasm) --toolchain '$(kit)/toolchain' --stack 65536 -o $@ $<
 
-# The portable library: fio2070.c and fio2070.h, two files of C99 for any processor (tools/portable/README.md).
+# The portable library: fio2070.c and fio2070.h, two files of C99 for any processor, with the header for C++ beside them
+# (tools/portable/README.md).
 
 portable = portable
 translator = $(addprefix tools/portable/,translate instructions.py functions.py module.py accesses.py ahead.py loops.py head.c machine.c calls.c)
@@ -164,18 +165,19 @@ translator = $(addprefix tools/portable/,translate instructions.py functions.py 
 
 portable: $(portable)/fio2070.c
 
-$(portable)/fio2070.c: $(module) include/fio2070.h $(translator)
+$(portable)/fio2070.c: $(module) $(headers) $(translator)
 	tools/portable/translate $(module) include/fio2070.h $(portable) \
 	    --made-from "$$(git describe --always --dirty 2>/dev/null || echo unknown)" --kit "$$(rt --version)" \
 	    --proof "$$(cat crates/fio_c/out/$(wasm)/proof 2>/dev/null || echo unknown)"
+	cp include/fio2070.hpp $(portable)
 
-# The shared library has the tester too.
+# The shared library has the tester too. It exports no name but those that begin with `fio2070_`.
 tester = $(wildcard tools/conformance/conformance*.c)
 exports = tools/conformance/exports.map
 
-$(OUT)/$(soname): $(OUT)/libfio2070.a $(tester) $(exports)
+$(OUT)/$(soname): $(OUT)/libfio2070.a $(tester) tools/conformance/shared.c $(exports)
 	$(CC) -O2 -fPIC -I include -shared -Wl,-soname,$(soname) -Wl,--version-script=$(exports) $(tester) \
-	    -Wl,--whole-archive $< -Wl,--no-whole-archive -o $@
+	    tools/conformance/shared.c -Wl,--whole-archive $< -Wl,--no-whole-archive -o $@
 
 # The name by which a program is linked.
 $(OUT)/libfio2070.so: $(OUT)/$(soname)

@@ -55,24 +55,27 @@
 #define FIO2070_MUST_USE
 #endif
 
-#ifdef __cplusplus
-extern "C" {
-#endif
-
 /* Not in the header of the portable library: */
 #if defined(__GNUC__) && !defined(FIO2070_PORTABLE)
 /** Returns 1 if the processor that runs the program has the instructions that the archive is made of, else 0: there any
- * other call may end the program. It is compiled with the program, by gcc and clang alone, and is not proved. */
+ * other call may end the program. It asks the processor itself, so it may be called at any time, as in a constructor. It is
+ * compiled with the program, by gcc and clang alone, and is not proved. */
 static inline uint8_t fio2070_processor_fits(void) {
 #if defined(__x86_64__)
-    __builtin_cpu_init();
-    return __builtin_cpu_supports("sse4.2") && __builtin_cpu_supports("popcnt");
+    const uint32_t needed = 0x980201u; /* SSE3, SSSE3, SSE4.1, SSE4.2, POPCNT */
+    uint32_t leaf = 1, has = 0;
+    __asm__("cpuid" : "+a"(leaf), "+c"(has) : : "ebx", "edx");
+    return (has & needed) == needed;
 #else
     return 1;
 #endif
 }
 #endif
 /* So far. */
+
+#ifdef __cplusplus
+extern "C" {
+#endif
 
 /** The version of this header: 10,000 for each major version, 100 for each minor one, 1 for each patch. */
 #define FIO2070_VERSION 10000
@@ -277,6 +280,15 @@ size_t fio2070_command_items(const uint8_t *octets, size_t length, struct fio207
 FIO2070_MUST_USE
 struct fio2070_fault fio2070_decode_answer(const uint8_t *octets, size_t length, struct fio2070_answer *answer);
 
+/** Reads the module's millisecond counter in its answer to command 55: answer 183, in the own profile the octet 0 and the
+ * stamp, 6 octets in all. The octet before the stamp, octets[1], is not looked at. After a fault `stamp` is unchanged. Any
+ * other answer is an unknown type here. */
+struct fio2070_fault fio2070_read_outputs_answer(const uint8_t *octets, size_t length, uint32_t *stamp);
+
+/** Reads which module answered command 60: answer 188, in the own profile one octet, 2 octets in all. After a fault `id` is
+ * unchanged. Any other answer is an unknown type here. */
+struct fio2070_fault fio2070_read_identification(const uint8_t *octets, size_t length, uint8_t *id);
+
 /** Writes the text that `fio2070 show` writes of a frame, with a line feed behind each line: the lines of the message,
  * of an answer where the first octet is 128 or more, else of a command; where it is none the words of the fault. */
 FIO2070_MUST_USE
@@ -352,9 +364,9 @@ size_t fio2070_encode_other_answer(uint8_t code, const uint8_t *body, size_t len
 
 /* ---- The CPU's end (own profile) ---- */
 
-/** The CPU's end. The caller sets the first number, and keeps the record. */
+/** The CPU's end. The caller keeps the record. */
 struct fio2070_poller {
-    /** The block number of the next poll. The caller sets the first one. */
+    /** The block number of the next poll. */
     uint8_t number;
 };
 
@@ -386,24 +398,30 @@ enum fio2070_heard_kind {
 /** What a poller heard. Numbers that a kind does not have are 0. */
 struct fio2070_heard {
     /** 0 a block that was taken, with `entries` and `status`; 1 no answer, with `fault`; 2 another answer,
-     *  with its type `code`; 3 a stale block, with its `number`; 4 no room for `items`. */
+     *  with its type `code`; 3 a stale block; 4 a block with no room for its `items`. */
     uint8_t kind;
     /** The type of another answer. */
     uint8_t code;
-    /** The number of a stale block. */
+    /** The number of a block, for kinds 0, 3 and 4. */
     uint8_t number;
     /** The status of a block that was taken, with C, F, E and G in bits 3 to 0. */
     uint8_t status;
-    /** How many entries a block has that was taken. */
-    uint8_t entries;
-    /** 0 where the library writes it. */
-    uint8_t reserved;
+    /** The module's millisecond counter when a block was made, for kinds 0, 3 and 4. */
+    uint32_t stamp;
     /** How many items were written, or would have been with room for them: at most 256. */
     uint16_t items;
+    /** How many entries a block has that was taken. */
+    uint8_t entries;
+    /** 0 in each octet that the library writes. */
+    uint8_t reserved[5];
     /** Why the octets are no answer. */
     struct fio2070_fault fault;
 };
 
+/** Starts a poller whose first poll asks for the block with this number (own profile). A CPU that goes on with the number
+ * that it kept loses nothing and records nothing twice. One that starts anew with the number of the module's last poll
+ * gets that poll's block again, with E, and records it a second time. */
+void fio2070_poller_start(struct fio2070_poller *poller, uint8_t number);
 /** Writes a poll with the present number. 2 octets. */
 FIO2070_MUST_USE
 size_t fio2070_poller_poll(const struct fio2070_poller *poller, uint8_t *out, size_t room);
@@ -411,7 +429,7 @@ size_t fio2070_poller_poll(const struct fio2070_poller *poller, uint8_t *out, si
 /** Hears the octets of a frame. A block answer with the present number is taken whole: what it adds to
  * the record is written to the front of `items`, a gap mark if F is set and then its entries in order,
  * and the number rises by one modulo 256. In all other cases nothing changes; a block with no room
- * can be heard again with more. 256 items are always enough. */
+ * can be heard again with more. 256 items are always enough. Of any block the number and the stamp are said. */
 struct fio2070_heard fio2070_poller_hear(struct fio2070_poller *poller, const uint8_t *octets, size_t length,
                                          struct fio2070_record_item *items, size_t room);
 
@@ -470,6 +488,8 @@ struct fio2070_checker {
     uint8_t more;
     /** 1 below a breach, until the next poll. */
     uint8_t skips;
+    /** 0 in each octet that the library writes. */
+    uint8_t reserved[7];
 };
 
 /** The first rule that a frame breaks, and what was due. */
@@ -811,7 +831,7 @@ FIO2070_SAME(entry, sizeof(struct fio2070_entry) == 4 &&
              offsetof(struct fio2070_entry, state) == 1 &&
              offsetof(struct fio2070_entry, stamp) == 2);
 
-FIO2070_SAME(checker, sizeof(struct fio2070_checker) == 9 &&
+FIO2070_SAME(checker, sizeof(struct fio2070_checker) == 16 &&
              offsetof(struct fio2070_checker, awaited) == 1 &&
              offsetof(struct fio2070_checker, absent_named) == 2 &&
              offsetof(struct fio2070_checker, has_polled) == 3 &&
@@ -819,7 +839,8 @@ FIO2070_SAME(checker, sizeof(struct fio2070_checker) == 9 &&
              offsetof(struct fio2070_checker, answered) == 5 &&
              offsetof(struct fio2070_checker, advanced) == 6 &&
              offsetof(struct fio2070_checker, more) == 7 &&
-             offsetof(struct fio2070_checker, skips) == 8);
+             offsetof(struct fio2070_checker, skips) == 8 &&
+             offsetof(struct fio2070_checker, reserved) == 9);
 
 FIO2070_SAME(breach, sizeof(struct fio2070_breach) == 4 &&
              offsetof(struct fio2070_breach, has_due) == 1 &&
@@ -870,14 +891,15 @@ FIO2070_SAME(record_item, sizeof(struct fio2070_record_item) == 12 &&
              offsetof(struct fio2070_record_item, stamp) == 6 &&
              offsetof(struct fio2070_record_item, wide) == 8);
 
-FIO2070_SAME(heard, sizeof(struct fio2070_heard) == 24 &&
+FIO2070_SAME(heard, sizeof(struct fio2070_heard) == 32 &&
              offsetof(struct fio2070_heard, code) == 1 &&
              offsetof(struct fio2070_heard, number) == 2 &&
              offsetof(struct fio2070_heard, status) == 3 &&
-             offsetof(struct fio2070_heard, entries) == 4 &&
-             offsetof(struct fio2070_heard, reserved) == 5 &&
-             offsetof(struct fio2070_heard, items) == 6 &&
-             offsetof(struct fio2070_heard, fault) == 8);
+             offsetof(struct fio2070_heard, stamp) == 4 &&
+             offsetof(struct fio2070_heard, items) == 8 &&
+             offsetof(struct fio2070_heard, entries) == 10 &&
+             offsetof(struct fio2070_heard, reserved) == 11 &&
+             offsetof(struct fio2070_heard, fault) == 16);
 
 FIO2070_SAME(sized_module, sizeof(struct fio2070_sized_module) == 1056);
 

@@ -136,6 +136,20 @@ inline Read<BlockHeader> read_block(Octets octets) {
     return {fault, header};
 }
 
+/// The module's millisecond counter in its answer to command 55 (answer 183).
+inline Read<std::uint32_t> read_outputs_answer(Octets octets) {
+    std::uint32_t stamp = 0;
+    ::fio2070_fault fault = ::fio2070_read_outputs_answer(octets.data(), octets.size(), &stamp);
+    return {fault, stamp};
+}
+
+/// Which module answered command 60 (answer 188).
+inline Read<std::uint8_t> read_identification(Octets octets) {
+    std::uint8_t id = 0;
+    ::fio2070_fault fault = ::fio2070_read_identification(octets.data(), octets.size(), &id);
+    return {fault, id};
+}
+
 /// The entries of a block answer; none where the octets are no block answer.
 inline std::vector<Entry> block_entries(Octets octets) {
     std::vector<Entry> entries(FIO2070_MOST_ENTRIES);
@@ -296,7 +310,9 @@ public:
     /// How many items joined the record.
     constexpr std::uint16_t items() const { return heard_.items; }
     constexpr std::uint8_t status() const { return heard_.status; }
-    constexpr std::uint8_t stale_number() const { return heard_.number; }
+    /// The number and the stamp of a block, taken or not; 0 of anything else.
+    constexpr std::uint8_t number() const { return heard_.number; }
+    constexpr std::uint32_t stamp() const { return heard_.stamp; }
     constexpr std::uint8_t other_code() const { return heard_.code; }
     constexpr Fault fault() const { return Fault(heard_.fault); }
     /// As `fio2070 simulate` writes it.
@@ -311,7 +327,8 @@ private:
 /// The CPU's end, with its record.
 class Poller {
 public:
-    explicit Poller(std::uint8_t number = 0) : poller_{number} {}
+    /// The first poll asks for the block with this number (see fio2070_poller_start).
+    explicit Poller(std::uint8_t number) { ::fio2070_poller_start(&poller_, number); }
     std::uint8_t number() const { return poller_.number; }
     Frame poll() const { return encode::poll(poller_.number); }
     /// Where memory runs out it throws std::bad_alloc, and nothing has changed.
@@ -338,7 +355,7 @@ private:
         std::size_t needed = record_.size() + more;
         return needed <= record_.capacity() ? needed : 2 * needed;
     }
-    ::fio2070_poller poller_;
+    ::fio2070_poller poller_{};
     std::vector<RecordItem> record_;
 };
 

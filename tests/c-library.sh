@@ -101,9 +101,9 @@ alone() {
     nm -g "$1" >names && ! awk '$1 == "U" { print $2 }' names | sort -u | grep -Ev '^mem(cpy|move|set)$'
 }
 
-# prefixed LIBRARY: the shared library exports no name of another kind.
+# prefixed LIBRARY: the shared library exports what the header declares and the tester's calls for languages that load it.
 prefixed() {
-    nm -D --defined-only "$1" >names && ! awk '{ print $3 }' names | grep -Ev '^(fio2070|conformance|CONFORMANCE)_'
+    nm -D --defined-only "$1" >names && awk '{ print $3 }' names | grep -v '^fio2070_tester_' | sort | diff exported -
 }
 
 # exports ARCHIVE: it has exactly the functions that the header declares.
@@ -140,13 +140,24 @@ misused() {
     done
 }
 
-# tells PROGRAM RUN..: run so, the header tells the program that the processor fits, in `main` and in its first constructor.
+# tells PROGRAM RUN..: run so, the header tells the program that the processor fits, in `main`, in its first constructor,
+# before all constructors, and where a call is bound.
 tells() {
     cat >fitting.c <<'end'
 #include "fio2070.h"
-static int early = 7;
+static int early = 7, first = 7, resolved(void);
 __attribute__((constructor(101))) static void begin(void) { early = fio2070_processor_fits(); }
-int main(void) { return early == fio2070_processor_fits() ? early != 1 : 3; }
+static void begin_before(void) { first = fio2070_processor_fits(); }
+__attribute__((section(".preinit_array"), used)) static void (*const before)(void) = begin_before;
+static int no(void) { return 0; }
+static int yes(void) { return 1; }
+typedef int answer(void);
+__attribute__((used)) static answer *resolve(void) { return fio2070_processor_fits() ? yes : no; }
+static int resolved(void) __attribute__((ifunc("resolve")));
+int main(void) {
+    int fits = fio2070_processor_fits();
+    return early == fits && first == fits && resolved() == fits ? fits != 1 : 3;
+}
 end
     # shellcheck disable=SC2086
     cc -std=c99 $strict -I "$top/include" fitting.c -o "$1" || return 2
@@ -266,7 +277,7 @@ if [ -n "$(command -v python3)" ]; then
     holds 'Python' env -C "$top/bindings/python" PYTHONDONTWRITEBYTECODE=1 FIO2070_LIBRARY="$room/libfio2070.so" \
         python3 test.py
     if has_command mypy; then
-        holds 'type hints' mypy --cache-dir="$room/mypy" "$top/bindings/python/fio2070"
+        holds 'type hints' mypy --strict --cache-dir="$room/mypy" "$top/bindings/python/fio2070"
     else
         skip 'type hints' 'no mypy here (Debian package mypy)'
     fi
@@ -288,6 +299,10 @@ fi
 if [ -n "$(command -v cargo)" ]; then
     holds 'Rust' env -C "$top/bindings/rust/fio2070" FIO2070_LIB_DIR="$room" CARGO_TARGET_DIR="$room/target" \
         cargo test --offline --quiet
+    holds 'Rust without std' env -C "$top/bindings/rust/fio2070" FIO2070_LIB_DIR="$room" CARGO_TARGET_DIR="$room/target" \
+        cargo build --offline --quiet --no-default-features
+    # That of Debian 12 reads no lock file of a later version.
+    holds 'the lock file of Rust' grep -qx 'version = 3' "$top/bindings/rust/fio2070/Cargo.lock"
     holds 'Rust without the library' names_variable
 else
     skip 'Rust' 'cargo is not installed'

@@ -192,6 +192,13 @@ def polls():
     return None if ours.returncode == 0 and ours.stdout == due.stdout != '' else ours.stdout + ours.stderr
 
 
+def wraps():
+    """The header for C++ that stands beside the library holds its rows over it."""
+    return object_fault('gcc') or fault_of(
+        'g++', '-std=c++17', '-O1', '-Wall', '-Wextra', '-Wpedantic', '-Werror', '-I', PORTABLE,
+        os.path.join(TOP, 'tests/support/c/wrapper.cpp'), path('gcc.o'), '-o', path('wrapper')) or fault_of(path('wrapper'))
+
+
 @functools.cache
 def tester_fault():
     """Builds the tester over that object. Returns what failed."""
@@ -246,6 +253,10 @@ for compiler in ('gcc', 'clang'):
     check.fault('frames and links by ' + compiler, lambda by: build(by, ['-O1', *(FAULTS.get(by, []) if check.given.all else [])], by) or differs([path(by)]), compiler)
 check.fault('the decoder of the examples', shows)
 check.fault('the poller of the examples', polls)
+if shutil.which('g++'):
+    check.fault('the header for C++', wraps)
+else:
+    check.skip('the header for C++', 'no g++ here')
 for end in ('module', 'cpu'):
     check.fault('the tester: ' + end, is_tested, end)
 others()

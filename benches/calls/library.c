@@ -506,9 +506,10 @@ static void count_hearing(struct fio2070_poller *poller, const char *name, struc
 
 static void count_poller(void) {
     static const uint8_t load[] = {178, 0}, watchdog[] = {186, 1}, cut[] = {182, 0}, command[] = {54, 1};
-    struct fio2070_poller poller = {0};
+    struct fio2070_poller poller;
     struct frame frame;
     int turn;
+    fio2070_poller_start(&poller, 0);
     says("write_polls", "poller_poll", "", MANY);
     kept += write_polls(&poller, MANY);
     count_hearing(&poller, "stale block of 255 entries", block_frame(200, 255), block_frame(201, 255));

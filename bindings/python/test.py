@@ -108,6 +108,30 @@ class Messages(unittest.TestCase):
                              (b'', 'unreadable empty'), (BLOCK[:-1], 'unreadable wrong length needed 11 got 10')]:
             self.assertEqual(fio2070.Poller(5).hear(octets).text, text)
 
+    def test_answers_of_one_number(self):
+        self.assertEqual(fio2070.read_outputs_answer(bytearray(b'\xb7\0\1\2\3\4')), 0x01020304)
+        self.assertEqual(fio2070.read_identification(b'\xbc\xfe'), 0xfe)
+        for call, octets, text in [(fio2070.read_outputs_answer, b'\xb7\0', 'wrong length needed 6 got 2'),
+                                   (fio2070.read_outputs_answer, b'\xbc\2', 'unknown type 188'),
+                                   (fio2070.read_identification, b'', 'empty')]:
+            with self.assertRaises(fio2070.Fault) as caught:
+                call(octets)
+            self.assertEqual(str(caught.exception), text)
+
+    def test_texts_of_objects(self):
+        checker, counter = fio2070.Checker(), fio2070.Counter()
+        self.assertEqual(repr(checker), '<Checker polled=None awaited=None skips=False>')
+        checker.sent(encode.poll(5))
+        counter.tick()
+        for one, text in [(fio2070.Poller(5), '<Poller number=5 items=0>'), (counter, '<Counter now=1>'),
+                          (checker, '<Checker polled=5 awaited=182 skips=False>'),
+                          (fio2070.ContentChecker(), '<ContentChecker>'),
+                          (fio2070.Filters(), '<Filters filtered=%s raw=%s>' % ('f' * 16, 'f' * 16)),
+                          (fio2070.Module(), '<Module counter=0 waiting=0 flags=80>')]:
+            self.assertEqual(repr(one), text)
+        self.assertEqual(repr(tester.CpuMix(1, 2)), 'CpuMix(lost_polls=1, lost_answers=2, late_answers=0, repeats=0, '
+                         'others=0, hostile=0, overflows=0, orderly=0)')
+
     def test_faults_pickle(self):
         with self.assertRaises(fio2070.Fault) as caught:
             fio2070.decode_command(b'\x33')
@@ -159,12 +183,12 @@ class Ends(unittest.TestCase):
         self.assertEqual((module.counter, module.waiting, module.watchdog_ms), (999, 1, None))
         answer = module.receive(poller.poll())
         self.assertEqual(answer.hex(), 'b605010c03e700000003e7')
-        self.assertEqual(poller.hear(answer), fio2070.Heard('taken', entries=1))
+        self.assertEqual(poller.hear(answer), fio2070.Heard('taken', entries=1, number=5, stamp=999))
         self.assertEqual(poller.record, [(False, 12, 0, 999, 999)])
-        self.assertEqual(poller.hear(answer), fio2070.Heard('stale', number=5))
+        self.assertEqual(poller.hear(answer), fio2070.Heard('stale', number=5, stamp=999))
         lost = fio2070.Poller(255)
         self.assertEqual(lost.hear(encode.block_answer(255, [Entry(12, 1, 999)], 0x0c, 1000)),
-                         fio2070.Heard('taken', entries=1, status=0x0c))
+                         fio2070.Heard('taken', entries=1, status=0x0c, number=255, stamp=1000))
         self.assertEqual((lost.number, lost.record), (0, [(True, 0, 0, 0, 0), (False, 12, 1, 999, 999)]))
         self.assertEqual(poller.hear(b'\xb3\0'), fio2070.Heard('other', code=179))
         self.assertEqual(str(poller.hear(b'').fault), 'empty')

@@ -188,7 +188,7 @@ int main(int count, char **words) {
         printf("no answer in %lu ms\n", bench.ms);
         return 1;
     }
-    poller.number = 0;
+    fio2070_poller_start(&poller, 0);
     do {
         entries = take_block(&link, &poller);
     } while (entries > 0 || (entries == 0 && bench.ms <= WAVE_MS));

@@ -41,7 +41,7 @@ static uint8_t watchdog_ms(void *context) {
 
 static void reset_cpu(void *context, uint8_t number) {
     (void)context;
-    poller.number = number;
+    fio2070_poller_start(&poller, number);
 }
 
 static size_t poll(void *context, uint8_t frame[FIO2070_LONGEST_FRAME]) {

@@ -233,6 +233,27 @@ struct fio2070_fault fio2070_decode_answer(const uint8_t *octets, size_t length,
     return fault_in(fault);
 }
 
+struct fio2070_fault fio2070_read_outputs_answer(const uint8_t *octets, size_t length, uint32_t *stamp) {
+    uint8_t fault[16] = {0}, into[4] = {0};
+    MACHINE(fio2070_read_outputs_answer);
+    {
+        uint64_t a = WRITES(fault, 16), b = READS(octets, length), c = WRITES(into, 4);
+        call_fio2070_read_outputs_answer(&machine, a, b, length, c);
+    }
+    if (fault[0] == FIO2070_FAULT_NONE) *stamp = get32(into);
+    return fault_in(fault);
+}
+
+struct fio2070_fault fio2070_read_identification(const uint8_t *octets, size_t length, uint8_t *id) {
+    uint8_t fault[16] = {0};
+    MACHINE(fio2070_read_identification);
+    {
+        uint64_t a = WRITES(fault, 16), b = READS(octets, length), c = WRITES(id, 1);
+        call_fio2070_read_identification(&machine, a, b, length, c);
+    }
+    return fault_in(fault);
+}
+
 /* ---- Writing: calls that take numbers, and octets to write to ---- */
 
 #define ENCODES(name, takes, ...)                                          \
@@ -293,14 +314,19 @@ size_t fio2070_encode_block_answer(uint8_t block, const struct fio2070_entry *en
 
 /* ---- The CPU's end ---- */
 
+void fio2070_poller_start(struct fio2070_poller *poller, uint8_t number) {
+    MACHINE(fio2070_poller_start);
+    call_fio2070_poller_start(&machine, WRITES(poller, 1), number);
+}
+
 struct fio2070_heard fio2070_poller_hear(struct fio2070_poller *poller, const uint8_t *octets, size_t length,
                                          struct fio2070_record_item *items, size_t room) {
-    uint8_t into[24] = {0};
+    uint8_t into[32] = {0};
     struct fio2070_heard heard;
     size_t place;
     MACHINE(fio2070_poller_hear);
     {
-        uint64_t a = WRITES(into, 24), b = WRITES(poller, 1), c = READS(octets, length),
+        uint64_t a = WRITES(into, 32), b = WRITES(poller, 1), c = READS(octets, length),
                  d = WRITES(items, room * sizeof *items);
         call_fio2070_poller_hear(&machine, a, b, c, length, d, room);
     }
@@ -309,9 +335,10 @@ struct fio2070_heard fio2070_poller_hear(struct fio2070_poller *poller, const ui
     heard.code = into[1];
     heard.number = into[2];
     heard.status = into[3];
-    heard.entries = into[4];
-    heard.items = get16(into + 6);
-    heard.fault = fault_in(into + 8);
+    heard.stamp = get32(into + 4);
+    heard.items = get16(into + 8);
+    heard.entries = into[10];
+    heard.fault = fault_in(into + 16);
     for (place = 0; !IS_LITTLE && heard.kind == FIO2070_HEARD_TAKEN && place < heard.items; place++) {
         struct fio2070_record_item *it = &items[place];
         it->stamp = get16((const uint8_t *)&it->stamp);

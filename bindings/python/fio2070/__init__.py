@@ -18,7 +18,8 @@ from .records import Answer, Breach, Command, ConfigurationItem, ContentBreach, 
 
 __all__ = ['Answer', 'Breach', 'Checker', 'Command', 'ConfigurationItem', 'ContentBreach', 'ContentChecker', 'Counter',
            'Entry', 'Fault', 'Filters', 'Heard', 'Module', 'Octets', 'Poller', 'RecordItem', 'SizedModule', 'constants',
-           'content_rule_text', 'decode_answer', 'decode_command', 'encode', 'rule_text', 'show', 'version', 'widen']
+           'content_rule_text', 'decode_answer', 'decode_command', 'encode', 'read_identification', 'read_outputs_answer',
+           'rule_text', 'show', 'version', 'widen']
 
 
 def _text(name: str, of: Any) -> str:
@@ -70,7 +71,7 @@ def _written(count: int) -> int:
 def show(octets: Octets) -> str:
     """What `fio2070 show` writes of a frame, or the words of its fault and a line feed."""
     octets = bytes(octets)
-    text = (c.c_uint8 * (c.library.fio2070_show(octets, len(octets), None, 0) + 1))()
+    text = (ctypes.c_uint8 * (c.library.fio2070_show(octets, len(octets), None, 0) + 1))()
     count = c.library.fio2070_show(octets, len(octets), text, len(text))
     return bytes(text[:count]).decode('ascii')
 
@@ -89,6 +90,29 @@ def decode_answer(octets: Octets) -> Answer:
                   [Entry(one.input, one.state, one.stamp) for one in entries[:_written(count)]])
 
 
+def _read_number(call: Any, number: Any, octets: Octets) -> int:
+    octets = bytes(octets)
+    fault = call(octets, len(octets), number)
+    if fault.kind != 0:
+        raise _fault(fault)
+    return int(number.value)
+
+
+def read_outputs_answer(octets: Octets) -> int:
+    """The module's millisecond counter in its answer to command 55 (answer 183). Raises Fault for anything else."""
+    return _read_number(c.library.fio2070_read_outputs_answer, ctypes.c_uint32(), octets)
+
+
+def read_identification(octets: Octets) -> int:
+    """Which module answered command 60 (answer 188). Raises Fault for anything else."""
+    return _read_number(c.library.fio2070_read_identification, ctypes.c_uint8(), octets)
+
+
+def _shown(one: object, **values: object) -> str:
+    """The text of an object: its class and these values."""
+    return '<%s%s>' % (type(one).__name__, ''.join(' %s=%s' % pair for pair in values.items()))
+
+
 def widen(answer_stamp: int, stamp: int) -> int:
     """The time in milliseconds, modulo 2^32, of an entry with this stamp in an answer with that one."""
     encode.check_range(2**32, answer_stamp)
@@ -97,12 +121,14 @@ def widen(answer_stamp: int, stamp: int) -> int:
 
 
 class Heard(NamedTuple):
-    """What a poller heard: 'taken', 'unreadable', 'other' or 'stale', and the numbers that it has."""
+    """What a poller heard: 'taken', 'unreadable', 'other' or 'stale', and the numbers that it has; those of a block, taken or
+    stale, are its number and its stamp, the module's millisecond counter when it was made."""
     kind: str
     entries: int = 0
     status: int = 0
     code: int = 0
     number: int = 0
+    stamp: int = 0
     fault: Optional[Fault] = None
 
     @property
@@ -118,12 +144,17 @@ class Heard(NamedTuple):
 class Poller:
     """The CPU's end, with its record."""
 
-    def __init__(self, number: int = 0) -> None:
-        """`number` is that of the first block to ask for, 0 to 255."""
+    def __init__(self, number: int) -> None:
+        """`number` is that of the first block to ask for, 0 to 255. A CPU that goes on with the number that it kept loses
+        nothing and records nothing twice; one that starts anew with that of the module's last poll records its block again."""
         encode.check_range(256, number)
-        self._poller = c.CPoller(number)
+        self._poller = c.CPoller()
+        c.library.fio2070_poller_start(self._poller, number)
         self._items = (c.CRecordItem * c.MOST_RECORD_ITEMS)()
         self.record: List[RecordItem] = []
+
+    def __repr__(self) -> str:
+        return _shown(self, number=self.number, items=len(self.record))
 
     @property
     def number(self) -> int:
@@ -141,12 +172,12 @@ class Poller:
         if heard.kind == 0:
             self.record.extend(RecordItem(bool(one.gap), one.input, one.state, one.stamp, one.wide)
                                for one in self._items[:heard.items])
-            return Heard('taken', entries=heard.entries, status=heard.status)
+            return Heard('taken', entries=heard.entries, status=heard.status, number=heard.number, stamp=heard.stamp)
         if heard.kind == 1:
             return Heard('unreadable', fault=_fault(heard.fault))
         if heard.kind == 2:
             return Heard('other', code=heard.code)
-        return Heard('stale', number=heard.number)
+        return Heard('stale', number=heard.number, stamp=heard.stamp)
 
 
 class Checker:
@@ -155,6 +186,11 @@ class Checker:
     def __init__(self) -> None:
         self._checker, self._breach = c.CChecker(), c.CBreach()
         c.library.fio2070_checker_start(self._checker)
+
+    def __repr__(self) -> str:
+        kept = self._checker
+        return _shown(self, polled=kept.polled if kept.has_polled else None,
+                      awaited=kept.awaited if kept.has_awaited else None, skips=bool(kept.skips))
 
     def sent(self, octets: Octets) -> Optional[Breach]:
         """The breach of a frame that the CPU sent; None where it keeps the rules."""
@@ -178,6 +214,9 @@ class ContentChecker:
         self._content, self._breach = c.CContentChecker(), c.CContentBreach()
         c.library.fio2070_content_start(self._content)
 
+    def __repr__(self) -> str:
+        return _shown(self)
+
     def sent(self, octets: Octets) -> None:
         """Takes a frame that the CPU sent."""
         octets = bytes(octets)
@@ -197,6 +236,9 @@ class Counter:
     def __init__(self) -> None:
         self._counter = c.CCounter()
         c.library.fio2070_counter_start(self._counter)
+
+    def __repr__(self) -> str:
+        return _shown(self, now=self.now())
 
     def tick(self) -> None:
         """One step, from 4,294,967,295 to 0."""
@@ -222,6 +264,9 @@ class Filters:
     def __init__(self) -> None:
         self._filters = c.CFilters()
         c.library.fio2070_filters_start(self._filters)
+
+    def __repr__(self) -> str:
+        return _shown(self, filtered='%016x' % self.filtered, raw='%016x' % self.raw)
 
     def configure(self, items: Sequence[ConfigurationItem]) -> None:
         """Applies the items in order. Raises ValueError, and applies none, where one names an input above
@@ -257,6 +302,9 @@ class _AnyModule:
 
     def _call(self, name: str, *arguments: Any) -> Any:
         return getattr(c.library, self._calls + name)(self._module, *arguments)
+
+    def __repr__(self) -> str:
+        return _shown(self, counter=self.counter, waiting=self.waiting, flags='%02x' % self.flags)
 
     def restart(self) -> None:
         """Starts anew with the same id and per_block."""

@@ -5,7 +5,12 @@ import os
 from ctypes import POINTER, c_char_p, c_size_t, c_uint8, c_uint16, c_uint32, c_uint64
 from typing import Any
 
-from .constants import LONGEST_FRAME, LONGEST_TEXT, MOST_ENTRIES, MOST_RECORD_ITEMS, NO_MESSAGE
+# With these the calls take their arrays.
+from .constants import LONGEST_FRAME as LONGEST_FRAME
+from .constants import LONGEST_TEXT as LONGEST_TEXT
+from .constants import MOST_ENTRIES as MOST_ENTRIES
+from .constants import MOST_RECORD_ITEMS as MOST_RECORD_ITEMS
+from .constants import NO_MESSAGE as NO_MESSAGE
 
 
 def _load() -> ctypes.CDLL:
@@ -52,8 +57,8 @@ class CRecordItem(ctypes.Structure):
 
 
 class CHeard(ctypes.Structure):
-    _fields_ = [('kind', c_uint8), ('code', c_uint8), ('number', c_uint8), ('status', c_uint8), ('entries', c_uint8),
-                ('reserved', c_uint8), ('items', c_uint16), ('fault', CFault)]
+    _fields_ = [('kind', c_uint8), ('code', c_uint8), ('number', c_uint8), ('status', c_uint8), ('stamp', c_uint32),
+                ('items', c_uint16), ('entries', c_uint8), ('reserved', c_uint8 * 5), ('fault', CFault)]
 
 
 class CConfigured(ctypes.Structure):
@@ -67,7 +72,7 @@ class CCounter(ctypes.Structure):
 class CChecker(ctypes.Structure):
     _fields_ = [('has_awaited', c_uint8), ('awaited', c_uint8), ('absent_named', c_uint8), ('has_polled', c_uint8),
                 ('polled', c_uint8), ('answered', c_uint8), ('advanced', c_uint8), ('more', c_uint8),
-                ('skips', c_uint8)]
+                ('skips', c_uint8), ('reserved', c_uint8 * 7)]
 
 
 class CBreach(ctypes.Structure):
@@ -125,6 +130,8 @@ _declare('fio2070_encode_block_answer', c_size_t, c_uint8, POINTER(CEntry), c_si
          POINTER(c_uint8), c_size_t)
 _declare('fio2070_encode_watchdog_answer', c_size_t, c_uint8, POINTER(c_uint8), c_size_t)
 _declare('fio2070_encode_other_answer', c_size_t, c_uint8, c_char_p, c_size_t, POINTER(c_uint8), c_size_t)
+_declare('fio2070_read_outputs_answer', CFault, c_char_p, c_size_t, POINTER(c_uint32))
+_declare('fio2070_read_identification', CFault, c_char_p, c_size_t, POINTER(c_uint8))
 _declare('fio2070_decode_answer', CFault, c_char_p, c_size_t, POINTER(CAnswer))
 _declare('fio2070_block_entries', c_size_t, c_char_p, c_size_t, POINTER(CEntry), c_size_t)
 _declare('fio2070_checker_start', None, POINTER(CChecker))
@@ -171,6 +178,7 @@ _declare('fio2070_module_counter', c_uint32, POINTER(CModule))
 _declare('fio2070_module_filtered', c_uint64, POINTER(CModule))
 _declare('fio2070_module_raw', c_uint64, POINTER(CModule))
 _declare('fio2070_module_waiting', c_size_t, POINTER(CModule))
+_declare('fio2070_poller_start', None, POINTER(CPoller), c_uint8)
 _declare('fio2070_poller_poll', c_size_t, POINTER(CPoller), POINTER(c_uint8), c_size_t)
 _declare('fio2070_poller_hear', CHeard, POINTER(CPoller), c_char_p, c_size_t, POINTER(CRecordItem), c_size_t)
 _declare('fio2070_show', c_size_t, c_char_p, c_size_t, POINTER(c_uint8), c_size_t)

@@ -23,7 +23,15 @@ _RESULT_ROOM = 65536
 _FAILED = c_size_t(-1).value
 
 
-class Mix(ctypes.Structure):
+class _Mixed(ctypes.Structure):
+    """A struct whose text has its fields."""
+
+    def __repr__(self) -> str:
+        values = ', '.join('%s=%d' % (field[0], getattr(self, field[0])) for field in self._fields_)
+        return '%s(%s)' % (type(self).__name__, values)
+
+
+class Mix(_Mixed):
     """How often each comes in 1,000 events, the rest being scans; `overflows` in 1,000 scripts."""
     _fields_ = [(name, c_uint) for name in ('polls', 'repeats', 'out_of_sequence', 'configurations', 'others', 'syncs',
                                             'hostile', 'restarts', 'overflows', 'calm', 'steady')]
@@ -84,12 +92,12 @@ class _Calls:
 
 
 def _raw(maker: Maker, calls: _Calls) -> _Maker:
-    def exchange(octets, length, out):
+    def exchange(octets: Any, length: int, out: Any) -> int:
         answer = (maker.exchange(ctypes.string_at(octets, length)) or b'')[:c.LONGEST_FRAME]
         ctypes.memmove(out, answer, len(answer))
         return len(answer)
 
-    def outputs(levels, controls):
+    def outputs(levels: Any, controls: Any) -> None:
         for out, octets in zip((levels, controls), maker.outputs()):
             ctypes.memmove(out, bytes(octets[:8]), 8)
 
@@ -102,7 +110,7 @@ def _raw(maker: Maker, calls: _Calls) -> _Maker:
     return raw
 
 
-class CpuMix(ctypes.Structure):
+class CpuMix(_Mixed):
     """How often each comes in 1,000 polls; `orderly` in 1,000 scripts, which have losses alone."""
     _fields_ = [(name, c_uint) for name in ('lost_polls', 'lost_answers', 'late_answers', 'repeats', 'others',
                                             'hostile', 'overflows', 'orderly')]
@@ -133,12 +141,12 @@ class CpuMaker:
 
 
 def _raw_cpu(maker: CpuMaker, calls: _Calls) -> _CpuMaker:
-    def poll(out):
+    def poll(out: Any) -> int:
         octets = maker.poll()[:c.LONGEST_FRAME]
         ctypes.memmove(out, octets, len(octets))
         return len(octets)
 
-    def hear(octets, length, out):
+    def hear(octets: Any, length: int, out: Any) -> int:
         items = maker.hear(ctypes.string_at(octets, length))[:c.MOST_RECORD_ITEMS]
         for place, item in enumerate(items):
             out[place] = c.CRecordItem(**RecordItem(*item)._asdict())
@@ -161,8 +169,8 @@ class _Options(ctypes.Structure):
 def _options(seed: int, events: int, excepted: Sequence[str], goes_on: bool) -> _Options:
     options = _Options(events=events, seed=seed, stops=not goes_on)
     for name in excepted:
-        rule = c.library.conformance_rule_named(name.encode('ascii'))
-        if rule >= 128 or not c.library.conformance_is_own(rule):
+        rule = c.library.fio2070_tester_rule_named(name.encode('ascii'))
+        if rule >= 128 or not c.library.fio2070_tester_is_own(rule):
             raise ValueError('%s is no rule of the own profile' % name)
         options.excepted[rule // 64] |= 1 << rule % 64
     return options
@@ -174,7 +182,7 @@ def _find(ends: _Ends, calls: _Calls, options: _Options) -> Optional[str]:
     libc.open_memstream.restype = c_void_p
     libc.open_memstream.argtypes = [POINTER(c_void_p), POINTER(c_size_t)]
     libc.fclose.argtypes = libc.free.argtypes = [c_void_p]
-    test = c.library.conformance_test
+    test = c.library.fio2070_tester_test
     test.restype = None
     test.argtypes = [POINTER(_Ends), POINTER(_Options), c_void_p, c_void_p]
     text, length = c_void_p(), c_size_t()

@@ -14,10 +14,10 @@ fn main() {
     let found = folders
         .iter()
         .find(|folder| folder.join("libfio2070.a").exists());
-    let Some(folder) = found else {
+    let folder = found.unwrap_or_else(|| {
         eprintln!("there is no libfio2070.a in {folders:?}: set FIO2070_LIB_DIR to the folder that has it");
         std::process::exit(1);
-    };
+    });
     println!(
         "cargo:rerun-if-changed={}",
         folder.join("libfio2070.a").display()

@@ -4,4 +4,5 @@ pub mod Needs
 pub mod Overwriting
 pub mod TextLengths
 pub mod Checkers
+pub mod Decoded
 mod Started

@@ -1,5 +1,5 @@
 -- The checker of the rules as C sees it.
-use Rattle.std.specs.Prelude.{ℕ, ◌==◌, Bool, true, false, not, Option, Some, None, is_some, unwrap_or, if◌then◌else◌}
+use Rattle.std.specs.Prelude.{ℕ, ◌==◌, Bool, true, false, not, Option, Some, None, is_some, unwrap_or, if◌then◌else◌, replicate}
 use Rattle.fio_message.specs.Bits.{bit_of}
 use Rattle.fio_check.specs.declared.checker.Breach.{Breach as BreachOf}
 use Rattle.fio_check.specs.declared.checker.Checker.{Checker as CheckerOf}
@@ -51,6 +51,7 @@ flat_checker checker = record {
   advanced = bit_of checker.facts.advanced;
   more = flat_more checker.facts.more;
   skips = bit_of checker.skips;
+  reserved = replicate 7 0;
 }
 
 -- a breach of this rule

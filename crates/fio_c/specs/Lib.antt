@@ -1,4 +1,5 @@
 pub mod Flat
+pub mod AnswerNumbers
 pub mod Checkers
 pub mod Texts
 pub mod Version

@@ -28,6 +28,8 @@ pub struct Checker {
     pub more: u8,
     /// 1 below a breach, until the next poll.
     pub skips: u8,
+    /// 0 in each octet that the library writes.
+    pub reserved: [u8; 7],
 }
 
 /// The first rule that a frame breaks, and what was due.
@@ -145,6 +147,7 @@ fn flat_from(checker: &CheckerOf) -> Checker
         advanced: u8::from(facts.advanced),
         more: flat_more(facts.more),
         skips: u8::from(checker.skips),
+        reserved: [0; 7],
     }
 }
 

@@ -8,12 +8,12 @@
 //! | To | Call |
 //! |---|---|
 //! | read a block answer in place | `fio2070_read_block`, `fio2070_block_entries` |
-//! | read any message | `fio2070_decode_command`, `fio2070_command_items`, `fio2070_decode_answer` |
+//! | read any message | `fio2070_decode_command`, `fio2070_command_items`, `fio2070_decode_answer`; an answer's one number, `fio2070_read_outputs_answer`, `fio2070_read_identification` |
 //! | write a message | `fio2070_encode_..` |
 //! | write what `show` writes of a message | `fio2070_show` |
 //! | write a code in words | `fio2070_fault_text`, `fio2070_rule_text`, `fio2070_content_rule_text`, `fio2070_heard_text` |
 //! | judge what the CPU's end sends and hears | `fio2070_checker_..`, `fio2070_content_..` |
-//! | be the CPU's end | `fio2070_poller_poll`, `fio2070_poller_hear` |
+//! | be the CPU's end | `fio2070_poller_..` |
 //! | be the module | `fio2070_module_..`; with another limit of waiting entries, `fio2070_sized_module_..` |
 //! | say which library it is | `fio2070_version` |
 //! | use its parts | `fio2070_counter_..`, `fio2070_filters_..`, `fio2070_widen` |
@@ -24,6 +24,7 @@
 #![tactic(auto)]
 
 mod answer_frames;
+mod answer_numbers;
 mod answering;
 mod answers;
 mod blocks;

@@ -1,19 +1,21 @@
 //! The CPU's end, in memory of the caller.
-ghost use Rattle.std.specs.Prelude.{◌≡◌, ◌<◌, ◌≤◌, ◌++◌, length, map, drop};
+ghost use Rattle.std.specs.Prelude.{◌≡◌, ◌<◌, ◌≤◌, ◌++◌, length, map, drop, Some};
 ghost use Rattle.fio_message.specs.declared.faults.DecodeError.{DecodeError};
 ghost use Rattle.fio_message.specs.Commands.{command_octets};
+ghost use Rattle.fio_message.specs.Decoding.{answered_block};
+ghost use Rattle.fio_message.specs.Views.{answer_of};
 ghost use Rattle.fio_message.specs.declared.commands.Command.TheVariants as commands;
 ghost use Rattle.fio_cpu.specs.declared.poller.Heard.TheVariants as outcomes;
-ghost use Rattle.fio_cpu.specs.Hearing.{items_added, HasFewEntries};
+ghost use Rattle.fio_cpu.specs.Hearing.{heard_answer, items_added, HasFewEntries};
 ghost use Rattle.fio_flat.specs.Faults.{NeedFitsFrame};
-ghost use Rattle.fio_flat.specs.Hearing.{Hears, flat_heard, flat_record_item};
+ghost use Rattle.fio_flat.specs.Hearing.{Hears, HearsAs, flat_heard, flat_record_item, with_block};
 ghost use Rattle.fio_flat.specs.Written.{Writes};
 
 use crate::command_frames::fio2070_encode_poll;
 use crate::faults::{NO_FAULT, fault_from};
-use fio_cpu::{BlockItems, Item, Record, hear_frame};
+use fio_cpu::{BlockItems, Item, Record, hear_read_answer};
 use fio_flat::{Heard, Poller, RecordItem};
-use fio_message::BlockStatus;
+use fio_message::{AnswerView, BlockStatus, read_answer};
 
 /// A gap mark.
 const GAP: RecordItem = RecordItem {
@@ -31,11 +33,22 @@ const HEARD_NOTHING: Heard = Heard {
     code: 0,
     number: 0,
     status: 0,
-    entries: 0,
-    reserved: 0,
+    stamp: 0,
     items: 0,
+    entries: 0,
+    reserved: [0; 5],
     fault: NO_FAULT,
 };
+
+/// Starts a poller whose first poll has this block number, 0 to 255 (own profile). A CPU that goes on with
+/// the number that it kept loses nothing and records nothing twice. One that starts anew with the number of
+/// the module's last poll gets that poll's block again, with E, and records it a second time.
+#[unsafe(no_mangle)]
+pub extern "C" fn fio2070_poller_start(poller: &mut Poller, number: u8)
+    ensures { poller.new ≡ record { number = number } }
+{
+    *poller = Poller { number };
+}
 
 /// Writes a poll with the present block number (TEES 2009, command 54). Returns how many octets it
 /// has; where there is no room nothing is written.
@@ -50,8 +63,10 @@ pub extern "C" fn fio2070_poller_poll(poller: &Poller, out: &mut [u8]) -> usize
 /// taken whole: what it adds to the record is written to the front of `items`, a gap mark if F is
 /// set and then its entries in order, and the number rises by one modulo 256. Where there is no
 /// room for all of it, nothing changes, and the result says how many items there are; 256 places
-/// are always enough. Anything else is reported and changes nothing (own profile).
+/// are always enough. Anything else is reported and changes nothing (own profile). Of any block answer
+/// the result has the number and the stamp.
 #[unsafe(no_mangle)]
+#[tactic(auto, using(crate::proofs::Decoded::block_decoded))]
 pub extern "C" fn fio2070_poller_hear(
     poller: &mut Poller,
     octets: &[u8],
@@ -59,14 +74,44 @@ pub extern "C" fn fio2070_poller_hear(
 ) -> Heard
     ensures { Hears poller.old.number octets.now items.old items.new poller.new.number result }
 {
+    match read_answer(octets) {
+        Ok(answer) => hear_answer(poller, &answer, items),
+        Err(error) => Heard {
+            kind: 1,
+            fault: fault_from(error),
+            ..HEARD_NOTHING
+        },
+    }
+}
+
+/// Hears an answer that is read already.
+fn hear_answer(poller: &mut Poller, answer: &AnswerView<'_>, items: &mut [RecordItem]) -> Heard
+    ensures { HearsAs poller.old.number (heard_answer poller.old.number (answer_of answer.now))
+        (answered_block (Some (answer_of answer.now))) items.old items.new poller.new.number result }
+{
     let mut places = ItemSlots { items };
-    match hear_frame(&mut poller.number, &mut places, octets) {
+    let heard = match hear_read_answer(&mut poller.number, &mut places, answer) {
         Ok(heard) => flat_heard(heard),
         Err(count) => Heard {
             kind: 4,
             items: count,
             ..HEARD_NOTHING
         },
+    };
+    with_block(heard, answer)
+}
+
+/// Returns what was heard, with the number and the stamp of the answer, if it is a block.
+fn with_block(heard: Heard, answer: &AnswerView<'_>) -> Heard
+    ensures { result ≡ with_block (answered_block (Some (answer_of answer.now))) heard }
+{
+    match *answer {
+        AnswerView::Block { block, stamp, .. } => Heard {
+            number: block,
+            stamp,
+            ..heard
+        },
+        _ => heard,
     }
 }
 
@@ -93,9 +138,8 @@ fn flat_heard(heard: fio_cpu::Heard) -> Heard
             code,
             ..HEARD_NOTHING
         },
-        fio_cpu::Heard::Stale { block } => Heard {
+        fio_cpu::Heard::Stale { .. } => Heard {
             kind: 3,
-            number: block,
             ..HEARD_NOTHING
         },
     }

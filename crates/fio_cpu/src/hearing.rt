@@ -49,7 +49,7 @@ pub fn hear_frame<R: Record>(
 /// Why there is no room in the record for what a block adds. Nothing is appended then, and the number
 /// stays.
 #[inline(always)]
-pub(crate) fn hear_read_answer<R: Record>(
+pub fn hear_read_answer<R: Record>(
     number: &mut u8,
     items: &mut R,
     answer: &AnswerView<'_>,

@@ -8,8 +8,8 @@
 //! The definitions are in `specs/`, in this order: the end as contracts see it (`Poller`), what a
 //! block is in the record (`Record`), and what the CPU makes of octets (`Hearing`).
 //!
-//! The logic is once, in `hear_frame`, which appends to any `Record`. `Poller` has its
-//! record on the heap.
+//! The logic is once, in `hear_frame` and `hear_read_answer`, which append to any `Record`. `Poller` has
+//! its record on the heap.
 //!
 //! # Examples
 //!
@@ -30,6 +30,6 @@ mod poller;
 mod record;
 
 pub use block_items::{BlockItems, RecordItems};
-pub use hearing::hear_frame;
+pub use hearing::{hear_frame, hear_read_answer};
 pub use poller::{Heard, Poller};
 pub use record::{Item, Record};

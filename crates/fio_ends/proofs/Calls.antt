@@ -39,7 +39,7 @@ use Rattle.fio_flat.specs.Module as module_events
 use Rattle.fio_flat.specs.Module.{DeviceHistory, Reached, ErrorsSet, IsDeviceAfter, events_reached, errors_of, with_errors, settings_of}
 use Rattle.fio_flat.specs.declared.module.ErrorCounts.{ErrorCounts}
 use Rattle.fio_flat.specs.Written.{Writes, WritesAnswer}
-use Rattle.fio_flat.specs.Hearing.{Hears, flat_record_item, flat_heard}
+use Rattle.fio_flat.specs.Hearing.{Hears, flat_record_item, flat_heard, heard_no_room, with_block}
 use Rattle.fio_ends.specs.Calls.{CallerState, caller_at_start, HasHappened, HasPolled, HasReceived, HasHeard, IsFoundAnd, IsCalledFor, AreCalled, Call, For, SetErrors, CallsAreRuns, link_events, frames_written}
 
 -- the octets of a frame
@@ -227,6 +227,15 @@ count_written count (outcomes.Unreadable error) = refl
 count_written count (outcomes.Other code) = refl
 count_written count (outcomes.Stale block) = refl
 
+-- what is said of a block leaves the kind and the items
+kind_kept : (found : Option Block) (heard : Heard) → (with_block found heard).kind ≡ heard.kind
+kind_kept None heard = refl
+kind_kept (Some block) heard = refl
+
+items_kept : (found : Option Block) (heard : Heard) → (with_block found heard).items ≡ heard.items
+items_kept None heard = refl
+items_kept (Some block) heard = refl
+
 -- the items that were written, where there was room
 items_written : (number next : ℕ) (octets : List ℕ) (before after : List RecordItem) (heard : Heard)
     → Hears number octets before after next heard → heard.kind ≢ 4
@@ -236,11 +245,14 @@ items_written number next octets before after heard hears room =
     let new = new_items number (block_in octets) in
     elim (cases_lt (length before) (length new)) as
     (λ _. (next ≡ next_number number (block_in octets)) × (take heard.items after ≡ map flat_record_item new)) [
-      | inl short ↦ absurd (room (ap (λ (h : Heard). h.kind) (hears.no_room short).0))
+      | inl short ↦
+          absurd (room (ap (λ (h : Heard). h.kind) (hears.no_room short).0 ∙ kind_kept (block_in octets) (heard_no_room (length new))))
       | inr long ↦
           let said = hears.room long in
           let count : heard.items ≡ length (map flat_record_item new) =
-          ap (λ (h : Heard). h.items) said.0 ∙ count_written (length new) (heard_as number (decoded_answer octets))
+          ap (λ (h : Heard). h.items) said.0
+          ∙ items_kept (block_in octets) (flat_heard (length new) (heard_as number (decoded_answer octets)))
+          ∙ count_written (length new) (heard_as number (decoded_answer octets))
           ∙ sym (length-map new flat_record_item) in (
             said.1,
             ap₂ (λ n l. take n l) count said.2

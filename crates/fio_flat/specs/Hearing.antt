@@ -1,7 +1,8 @@
 -- What the poller of a caller in C makes of octets.
-use Rattle.std.specs.Prelude.{◌≡◌, ℕ, ◌<◌, ◌≤◌, List, ◌++◌, length, map, drop, replicate}
+use Rattle.std.specs.Prelude.{◌≡◌, ℕ, ◌<◌, ◌≤◌, List, ◌++◌, length, map, drop, replicate, Option, Some, None}
 use Rattle.std.specs.Borrow.{MutBor}
 use Rattle.fio_message.specs.Bits.{bit_of}
+use Rattle.fio_message.specs.Blocks.{Block as BlockOf}
 use Rattle.fio_message.specs.Decoding.{decoded_answer, block_in}
 use Rattle.fio_cpu.specs.declared.poller.Heard.{Heard as HeardOf}
 use Rattle.fio_cpu.specs.declared.poller.Heard.TheVariants as outcomes
@@ -32,24 +33,31 @@ heard_nothing count = record {
   code = 0;
   number = 0;
   status = 0;
-  entries = 0;
-  reserved = 0;
+  stamp = 0;
   items = count;
+  entries = 0;
+  reserved = replicate 5 0;
   fault = no_fault;
 }
 
--- what was heard of octets that add so many items to the record, as C sees it
+-- what was heard of octets that add so many items to the record, as C sees it, without the number and the
+-- stamp of their block
 abbrev pub flat_heard : ℕ → HeardOf → Heard
 flat_heard count (outcomes.Block entries status) =
     record (heard_nothing count) { kind = 0; entries = entries; status = status }
 flat_heard count (outcomes.Unreadable error) =
     record (heard_nothing count) { kind = 1; fault = fault_of error }
 flat_heard count (outcomes.Other code) = record (heard_nothing count) { kind = 2; code = code }
-flat_heard count (outcomes.Stale block) = record (heard_nothing count) { kind = 3; number = block }
+flat_heard count (outcomes.Stale block) = record (heard_nothing count) { kind = 3 }
 
 -- there is no room for so many items
 abbrev pub heard_no_room : ℕ → Heard
 heard_no_room count = record (heard_nothing count) { kind = 4 }
+
+-- the same with the number and the stamp of the block that the octets spell, if they spell one
+abbrev pub with_block : Option BlockOf → Heard → Heard
+with_block None heard = heard
+with_block (Some block) heard = record heard { number = block.number; stamp = block.stamp }
 
 -- the caller's places after items were written to their front, for which there was room
 pub record Gain (before : MutBor (List RecordItem)) (items : List Item)
@@ -58,18 +66,24 @@ pub record Gain (before : MutBor (List RecordItem)) (items : List Item)
   pub room : length items ≤ length before.now
   pub written : after.now ≡ map flat_record_item items ++ drop (length items) before.now
 
--- A poller with this number hears octets: what it adds to its record is written to the front of the
--- caller's items, and its number is the next if a block was taken. Where there is no room for all of
--- what it adds, that is heard, and nothing changes.
-pub record Hears (number : ℕ) (octets : List ℕ) (before after : List RecordItem)
+-- A poller with this number hears what this block spells, or what spells none: what it adds to its record is
+-- written to the front of the caller's items, and its number is the next if the block was taken. Where there
+-- is no room for all of what it adds, that is heard, and nothing changes. Of any block the number and the
+-- stamp are said.
+pub record HearsAs (number : ℕ) (what : HeardOf) (found : Option BlockOf) (before after : List RecordItem)
     (next : ℕ) (heard : Heard) : Type 0 where
   pub room :
-      let items = new_items number (block_in octets) in
+      let items = new_items number found in
       length items ≤ length before →
-      (heard ≡ flat_heard (length items) (heard_as number (decoded_answer octets)))
-      × (next ≡ next_number number (block_in octets))
+      (heard ≡ with_block found (flat_heard (length items) what))
+      × (next ≡ next_number number found)
       × (after ≡ map flat_record_item items ++ drop (length items) before)
   pub no_room :
-      let count = length (new_items number (block_in octets)) in
+      let count = length (new_items number found) in
       length before < count →
-      (heard ≡ heard_no_room count) × (next ≡ number) × (after ≡ before)
+      (heard ≡ with_block found (heard_no_room count)) × (next ≡ number) × (after ≡ before)
+
+-- the same of octets
+abbrev pub Hears : ℕ → List ℕ → List RecordItem → List RecordItem → ℕ → Heard → Type 0
+Hears number octets before after next heard =
+    HearsAs number (heard_as number (decoded_answer octets)) (block_in octets) before after next heard

@@ -5,7 +5,7 @@ use crate::faults::Fault;
 #[derive(Clone, Copy)]
 #[repr(C)]
 pub struct Poller {
-    /// The block number of the next poll. The caller sets the first one.
+    /// The block number of the next poll.
     pub number: u8,
 }
 
@@ -32,20 +32,22 @@ pub struct RecordItem {
 #[repr(C)]
 pub struct Heard {
     /// 0 a block that was taken, with `entries` and `status`; 1 no answer, with `fault`; 2 another
-    /// answer, with its type `code`; 3 a stale block, with its `number`; 4 no room for `items`.
+    /// answer, with its type `code`; 3 a stale block; 4 a block with no room for its `items`.
     pub kind: u8,
     /// The type of another answer.
     pub code: u8,
-    /// The number of a stale block.
+    /// The number of a block, for kinds 0, 3 and 4.
     pub number: u8,
     /// The status of a block that was taken, with C, F, E and G in bits 3 to 0.
     pub status: u8,
-    /// How many entries a block has that was taken.
-    pub entries: u8,
-    /// 0 where the library writes it.
-    pub reserved: u8,
+    /// The module's millisecond counter when a block was made, for kinds 0, 3 and 4.
+    pub stamp: u32,
     /// How many items were written, or would have been with room for them: at most 256.
     pub items: u16,
+    /// How many entries a block has that was taken.
+    pub entries: u8,
+    /// 0 in each octet that the library writes.
+    pub reserved: [u8; 5],
     /// Why the octets are no answer.
     pub fault: Fault,
 }

@@ -53,6 +53,13 @@ static void reads(void) {
     CHECK(is_written(fio2070_content_rule_text(FIO2070_CONTENT_ORDER, text, 6), text, "order", 5) && text[5] == 0);
 }
 
+static void reads_numbers(void) {
+    uint32_t *stamp = (uint32_t *)fresh(sizeof *stamp);
+    uint8_t *id = (uint8_t *)fresh(sizeof *id);
+    CHECK(fio2070_read_outputs_answer((const uint8_t *)"\xb7\0\0\0\3\xe8", 6, stamp).kind == FIO2070_FAULT_NONE && *stamp == 1000);
+    CHECK(fio2070_read_identification((const uint8_t *)"\xbc\2", 2, id).kind == FIO2070_FAULT_NONE && *id == 2);
+}
+
 static void writes(void) {
     static const struct fio2070_entry entry = {12, 1, 999};
     static const struct fio2070_configuration_item item = {12, 0, 5, 3};
@@ -76,7 +83,7 @@ static void ends(void) {
     struct fio2070_content_checker *content = (struct fio2070_content_checker *)fresh(sizeof *content);
     struct fio2070_content_breach *entry = (struct fio2070_content_breach *)fresh(sizeof *entry);
     struct fio2070_record_item *items = (struct fio2070_record_item *)fresh(FIO2070_MOST_RECORD_ITEMS * sizeof *items);
-    struct fio2070_poller poller = {5};
+    struct fio2070_poller *poller = (struct fio2070_poller *)fresh(sizeof *poller);
     struct fio2070_heard heard;
     uint8_t *out = room();
     size_t count;
@@ -92,14 +99,16 @@ static void ends(void) {
     fio2070_content_start(content);
     fio2070_content_sent(content, (const uint8_t *)"\x36\5", 2);
     CHECK(fio2070_content_heard(content, out, count, entry) == 0 && entry->rule == 0 && entry->entry == 0 && entry->input == 0);
-    heard = fio2070_poller_hear(&poller, out, count, items, FIO2070_MOST_RECORD_ITEMS);
-    CHECK(heard.kind == FIO2070_HEARD_TAKEN && heard.items == 1 && poller.number == 6);
+    fio2070_poller_start(poller, 5);
+    heard = fio2070_poller_hear(poller, out, count, items, FIO2070_MOST_RECORD_ITEMS);
+    CHECK(heard.kind == FIO2070_HEARD_TAKEN && heard.items == 1 && heard.stamp == 1 && poller->number == 6);
     CHECK(items[0].input == 12 && items[0].state == 0 && items[0].reserved[2] == 0 && items[0].wide == 1);
     CHECK(fio2070_module_flags(module) == FIO2070_BIT_WAS_RESET && fio2070_module_errors(module).receive == 0);
 }
 
 int main(void) {
     reads();
+    reads_numbers();
     writes();
     ends();
     return end_of_checks();

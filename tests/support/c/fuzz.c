@@ -103,14 +103,23 @@ static int reads_answer(const uint8_t *octets, size_t length, uint8_t *text_end)
            is_again(write_answer(&answer, octets, answer.count), octets, length);
 }
 
+/* What was heard has the number and the stamp of the block, both 0 where there is none. */
+static int says_block(const struct fio2070_heard *heard, const uint8_t *octets, size_t length) {
+    struct fio2070_block_header header;
+    memset(&header, 0, sizeof header);
+    fio2070_read_block(octets, length, &header);
+    return heard->number == header.number && heard->stamp == header.stamp;
+}
+
 static int is_heard(const uint8_t *octets, size_t length) {
     struct fio2070_poller poller;
     struct fio2070_heard heard;
     unsigned room = below(FIO2070_MOST_RECORD_ITEMS + 1), before;
-    poller.number = length > 1 && below(2) ? octets[1] : (uint8_t)next_random();
+    fio2070_poller_start(&poller, length > 1 && below(2) ? octets[1] : (uint8_t)next_random());
     before = poller.number;
     heard = fio2070_poller_hear(&poller, octets, length, record + FIO2070_MOST_RECORD_ITEMS - room, room);
     if (fio2070_heard_text(&heard, heard_words, sizeof heard_words) >= sizeof heard_words) return 0;
+    if (!says_block(&heard, octets, length)) return 0;
     if (heard.kind == FIO2070_HEARD_TAKEN) return heard.items <= room && poller.number == (before + 1) % 256;
     return poller.number == before && (heard.kind != FIO2070_HEARD_NO_ROOM || heard.items > room);
 }

@@ -40,6 +40,8 @@ static void reads_blocks(void) {
     CHECK(fio2070_widen(0x10002, 2) == 0x10002 && fio2070_widen(5, 0xfffe) == 0xfffffffe);
 }
 
+static const uint8_t *octets_of(const char *octets) { return (const uint8_t *)octets; }
+
 static void refuses(void) {
     static const uint8_t b60502[] = {0xb6, 5, 2}, poll[] = {54, 5, 255};
     struct fio2070_command command;
@@ -225,27 +227,55 @@ static void reads_answers(void) {
     CHECK(answer_in("\xb7\0\0\0\0\5", 6).body == 5 && answer_in("\xba\1", 2).status == 1);
 }
 
+/* Answers of which one number is read. */
+static void reads_numbers(void) {
+    uint32_t stamp = 9;
+    uint8_t id = 9;
+    CHECK(same_fault(fio2070_read_outputs_answer(octets_of("\xb7\0\1\2\3\4"), 6, &stamp), FIO2070_FAULT_NONE, 0, 0, 0));
+    CHECK(stamp == 0x01020304);
+    CHECK(same_fault(fio2070_read_outputs_answer(octets_of("\xb7\7\0\0\0\5"), 6, &stamp), FIO2070_FAULT_NONE, 0, 0, 0));
+    CHECK(stamp == 5);
+    CHECK(same_fault(fio2070_read_outputs_answer(octets_of("\xb7\0\1\2\3"), 5, &stamp), FIO2070_FAULT_WRONG_LENGTH, 0, 6, 5));
+    CHECK(same_fault(fio2070_read_outputs_answer(octets_of("\xb7\0\1\2\3\4\5"), 7, &stamp), FIO2070_FAULT_WRONG_LENGTH, 0, 6, 7));
+    CHECK(same_fault(fio2070_read_outputs_answer(octets_of("\xbc\2"), 2, &stamp), FIO2070_FAULT_UNKNOWN_TYPE, 188, 0, 0));
+    CHECK(same_fault(fio2070_read_outputs_answer(octets_of("\x37\0\1\2\3\4"), 6, &stamp), FIO2070_FAULT_UNKNOWN_TYPE, 55, 0, 0));
+    CHECK(same_fault(fio2070_read_outputs_answer(NULL, 0, &stamp), FIO2070_FAULT_EMPTY, 0, 0, 0));
+    CHECK(same_fault(fio2070_read_outputs_answer(long_octets, 774, &stamp), FIO2070_FAULT_TOO_LONG, 0, 0, 774));
+    CHECK(stamp == 5);
+    CHECK(same_fault(fio2070_read_identification(octets_of("\xbc\xfe"), 2, &id), FIO2070_FAULT_NONE, 0, 0, 0) && id == 0xfe);
+    CHECK(same_fault(fio2070_read_identification(octets_of("\xbc"), 1, &id), FIO2070_FAULT_WRONG_LENGTH, 0, 2, 1));
+    CHECK(same_fault(fio2070_read_identification(octets_of("\xbc\1\2"), 3, &id), FIO2070_FAULT_WRONG_LENGTH, 0, 2, 3));
+    CHECK(same_fault(fio2070_read_identification(octets_of("\xb7\1"), 2, &id), FIO2070_FAULT_UNKNOWN_TYPE, 183, 0, 0));
+    CHECK(same_fault(fio2070_read_identification(NULL, 0, &id), FIO2070_FAULT_EMPTY, 0, 0, 0));
+    CHECK(same_fault(fio2070_read_identification(long_octets, 774, &id), FIO2070_FAULT_TOO_LONG, 0, 0, 774) && id == 0xfe);
+}
+
 /* ---- The CPU's end ---- */
 
 static void hears(void) {
     static struct fio2070_record_item items[FIO2070_MOST_RECORD_ITEMS];
-    struct fio2070_poller poller = {5};
+    struct fio2070_poller poller;
     struct fio2070_heard heard;
     uint8_t lost[sizeof BLOCK];
+    fio2070_poller_start(&poller, 5);
+    CHECK(poller.number == 5);
     heard = fio2070_poller_hear(&poller, BLOCK, sizeof BLOCK, items, 0);
     CHECK(heard.kind == FIO2070_HEARD_NO_ROOM && heard.items == 1 && poller.number == 5);
+    CHECK(heard.number == 5 && heard.stamp == 1000 && heard.entries == 0 && heard.status == 0);
     heard = fio2070_poller_hear(&poller, BLOCK, sizeof BLOCK, items, FIO2070_MOST_RECORD_ITEMS);
     CHECK(heard.kind == FIO2070_HEARD_TAKEN && heard.entries == 1 && heard.status == 0 && heard.items == 1);
-    CHECK(poller.number == 6 && heard.number == 0 && heard.code == 0 && heard.fault.kind == FIO2070_FAULT_NONE);
+    CHECK(poller.number == 6 && heard.number == 5 && heard.stamp == 1000);
+    CHECK(heard.code == 0 && heard.fault.kind == FIO2070_FAULT_NONE);
     CHECK(items[0].gap == 0 && items[0].input == 12 && items[0].state == 1);
     CHECK(items[0].stamp == 999 && items[0].wide == 999);
     heard = fio2070_poller_hear(&poller, BLOCK, sizeof BLOCK, items, FIO2070_MOST_RECORD_ITEMS);
     CHECK(heard.kind == FIO2070_HEARD_STALE && heard.number == 5 && heard.items == 0 && poller.number == 6);
+    CHECK(heard.stamp == 1000);
     CHECK(fio2070_poller_poll(&poller, out, sizeof out) == 2 && out[0] == 54 && out[1] == 6);
     memcpy(lost, BLOCK, sizeof lost);
     lost[1] = 255;
     lost[6] = FIO2070_BIT_MORE | FIO2070_BIT_LOST;
-    poller.number = 255;
+    fio2070_poller_start(&poller, 255);
     heard = fio2070_poller_hear(&poller, lost, sizeof lost, items, 1);
     CHECK(heard.kind == FIO2070_HEARD_NO_ROOM && heard.items == 2 && poller.number == 255);
     heard = fio2070_poller_hear(&poller, lost, sizeof lost, items, 2);
@@ -253,6 +283,7 @@ static void hears(void) {
     CHECK(items[0].gap == 1 && items[0].wide == 0 && items[1].gap == 0 && items[1].wide == 999);
     heard = fio2070_poller_hear(&poller, (const uint8_t *)"\xb3\1", 2, items, 2);
     CHECK(heard.kind == FIO2070_HEARD_OTHER && heard.code == 179 && poller.number == 0);
+    CHECK(heard.number == 0 && heard.stamp == 0);
     heard = fio2070_poller_hear(&poller, BLOCK, sizeof BLOCK - 1, items, 2);
     CHECK(heard.kind == FIO2070_HEARD_UNREADABLE && same_fault(heard.fault, FIO2070_FAULT_WRONG_LENGTH, 0, 11, 10));
 }
@@ -298,7 +329,7 @@ struct judged {
     char direction;
     const char *octets;
     size_t length;
-    uint8_t breach[4], checker[9];
+    uint8_t breach[4], checker[16];
 };
 
 #define START 0, "", 0
@@ -606,6 +637,7 @@ int main(void) {
     writes_answers();
     reads_commands();
     reads_answers();
+    reads_numbers();
     hears();
     says_what_was_heard();
     checks();

@@ -130,31 +130,32 @@ struct heard_row {
     const char *octets;
     uint8_t kind, code, number, status, entries;
     uint16_t items;
+    uint32_t stamp;
     struct fio2070_fault fault;
     uint8_t next;
 };
 
 /* The present number is 5, and there is room for two items. */
 static const struct heard_row heard[] = {
-    {8, "\xb6\5\0\x0b\0\0\3\xe8", FIO2070_HEARD_TAKEN, 0, 0, 0x0b, 0, 0, {0, 0, 0, {0}, 0}, 6},
-    {11, "\xb6\5\1\x8c\3\xe7\x0c\0\0\3\xe8", FIO2070_HEARD_TAKEN, 0, 0, 0x0c, 1, 2, {0, 0, 0, {0}, 0}, 6},
-    {14, "\xb6\5\2\x8c\3\xe7\x0d\3\xe8\4\0\0\3\xe8", FIO2070_HEARD_NO_ROOM, 0, 0, 0, 0, 3, {0, 0, 0, {0}, 0}, 5},
-    {8, "\xb6\4\0\x0f\0\0\3\xe8", FIO2070_HEARD_STALE, 0, 4, 0, 0, 0, {0, 0, 0, {0}, 0}, 5},
-    {11, "\xb6\7\1\x8c\3\xe7\x0f\0\0\3\xe8", FIO2070_HEARD_STALE, 0, 7, 0, 0, 0, {0, 0, 0, {0}, 0}, 5},
-    {0, "", FIO2070_HEARD_UNREADABLE, 0, 0, 0, 0, 0, {FIO2070_FAULT_EMPTY, 0, 0, {0}, 0}, 5},
-    {2, "\x36\5", FIO2070_HEARD_UNREADABLE, 0, 0, 0, 0, 0, {FIO2070_FAULT_UNKNOWN_TYPE, 54, 0, {0}, 0}, 5},
-    {9, "\xb6\5\1\x8c\3\xe7\0\0\0", FIO2070_HEARD_UNREADABLE, 0, 0, 0, 0, 0, {FIO2070_FAULT_WRONG_LENGTH, 0, 11, {0}, 9}, 5},
-    {8, "\xb1\x80\2\3\1\2\3\4", FIO2070_HEARD_OTHER, 177, 0, 0, 0, 0, {0, 0, 0, {0}, 0}, 5},
-    {2, "\xb2\xfe", FIO2070_HEARD_OTHER, 178, 0, 0, 0, 0, {0, 0, 0, {0}, 0}, 5},
-    {2, "\xb3\1", FIO2070_HEARD_OTHER, 179, 0, 0, 0, 0, {0, 0, 0, {0}, 0}, 5},
-    {13, "\xb4\1\2\3\4\5\6\7\x08\1\2\3\4", FIO2070_HEARD_OTHER, 180, 0, 0, 0, 0, {0, 0, 0, {0}, 0}, 5},
-    {13, "\xb5\1\2\3\4\5\6\7\x08\1\2\3\4", FIO2070_HEARD_OTHER, 181, 0, 0, 0, 0, {0, 0, 0, {0}, 0}, 5},
-    {6, "\xb7\0\0\0\0\5", FIO2070_HEARD_OTHER, 183, 0, 0, 0, 0, {0, 0, 0, {0}, 0}, 5},
-    {3, "\xb8\1\2", FIO2070_HEARD_OTHER, 184, 0, 0, 0, 0, {0, 0, 0, {0}, 0}, 5},
-    {2, "\xb9\1", FIO2070_HEARD_OTHER, 185, 0, 0, 0, 0, {0, 0, 0, {0}, 0}, 5},
-    {2, "\xba\1", FIO2070_HEARD_OTHER, 186, 0, 0, 0, 0, {0, 0, 0, {0}, 0}, 5},
-    {4, "\xbb\1\2\3", FIO2070_HEARD_OTHER, 187, 0, 0, 0, 0, {0, 0, 0, {0}, 0}, 5},
-    {2, "\xbc\2", FIO2070_HEARD_OTHER, 188, 0, 0, 0, 0, {0, 0, 0, {0}, 0}, 5},
+    {8, "\xb6\5\0\x0b\0\0\3\xe8", FIO2070_HEARD_TAKEN, 0, 5, 0x0b, 0, 0, 1000, {0, 0, 0, {0}, 0}, 6},
+    {11, "\xb6\5\1\x8c\3\xe7\x0c\0\0\3\xe8", FIO2070_HEARD_TAKEN, 0, 5, 0x0c, 1, 2, 1000, {0, 0, 0, {0}, 0}, 6},
+    {14, "\xb6\5\2\x8c\3\xe7\x0d\3\xe8\4\0\0\3\xe8", FIO2070_HEARD_NO_ROOM, 0, 5, 0, 0, 3, 1000, {0, 0, 0, {0}, 0}, 5},
+    {8, "\xb6\4\0\x0f\0\0\3\xe8", FIO2070_HEARD_STALE, 0, 4, 0, 0, 0, 1000, {0, 0, 0, {0}, 0}, 5},
+    {11, "\xb6\7\1\x8c\3\xe7\x0f\0\0\3\xe8", FIO2070_HEARD_STALE, 0, 7, 0, 0, 0, 1000, {0, 0, 0, {0}, 0}, 5},
+    {0, "", FIO2070_HEARD_UNREADABLE, 0, 0, 0, 0, 0, 0, {FIO2070_FAULT_EMPTY, 0, 0, {0}, 0}, 5},
+    {2, "\x36\5", FIO2070_HEARD_UNREADABLE, 0, 0, 0, 0, 0, 0, {FIO2070_FAULT_UNKNOWN_TYPE, 54, 0, {0}, 0}, 5},
+    {9, "\xb6\5\1\x8c\3\xe7\0\0\0", FIO2070_HEARD_UNREADABLE, 0, 0, 0, 0, 0, 0, {FIO2070_FAULT_WRONG_LENGTH, 0, 11, {0}, 9}, 5},
+    {8, "\xb1\x80\2\3\1\2\3\4", FIO2070_HEARD_OTHER, 177, 0, 0, 0, 0, 0, {0, 0, 0, {0}, 0}, 5},
+    {2, "\xb2\xfe", FIO2070_HEARD_OTHER, 178, 0, 0, 0, 0, 0, {0, 0, 0, {0}, 0}, 5},
+    {2, "\xb3\1", FIO2070_HEARD_OTHER, 179, 0, 0, 0, 0, 0, {0, 0, 0, {0}, 0}, 5},
+    {13, "\xb4\1\2\3\4\5\6\7\x08\1\2\3\4", FIO2070_HEARD_OTHER, 180, 0, 0, 0, 0, 0, {0, 0, 0, {0}, 0}, 5},
+    {13, "\xb5\1\2\3\4\5\6\7\x08\1\2\3\4", FIO2070_HEARD_OTHER, 181, 0, 0, 0, 0, 0, {0, 0, 0, {0}, 0}, 5},
+    {6, "\xb7\0\0\0\0\5", FIO2070_HEARD_OTHER, 183, 0, 0, 0, 0, 0, {0, 0, 0, {0}, 0}, 5},
+    {3, "\xb8\1\2", FIO2070_HEARD_OTHER, 184, 0, 0, 0, 0, 0, {0, 0, 0, {0}, 0}, 5},
+    {2, "\xb9\1", FIO2070_HEARD_OTHER, 185, 0, 0, 0, 0, 0, {0, 0, 0, {0}, 0}, 5},
+    {2, "\xba\1", FIO2070_HEARD_OTHER, 186, 0, 0, 0, 0, 0, {0, 0, 0, {0}, 0}, 5},
+    {4, "\xbb\1\2\3", FIO2070_HEARD_OTHER, 187, 0, 0, 0, 0, 0, {0, 0, 0, {0}, 0}, 5},
+    {2, "\xbc\2", FIO2070_HEARD_OTHER, 188, 0, 0, 0, 0, 0, {0, 0, 0, {0}, 0}, 5},
 };
 
 static void hears(void) {
@@ -166,7 +167,8 @@ static void hears(void) {
         struct fio2070_heard is =
             fio2070_poller_hear(&poller, (const uint8_t *)row->octets, row->length, items, 2);
         check(is.kind == row->kind && is.code == row->code && is.number == row->number && is.status == row->status &&
-                  is.entries == row->entries && is.items == row->items && same_fault(&is.fault, &row->fault) &&
+                  is.entries == row->entries && is.items == row->items && is.stamp == row->stamp &&
+                  memcmp(is.reserved, ZEROS, sizeof is.reserved) == 0 && same_fault(&is.fault, &row->fault) &&
                   poller.number == row->next,
               "heard", place);
     }

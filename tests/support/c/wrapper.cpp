@@ -57,6 +57,18 @@ static void reads_and_writes() {
     CHECK(octets(*fio2070::encode::other_answer(188, List({2}))) == List({0xbc, 2}));
 }
 
+static void reads_numbers() {
+    CHECK(fio2070::read_outputs_answer({0xb7, 0, 1, 2, 3, 4}).value() == 0x01020304);
+    CHECK(*fio2070::read_identification({0xbc, 0xfe}) == 0xfe);
+    CHECK(fio2070::read_outputs_answer({0xbc, 2}).fault().text() == "unknown type 188");
+    CHECK(fio2070::read_identification({0xbc}).fault().text() == "wrong length needed 2 got 1");
+    fio2070::Poller poller(5);
+    auto taken = poller.hear(BLOCK), stale = poller.hear(BLOCK), other = poller.hear(List({0xb3, 0}));
+    CHECK(taken.is_taken() && taken.number() == 5 && taken.stamp() == 1000);
+    CHECK(!stale.is_taken() && stale.number() == 5 && stale.stamp() == 1000);
+    CHECK(other.number() == 0 && other.stamp() == 0);
+}
+
 static void has_values() {
     CHECK(fio2070::encode::poll(5) == fio2070::encode::poll(5) && fio2070::encode::poll(5) != fio2070::encode::poll(6));
     CHECK(fio2070::encode::configure_inputs({{12, 0, 5, 3}, {3, 1, 0, 0}})->size() == 8);
@@ -174,7 +186,7 @@ static void polls_a_module() {
     auto heard = poller.hear(*answer);
     CHECK(heard.is_taken() && heard.entries() == 1 && heard.status() == 0 && poller.number() == 6);
     CHECK(poller.record().size() == 1 && poller.record()[0].input == 12 && poller.record()[0].wide == 1);
-    CHECK(poller.hear(*answer).kind() == FIO2070_HEARD_STALE && poller.hear(*answer).stale_number() == 5);
+    CHECK(poller.hear(*answer).kind() == FIO2070_HEARD_STALE && poller.hear(*answer).number() == 5);
     CHECK(poller.hear(List({0xb3, 0})).other_code() == 179);
     CHECK(poller.hear(List()).kind() == FIO2070_HEARD_UNREADABLE && poller.hear(List()).fault().text() == "empty");
     CHECK(poller.hear(List({0xb6, 6, 0, 12, 0, 0, 0, 1})).is_taken() && poller.record().size() == 2);
@@ -245,6 +257,7 @@ static void judges_content() {
 
 int main() {
     reads_and_writes();
+    reads_numbers();
     has_values();
     tells_values();
     has_the_most();

@@ -131,7 +131,7 @@ class Poller {
   }
 
   set number(number) {
-    this.library.machine.all[this.address + AT.poller.number] = number;
+    this.library.calls.fio2070_poller_start(BigInt(this.address), number);
   }
 
   // The octets of a poll.

@@ -1,6 +1,7 @@
 //! Both ends of the link, and the filters.
 
 use crate::constants::LONGEST_TEXT;
+use crate::errors::ConfigurationError;
 use crate::raw::{
     self, Breach, ConfigurationItem, ContentBreach, ErrorCounts, Fault, Outputs, RawChecker,
     RawContentChecker, RawCounter, RawFilters, RawHeard, RawModule, RawPoller, RawSizedModule,
@@ -16,8 +17,11 @@ use core::fmt;
 /// What a poller heard.
 #[derive(Clone, Copy, Debug, PartialEq, Eq)]
 pub enum Heard {
-    /// A block was taken; so many items were written.
+    /// A block was taken; so many items were written. The stamp is the module's millisecond counter when the block was
+    /// made.
     Taken {
+        number: u8,
+        stamp: u32,
         entries: u8,
         status: u8,
         items: usize,
@@ -27,9 +31,13 @@ pub enum Heard {
     /// An answer of another type.
     Other(u8),
     /// A block with this number, another than the present one.
-    Stale(u8),
-    /// The block adds so many items, for which there is no room.
-    NoRoom(usize),
+    Stale { number: u8, stamp: u32 },
+    /// A block with the present number adds so many items, for which there is no room.
+    NoRoom {
+        number: u8,
+        stamp: u32,
+        items: usize,
+    },
 }
 
 impl fmt::Display for Heard {
@@ -42,8 +50,8 @@ impl fmt::Display for Heard {
             } => (heard.kind, heard.entries, heard.status) = (0, entries, status),
             Heard::Unreadable(fault) => (heard.kind, heard.fault) = (1, fault),
             Heard::Other(code) => (heard.kind, heard.code) = (2, code),
-            Heard::Stale(number) => (heard.kind, heard.number) = (3, number),
-            Heard::NoRoom(items) => (heard.kind, heard.items) = (4, items as u16),
+            Heard::Stale { number, .. } => (heard.kind, heard.number) = (3, number),
+            Heard::NoRoom { items, .. } => (heard.kind, heard.items) = (4, items as u16),
         }
         let write = |out, room| unsafe { raw::fio2070_heard_text(&heard, out, room) };
         formatter.write_str(text(&mut [0; LONGEST_TEXT], write).unwrap_or(""))
@@ -54,9 +62,12 @@ impl fmt::Display for Heard {
 pub struct Poller(RawPoller);
 
 impl Poller {
-    /// The first poll asks for the block with this number.
-    pub const fn new(number: u8) -> Poller {
-        Poller(RawPoller { number })
+    /// The first poll asks for the block with this number. A CPU that goes on with the number that it kept loses nothing
+    /// and records nothing twice; one that starts anew with that of the module's last poll records its block again.
+    pub fn new(number: u8) -> Poller {
+        let mut poller = RawPoller { number: 0 };
+        unsafe { raw::fio2070_poller_start(&mut poller, number) };
+        Poller(poller)
     }
 
     /// The number of the block that the next poll asks for.
@@ -81,17 +92,23 @@ impl Poller {
                 items.len(),
             )
         };
-        let items = usize::from(heard.items);
+        let (number, stamp, items) = (heard.number, heard.stamp, usize::from(heard.items));
         match heard.kind {
             0 => Heard::Taken {
+                number,
+                stamp,
                 entries: heard.entries,
                 status: heard.status,
                 items,
             },
             1 => Heard::Unreadable(heard.fault),
             2 => Heard::Other(heard.code),
-            3 => Heard::Stale(heard.number),
-            _ => Heard::NoRoom(items),
+            3 => Heard::Stale { number, stamp },
+            _ => Heard::NoRoom {
+                number,
+                stamp,
+                items,
+            },
         }
     }
 }
@@ -103,13 +120,18 @@ pub struct Checker(RawChecker);
 
 impl Default for Checker {
     fn default() -> Checker {
-        let mut checker = RawChecker::default();
-        unsafe { raw::fio2070_checker_start(&mut checker) };
-        Checker(checker)
+        Checker::new()
     }
 }
 
 impl Checker {
+    /// Above the first frame.
+    pub fn new() -> Checker {
+        let mut checker = RawChecker::default();
+        unsafe { raw::fio2070_checker_start(&mut checker) };
+        Checker(checker)
+    }
+
     /// The breach of a frame that the CPU sent.
     pub fn sent(&mut self, octets: &[u8]) -> Option<Breach> {
         self.breach_by(raw::fio2070_checker_sent, octets)
@@ -138,13 +160,18 @@ pub struct ContentChecker(RawContentChecker);
 
 impl Default for ContentChecker {
     fn default() -> ContentChecker {
-        let mut content = RawContentChecker::default();
-        unsafe { raw::fio2070_content_start(&mut content) };
-        ContentChecker(content)
+        ContentChecker::new()
     }
 }
 
 impl ContentChecker {
+    /// Above the first frame.
+    pub fn new() -> ContentChecker {
+        let mut content = RawContentChecker::default();
+        unsafe { raw::fio2070_content_start(&mut content) };
+        ContentChecker(content)
+    }
+
     /// Takes a frame that the CPU sent.
     pub fn sent(&mut self, octets: &[u8]) {
         unsafe { raw::fio2070_content_sent(&mut self.0, octets.as_ptr(), octets.len()) }
@@ -167,6 +194,13 @@ pub struct Counter(RawCounter);
 
 impl Default for Counter {
     fn default() -> Counter {
+        Counter::new()
+    }
+}
+
+impl Counter {
+    /// At 0, with no load asked for.
+    pub fn new() -> Counter {
         let mut counter = RawCounter {
             value: 0,
             load: 0,
@@ -176,9 +210,7 @@ impl Default for Counter {
         unsafe { raw::fio2070_counter_start(&mut counter) };
         Counter(counter)
     }
-}
 
-impl Counter {
     /// One step, from 4,294,967,295 to 0.
     pub fn tick(&mut self) {
         unsafe { raw::fio2070_counter_tick(&mut self.0) }
@@ -206,22 +238,28 @@ pub struct Filters(RawFilters);
 
 impl Default for Filters {
     fn default() -> Filters {
-        let mut filters = RawFilters::default();
-        unsafe { raw::fio2070_filters_start(&mut filters) };
-        Filters(filters)
+        Filters::new()
     }
 }
 
 impl Filters {
-    /// Applies the items in order, or none: the error is the place of the first item that names an
-    /// input above 63, or 255 where there are more than 255 items.
-    pub fn configure(&mut self, items: &[ConfigurationItem]) -> Result<(), usize> {
+    /// Each input is ignored, both its filters are 5, and its raw level and filtered state are 1.
+    pub fn new() -> Filters {
+        let mut filters = RawFilters::default();
+        unsafe { raw::fio2070_filters_start(&mut filters) };
+        Filters(filters)
+    }
+
+    /// Applies the items in order, or none.
+    pub fn configure(&mut self, items: &[ConfigurationItem]) -> Result<(), ConfigurationError> {
         let done =
             unsafe { raw::fio2070_filters_configure(&mut self.0, items.as_ptr(), items.len()) };
         match done.kind {
             0 => Ok(()),
-            1 => Err(done.place as usize),
-            _ => Err(255),
+            1 => Err(ConfigurationError::AbsentInput {
+                place: done.place as usize,
+            }),
+            _ => Err(ConfigurationError::TooManyItems),
         }
     }
 

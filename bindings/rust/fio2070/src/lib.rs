@@ -1,6 +1,7 @@
 //! The field I/O transition link of the Model 2070, by the proved library libfio2070.a.
 //!
-//! Ranges, errors and sources are those of include/fio2070.h. Nothing here allocates.
+//! Ranges, errors and sources are those of include/fio2070.h. Nothing here allocates. The feature `std`, which is on by
+//! default, gives the types of errors `std::error::Error`: without it the crate is `no_std`.
 //!
 //! ```
 //! use fio2070::{Heard, Module, Poller, RecordItem, LONGEST_FRAME, MOST_RECORD_ITEMS};
@@ -17,10 +18,13 @@
 //! assert_eq!(poller.number(), 1);
 //! ```
 #![no_std]
+#[cfg(feature = "std")]
+extern crate std;
 
 pub mod constants;
 mod encode;
 mod ends;
+mod errors;
 mod raw;
 mod written;
 
@@ -31,6 +35,7 @@ pub use encode::{
     watchdog, watchdog_answer,
 };
 pub use ends::{Checker, ContentChecker, Counter, Filters, Heard, Module, Poller, SizedModule};
+pub use errors::ConfigurationError;
 pub use raw::{
     Answer, Breach, Command, ConfigurationItem, ContentBreach, Entry, ErrorCounts, Fault, Outputs,
     RecordItem,
@@ -51,8 +56,6 @@ impl fmt::Display for Fault {
         formatter.write_str(text(&mut [0; LONGEST_TEXT], write).unwrap_or(""))
     }
 }
-
-impl core::error::Error for Fault {}
 
 fn read<T>(fault: Fault, message: T) -> Result<T, Fault> {
     match fault.kind {
@@ -75,6 +78,23 @@ pub fn decode_answer(octets: &[u8]) -> Result<Answer, Fault> {
     // SAFETY: as in `decode_command`.
     let fault = unsafe { raw::fio2070_decode_answer(octets.as_ptr(), octets.len(), &mut answer) };
     read(fault, answer)
+}
+
+/// Reads the module's millisecond counter in its answer to command 55 (answer 183).
+pub fn read_outputs_answer(octets: &[u8]) -> Result<u32, Fault> {
+    let mut stamp = 0;
+    // SAFETY: as in `decode_command`.
+    let fault =
+        unsafe { raw::fio2070_read_outputs_answer(octets.as_ptr(), octets.len(), &mut stamp) };
+    read(fault, stamp)
+}
+
+/// Reads which module answered command 60 (answer 188).
+pub fn read_identification(octets: &[u8]) -> Result<u8, Fault> {
+    let mut id = 0;
+    // SAFETY: as in `decode_command`.
+    let fault = unsafe { raw::fio2070_read_identification(octets.as_ptr(), octets.len(), &mut id) };
+    read(fault, id)
 }
 
 /// Copies the entries of a block answer to the front of `entries`.

@@ -25,7 +25,7 @@ pub struct Entry {
 #[repr(C)]
 pub struct ConfigurationItem {
     pub input: u8,
-    pub ignore: u8,
+    pub ignore: bool,
     pub leading: u8,
     pub trailing: u8,
 }
@@ -67,7 +67,7 @@ pub struct Answer {
 #[derive(Clone, Copy, Debug, Default, PartialEq, Eq)]
 #[repr(C)]
 pub struct RecordItem {
-    pub gap: u8,
+    pub gap: bool,
     pub input: u8,
     pub state: u8,
     pub reserved: [u8; 3],
@@ -87,9 +87,10 @@ pub(crate) struct RawHeard {
     pub code: u8,
     pub number: u8,
     pub status: u8,
-    pub entries: u8,
-    pub reserved: u8,
+    pub stamp: u32,
     pub items: u16,
+    pub entries: u8,
+    pub reserved: [u8; 5],
     pub fault: Fault,
 }
 
@@ -130,7 +131,7 @@ pub(crate) struct RawCounter {
 #[repr(C)]
 pub struct Breach {
     pub rule: u8,
-    pub has_due: u8,
+    pub has_due: bool,
     pub due: u8,
     pub got: u8,
 }
@@ -147,6 +148,7 @@ pub(crate) struct RawChecker {
     pub advanced: u8,
     pub more: u8,
     pub skips: u8,
+    pub reserved: [u8; 7],
 }
 
 /// The first entry of a block that breaks a rule on content: the rule, from 1, the index of the entry in its block, and its
@@ -235,6 +237,16 @@ extern "C" {
         out: *mut u8,
         out_count: usize,
     ) -> usize;
+    pub(crate) fn fio2070_read_outputs_answer(
+        octets: *const u8,
+        octets_count: usize,
+        stamp: &mut u32,
+    ) -> Fault;
+    pub(crate) fn fio2070_read_identification(
+        octets: *const u8,
+        octets_count: usize,
+        id: &mut u8,
+    ) -> Fault;
     pub(crate) fn fio2070_decode_answer(
         octets: *const u8,
         octets_count: usize,
@@ -343,6 +355,7 @@ extern "C" {
     pub(crate) fn fio2070_module_filtered(device: &RawModule) -> u64;
     pub(crate) fn fio2070_module_raw(device: &RawModule) -> u64;
     pub(crate) fn fio2070_module_waiting(device: &RawModule) -> usize;
+    pub(crate) fn fio2070_poller_start(poller: &mut RawPoller, number: u8);
     pub(crate) fn fio2070_poller_poll(poller: &RawPoller, out: *mut u8, out_count: usize) -> usize;
     pub(crate) fn fio2070_poller_hear(
         poller: &mut RawPoller,

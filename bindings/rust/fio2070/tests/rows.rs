@@ -22,13 +22,13 @@ fn commands_are_written_and_read() {
     let items = [
         ConfigurationItem {
             input: 12,
-            ignore: 0,
+            ignore: false,
             leading: 5,
             trailing: 3,
         },
         ConfigurationItem {
             input: 3,
-            ignore: 1,
+            ignore: true,
             leading: 0,
             trailing: 0,
         },
@@ -174,6 +174,35 @@ fn constants_are_those_of_the_header() {
     assert!(ours.len() > 50);
 }
 
+/// Both kinds of errors are `std::error::Error`, and have words.
+#[test]
+fn errors_have_words() {
+    fn words(error: &dyn std::error::Error) -> String {
+        error.to_string()
+    }
+    let place = ConfigurationError::AbsentInput { place: 1 };
+    assert_eq!(words(&place), "item 1 names an input above 63");
+    assert_eq!(
+        words(&ConfigurationError::TooManyItems),
+        "more than 255 items"
+    );
+    assert_eq!(
+        words(&read_identification(&[0xbc]).unwrap_err()),
+        "wrong length needed 2 got 1"
+    );
+}
+
+#[test]
+fn answers_of_one_number_are_read() {
+    assert_eq!(read_outputs_answer(&[0xb7, 0, 1, 2, 3, 4]), Ok(0x0102_0304));
+    let fault = read_outputs_answer(&[0xbc, 2]).unwrap_err();
+    assert_eq!(
+        (fault.kind, fault.code),
+        (constants::FAULT_UNKNOWN_TYPE, 188)
+    );
+    assert_eq!(read_identification(&[0xbc, 0xfe]), Ok(0xfe));
+}
+
 #[test]
 fn faults_have_words() {
     let words = |octets: &[u8]| decode_command(octets).unwrap_err().to_string();
@@ -285,10 +314,20 @@ fn a_poller_polls_a_module() {
         Some(&answer[..])
     );
     assert_eq!(poll, [54, poller.number()]);
-    assert_eq!(poller.hear(&answer, &mut []), Heard::NoRoom(1));
+    let (number, stamp) = (5, 999);
+    assert_eq!(
+        poller.hear(&answer, &mut []),
+        Heard::NoRoom {
+            number,
+            stamp,
+            items: 1
+        }
+    );
     assert_eq!(
         poller.hear(&answer, &mut items),
         Heard::Taken {
+            number,
+            stamp,
             entries: 1,
             status: 0,
             items: 1
@@ -297,7 +336,7 @@ fn a_poller_polls_a_module() {
     assert_eq!(
         items[0],
         RecordItem {
-            gap: 0,
+            gap: false,
             input: 12,
             state: 0,
             stamp: 999,
@@ -305,7 +344,10 @@ fn a_poller_polls_a_module() {
             ..RecordItem::default()
         }
     );
-    assert_eq!(poller.hear(&answer, &mut items), Heard::Stale(5));
+    assert_eq!(
+        poller.hear(&answer, &mut items),
+        Heard::Stale { number, stamp }
+    );
     assert_eq!(poller.hear(&[179, 0], &mut items), Heard::Other(179));
     assert!(matches!(
         poller.hear(&[], &mut items),
@@ -332,17 +374,21 @@ fn a_poller_polls_a_module() {
 
 #[test]
 fn filters_change_after_their_samples() {
-    let mut filters = Filters::default();
+    let mut filters = Filters::new();
     let item = ConfigurationItem {
         input: 2,
-        ignore: 0,
+        ignore: false,
         leading: 3,
         trailing: 2,
     };
     assert_eq!(filters.configure(&[item]), Ok(()));
     assert_eq!(
         filters.configure(&[item, ConfigurationItem { input: 64, ..item }]),
-        Err(1)
+        Err(ConfigurationError::AbsentInput { place: 1 })
+    );
+    assert_eq!(
+        filters.configure(&[item; 256]),
+        Err(ConfigurationError::TooManyItems)
     );
     let samples = [1, 0, 0, 1, 0, 0, 0, 1, 0, 1, 1];
     let changes: Vec<u64> = samples
@@ -355,7 +401,7 @@ fn filters_change_after_their_samples() {
 
 #[test]
 fn a_counter_is_loaded_at_the_line_sync() {
-    let mut counter = Counter::default();
+    let mut counter = Counter::new();
     counter.tick();
     counter.ask_load(u32::MAX);
     assert_eq!(counter.now(), 1);
@@ -366,10 +412,11 @@ fn a_counter_is_loaded_at_the_line_sync() {
 
 #[test]
 fn a_checker_says_what_was_due_and_goes_on() {
-    let mut checker = Checker::default();
+    let mut checker = Checker::new();
     assert_eq!(checker.sent(&[54, 255]), None);
     let breach = checker.sent(&[54, 0]).unwrap();
     assert_eq!((breach.rule, breach.due, breach.got), (4, 255, 0));
+    assert!(breach.has_due);
     assert_eq!(checker.heard(&BLOCK), None);
     assert_eq!(checker.sent(&[54, 6]), None);
     let breach = checker.heard(&BLOCK).unwrap();
@@ -378,7 +425,7 @@ fn a_checker_says_what_was_due_and_goes_on() {
 
 #[test]
 fn an_entry_that_comes_twice_breaks_a_rule_on_content() {
-    let mut content = ContentChecker::default();
+    let mut content = ContentChecker::new();
     content.sent(&[54, 0]);
     assert_eq!(content.heard(&[182, 0, 0, 0, 0, 0, 0, 0]), None);
     content.sent(&[54, 1]);

@@ -86,10 +86,10 @@ static void count_polls(const char *poll_case, const char *again, const char *he
     uint32_t polls = 0, agains = 0, hears = 0;
     int time;
     begin();
-    poller.number = number = 0;
+    fio2070_poller_start(&poller, number = 0);
     for (time = 0; time < TIMES; time++) {
         change(changes);
-        poller.number = ++number;
+        fio2070_poller_start(&poller, ++number);
         length = fio2070_poller_poll(&poller, frame, sizeof frame);
         spent = 0; from_here(); poll(); to_here(); polls += spent;
         spent = 0; from_here(); hear(); to_here(); hears += spent;
@@ -154,7 +154,7 @@ static void count_stacks(void) {
     say_stack("module_scan, 64 changes", scan);
     begin();
     change(255);
-    poller.number = 1;
+    fio2070_poller_start(&poller, 1);
     length = fio2070_poller_poll(&poller, frame, sizeof frame);
     say_stack("poller_poll", poller_poll);
     say_stack("module_receive, poll", poll);
