@@ -3,4 +3,5 @@ pub mod Found
 pub mod Needs
 pub mod Overwriting
 pub mod Checkers
-mod Started
+mod Rings
+mod Replies
