@@ -1,5 +1,5 @@
 use Rattle.fio_module.proofs.Names.{◌≡◌, ◌≤◌, ◌-◌, ◌++◌, length, take, drop, min, ap, ap₂, ◌∙◌, arith, first_in}
-use Rattle.fio_module.proofs.ArrayRings.{ring-length, ring-parts}
+use Rattle.fio_module.proofs.RingLists.{ring-length, ring-parts}
 use Rattle.fio_module.proofs.MemoryRings.{first_in-at_most}
 use Rattle.fio_module.proofs.memory_ring.MemoryRingEntryRing.parts.Goals as goal
 

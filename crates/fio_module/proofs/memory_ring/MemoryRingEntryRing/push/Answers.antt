@@ -1,5 +1,5 @@
 use Rattle.fio_module.proofs.Names.{◌≡◌, ◌+◌, ◌-◌, ◌<◌, ◌≤◌, ◌++◌, ◌∷◌, [], length, drop, min, ap, ap₂, sym, ◌∙◌, arith, inl, inr, length-append, slice_set, leb_tells, length-set, buffer, first_in}
-use Rattle.fio_module.proofs.ArrayRings.{ring_from, ring-length, push-straight, push-wrapped, push-full, push-full_last}
+use Rattle.fio_module.proofs.RingLists.{ring_from, ring-length, push-straight, push-wrapped, push-full, push-full_last}
 use Rattle.fio_module.proofs.MemoryRings.{first_in-inside, first_in-same}
 use Rattle.fio_module.proofs.memory_ring.MemoryRingEntryRing.push.Goals as goal
 

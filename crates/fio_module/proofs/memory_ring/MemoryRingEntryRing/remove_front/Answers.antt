@@ -1,5 +1,5 @@
 use Rattle.fio_module.proofs.Names.{◌≡◌, ◌+◌, ◌-◌, ◌≤◌, length, drop, min, ap, ap₂, sym, ◌∙◌, arith, inl, inr, drop_min, leb_tells, buffer, first_in}
-use Rattle.fio_module.proofs.ArrayRings.{ring_from, ring-length, remove-straight, remove-wrapped}
+use Rattle.fio_module.proofs.RingLists.{ring_from, ring-length, remove-straight, remove-wrapped}
 use Rattle.fio_module.proofs.MemoryRings.{first_in-at_most, first_in-inside, first_in-next, first_in-same}
 use Rattle.fio_module.proofs.memory_ring.MemoryRingEntryRing.remove_front.Goals as goal
 
