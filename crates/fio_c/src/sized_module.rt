@@ -18,16 +18,13 @@ ghost use Rattle.fio_module.specs.Log.{log_of};
 ghost use Rattle.fio_module.specs.Blocks.{newest_end};
 ghost use Rattle.fio_module.specs.Flags.{flags_of, watchdog_of, outputs_of};
 ghost use Rattle.fio_module.specs.Replies.{longest_answer};
+ghost use Rattle.fio_flat.specs.declared.written.TheConstants.{NO_MESSAGE};
 ghost use Rattle.fio_flat.specs.Module.{AddsEvent, AddsEventAlone, DeviceHistory, ErrorsChanged, IsDeviceAfter, OneMoreInReceiving, OneMoreInTransmitting, Reached, Replies, Set, are_limits, errors_of, events_reached, module_at_start, settings_of};
-ghost use Rattle.fio_c.specs.declared.sized_module.TheConstants.{NO_MESSAGE};
 
 use crate::answering::{answer, scan};
-use fio_flat::{ErrorCounts, Limits, SizedModule};
+use fio_flat::{ErrorCounts, Limits, NO_MESSAGE, SizedModule};
 use fio_message::{EntryOctets, read_command};
 use fio_module::{MOST_WAITING, ModuleState, Outputs, RingPlace};
-
-/// What a call returns where there is nothing such: more than there is ever room for.
-const NO_MESSAGE: usize = usize::MAX;
 
 /// The error counts at the start, and after a restart (own profile).
 const NO_ERRORS: ErrorCounts = ErrorCounts {
@@ -153,7 +150,8 @@ pub extern "C" fn fio2070_sized_module_receive(
         → Replies octets.now device.old ring.old out.old out.new result }
     ensures no_command { longest_answer device.old.state.per_block ≤ length out.old
         → command_in octets.now ≡ None
-        → (result ≡ NO_MESSAGE) × (device.new ≡ device.old) × (ring.new ≡ ring.old) × (out.new ≡ out.old) }
+        → (result ≡ NO_MESSAGE) × (length out.old < result)
+        × (device.new ≡ device.old) × (ring.new ≡ ring.old) × (out.new ≡ out.old) }
     ensures no_room { length out.old < longest_answer device.old.state.per_block
         → (result ≡ longest_answer device.old.state.per_block)
         × (device.new ≡ device.old) × (ring.new ≡ ring.old) × (out.new ≡ out.old) }

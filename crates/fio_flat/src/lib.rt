@@ -9,7 +9,9 @@
 mod faults;
 mod module;
 mod poller;
+mod written;
 
 pub use faults::Fault;
 pub use module::{ErrorCounts, Limits, SizedModule};
 pub use poller::{Heard, Poller, RecordItem};
+pub use written::NO_MESSAGE;

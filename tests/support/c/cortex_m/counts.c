@@ -38,9 +38,14 @@ static uint8_t number;
 /* ---- The cases ---- */
 
 static void scan(void) { fio2070_module_scan(&device, levels); }
-static void poll(void) { block_length = fio2070_module_receive(&device, frame, length, block); }
+static void poll(void) { block_length = fio2070_module_receive(&device, frame, length, block, sizeof block); }
 static void hear(void) { heard = fio2070_poller_hear(&poller, block, block_length, record, FIO2070_MOST_RECORD_ITEMS); }
-static void receive(void) { count = fio2070_module_receive(&device, frame, length, out); }
+static void receive(void) { count = fio2070_module_receive(&device, frame, length, out, sizeof out); }
+
+static void start(void) {
+    static const struct fio2070_limits limits = FIO2070_STANDARD_LIMITS;
+    count = fio2070_module_start(&device, 2, limits);
+}
 
 /* A module with open inputs and filters of 1, with all levels 1. */
 static void begin(void) {
@@ -50,7 +55,7 @@ static void begin(void) {
         items[place].leading = items[place].trailing = 1;
         items[place].ignore = 0;
     }
-    fio2070_module_start(&device, 2, FIO2070_MOST_ENTRIES);
+    start();
     length = fio2070_encode_configure_inputs(items, 64, frame, sizeof frame);
     receive();
     levels = ~(uint64_t)0;
@@ -102,7 +107,6 @@ static void count_polls(const char *poll_case, const char *again, const char *he
 /* ---- The stack ---- */
 
 static void nothing(void) {}
-static void start(void) { fio2070_module_start(&device, 2, 255); }
 static void decode_command(void) { fault = fio2070_decode_command(frame, length, &command); }
 static void command_items(void) { count = fio2070_command_items(frame, length, items, FIO2070_MOST_ENTRIES); }
 static void configure(void) { fio2070_filters_configure(&filters, items, FIO2070_MOST_ENTRIES); }
