@@ -702,12 +702,12 @@ struct fio2070_sized_module {
         } sent;
     } state;
     struct {
-        uint64_t first;
-        uint64_t count;
+        uint16_t first;
+        uint16_t count;
     } place;
     struct fio2070_error_counts errors;
     uint16_t waiting;
-    uint8_t reserved[12];
+    uint8_t reserved[16];
 };
 
 /** What a call that starts a module returns. */
@@ -909,7 +909,7 @@ FIO2070_SAME(limits, sizeof(struct fio2070_limits) == 4 &&
              offsetof(struct fio2070_limits, per_block) == 2 &&
              offsetof(struct fio2070_limits, reserved) == 3);
 
-FIO2070_SAME(sized_module, sizeof(struct fio2070_sized_module) == 1064);
+FIO2070_SAME(sized_module, sizeof(struct fio2070_sized_module) == 1056);
 
 FIO2070_SAME(error_counts, sizeof(struct fio2070_error_counts) == 2 &&
              offsetof(struct fio2070_error_counts, transmit) == 1);

@@ -62,7 +62,7 @@ static void put64(uint8_t *p, uint64_t v) { put32(p, (uint32_t)v); put32(p + 4, 
 SAME(size_of_content_checker, sizeof(struct fio2070_content_checker), 1168);
 SAME(size_of_counter, sizeof(struct fio2070_counter), 12);
 SAME(size_of_filters, sizeof(struct fio2070_filters), 216);
-SAME(size_of_sized_module, sizeof(struct fio2070_sized_module), 1064);
+SAME(size_of_sized_module, sizeof(struct fio2070_sized_module), 1056);
 SAME(size_of_slot, sizeof(struct fio2070_slot), 3);
 SAME(size_of_outputs, sizeof(struct fio2070_outputs), 16);
 SAME(size_of_item, sizeof(struct fio2070_configuration_item), 4);

@@ -101,7 +101,7 @@ class CLimits(ctypes.Structure):
 
 class CSizedModule(ctypes.Structure):
     """The octets of struct fio2070_sized_module."""
-    _fields_ = [('words', c_uint64 * 133)]
+    _fields_ = [('words', c_uint64 * 132)]
 
 
 library = _load()

@@ -1,5 +1,5 @@
 //! What a module does whose entries wait in slots of the caller.
-ghost use Rattle.std.specs.Prelude.{◌≡◌, ◌∷◌};
+ghost use Rattle.std.specs.Prelude.{◌≡◌, ◌<◌, ◌∷◌, length};
 ghost use Rattle.fio_message.specs.Views.{command_of};
 ghost use Rattle.fio_module.specs.Settings.{Settings};
 ghost use Rattle.fio_module.specs.Life.{Commanded, History, Life, Scan};
@@ -21,6 +21,7 @@ pub(crate) fn scan(
     slots: &mut [EntryOctets],
     raw: u64,
 )
+    requires { length slots.old < 65536 }
     ensures { (settings : Settings) (history : History)
         → IsAfterHistory settings state.old (ring_in place.old slots.old) history
         → IsAfterHistory settings state.new (ring_in place.new slots.new) (Scan raw ∷ history) }
@@ -38,6 +39,7 @@ pub(crate) fn answer(
     command: CommandView<'_>,
     out: &mut [u8],
 ) -> usize
+    requires { length slots.old < 65536 }
     ensures carried { (settings : Settings) (life : Life)
         → IsAfter settings state.old (ring_in place.old slots.old) life
         → IsAfter settings state.new (ring_in place.new slots.new)

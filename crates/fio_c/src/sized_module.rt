@@ -51,7 +51,7 @@ pub extern "C" fn fio2070_sized_module_start(device: &mut SizedModule, id: u8, l
         place: RingPlace::new(),
         errors: NO_ERRORS,
         waiting: limits.waiting,
-        reserved: [0; 12],
+        reserved: [0; 16],
     };
     0
 }
@@ -250,5 +250,5 @@ pub extern "C" fn fio2070_sized_module_waiting(device: &SizedModule) -> usize
         → result ≡ min settings.waiting
         (length (log_of (life_of (events_reached history))) - newest_end settings (life_of (events_reached history))) }
 {
-    device.place.len(usize::from(device.waiting))
+    usize::from(device.place.len(device.waiting))
 }

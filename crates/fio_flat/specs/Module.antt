@@ -80,7 +80,7 @@ module_at_start id limits = record {
   place = empty_place;
   errors = errors_of [];
   waiting = limits.waiting;
-  reserved = replicate 12 0;
+  reserved = replicate 16 0;
 }
 
 -- the ring of a module: the front of its array, as many slots as entries may wait

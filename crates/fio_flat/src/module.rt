@@ -27,7 +27,7 @@ pub struct SizedModule {
     /// The most entries that wait: of a longer array the front alone is used.
     pub waiting: u16,
     /// Padding to a multiple of 8 octets, and room for later versions.
-    pub reserved: [u8; 12],
+    pub reserved: [u8; 16],
 }
 
 /// The errors that the firmware counted, as the answer 177 has them.

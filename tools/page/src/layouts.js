@@ -13,7 +13,7 @@ export const SIZE = {
   fault: 16,
   configured: 16,
   limits: 4,
-  sizedModule: 1064,
+  sizedModule: 1056,
   errorCounts: 2,
   poller: 1,
   recordItem: 12,

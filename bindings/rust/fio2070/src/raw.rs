@@ -185,7 +185,7 @@ macro_rules! opaque {
 opaque! {
     RawContentChecker: 146,
     RawFilters: 27,
-    RawSizedModule: 133,
+    RawSizedModule: 132,
 }
 
 // The calls: written by tools/generate-layouts. Not each is used here.

@@ -104,6 +104,18 @@ static void count_polls(const char *poll_case, const char *again, const char *he
     spent = agains; say(again);
 }
 
+static void count_configurations(const char *what, size_t most) {
+    int time;
+    begin();
+    length = fio2070_encode_configure_inputs(items, most, frame, sizeof frame);
+    for (time = 0; time < TIMES; time++) {
+        from_here();
+        receive();
+        to_here();
+    }
+    say(what);
+}
+
 /* ---- The stack ---- */
 
 static void nothing(void) {}
@@ -182,6 +194,8 @@ int main(void) {
     count_scans("module_scan, 64 inputs change", ~(uint64_t)0);
     count_polls("module_receive, poll, 20 entries", "module_receive, poll again, 20 entries", "poller_hear, 20 entries", 20);
     count_polls("module_receive, poll, 255 entries", "module_receive, poll again, 255 entries", "poller_hear, 255 entries", 255);
+    count_configurations("module_receive, 64 items", 64);
+    count_configurations("module_receive, 255 items", FIO2070_MOST_ENTRIES);
     count_stacks();
     return 0;
 }
