@@ -13,7 +13,7 @@
  *  - During a call no one else writes what an argument points to, and no one else reads what an
  *    argument without const points to. Such an argument overlaps no other.
  *  - The structs filters, counter, checker, content_checker, module and sized_module are written by the calls of
- *    this header alone, _start first, and so is the array of a sized_module. Before _start they may hold any octets;
+ *    this header alone, _start first, and so are the slots of a sized_module. Before _start they may hold any octets;
  *    _start sets each of those of a struct. They may be copied and moved by memcpy.
  *
  * Sources: TEES 2009 is Caltrans TEES 2009. "Own profile" is a choice of this project where TEES
@@ -46,6 +46,13 @@
 #elif SIZE_MAX != 0xffffffffffffffff
 #error "libfio2070.a has 64-bit pointers, and this compiler has shorter ones."
 #endif
+#endif
+
+/** In front of the calls whose result tells of a failure: gcc and clang warn where it is dropped. */
+#if defined(__GNUC__)
+#define FIO2070_MUST_USE __attribute__((warn_unused_result))
+#else
+#define FIO2070_MUST_USE
 #endif
 
 /** In front of the calls whose result tells of a failure: gcc and clang warn where it is dropped. */
@@ -91,7 +98,8 @@ enum {
     FIO2070_LONGEST_FRAME = 773,     /**< octets of a frame (own profile) */
     FIO2070_MOST_ENTRIES = 255,      /**< entries of a block, and items of a configuration (TEES 2009) */
     FIO2070_MOST_RECORD_ITEMS = 256, /**< what one block adds to a record: a gap mark and its entries */
-    FIO2070_MOST_WAITING = 1024,     /**< entries that wait in a module (TEES 2009) */
+    FIO2070_STANDARD_WAITING = 1024, /**< entries that wait in a module (TEES 2009) */
+    FIO2070_MOST_WAITING = 8192,     /**< the largest limit of these (own profile) */
     FIO2070_LONGEST_TEXT = 62        /**< octets of a text, with its zero octet: not of fio2070_show */
 };
 
@@ -666,31 +674,14 @@ struct fio2070_error_counts {
     uint8_t transmit;
 };
 
-/** A module of which 1,024 entries may wait. The fields are the library's own. */
-struct fio2070_module {
-    struct {
-        uint8_t id;
-        uint8_t per_block;
-        uint8_t flags;
-        uint8_t watchdog;
-        uint8_t pushed_out;
-        uint8_t reserved[7];
-        struct fio2070_counter counter;
-        struct fio2070_outputs outputs;
-        struct fio2070_filters filters;
-        struct {
-            uint8_t octets[773];
-            uint8_t reserved;
-            uint16_t length;
-        } sent;
-    } state;
-    struct {
-        uint8_t entries[1024][3];
-        uint16_t first;
-        uint16_t count;
-    } waiting;
-    struct fio2070_error_counts errors;
-    uint8_t reserved[2];
+/** The limits of a module (own profile; TEES 2009 has 1,024 and 255). */
+struct fio2070_limits {
+    /** The most entries that wait for a poll, 1 to 8,192. */
+    uint16_t waiting;
+    /** The most entries of a block, 1 to 255. */
+    uint8_t per_block;
+    /** Not read. */
+    uint8_t reserved;
 };
 
 /** What a call that starts a module returns. */
@@ -699,49 +690,46 @@ enum fio2070_start_kind {
     FIO2070_REFUSED = 1 /**< the limits are out of their ranges, and nothing changed */
 };
 
-/** Starts a module that answers `id` to command 60, and whose blocks have at most `per_block` entries,
- * 1 to 255 (TEES 2009: 255). Returns 0; where per_block is 0 it returns 1, and nothing changes. */
-uint8_t fio2070_module_start(struct fio2070_module *module, uint8_t id, uint8_t per_block);
-/** Starts it anew with the same id and per_block: the flags are P alone, the counter and the error counts are 0,
- * and the waiting entries and the block that was sent last are lost (own profile). */
-void fio2070_module_restart(struct fio2070_module *module);
-/** Steps the counter by one millisecond, then samples each input; bit i of `raw` is the level of input
- * i (own profile: one scan a step). Each reported transition becomes a waiting entry; where 1,024
- * wait it pushes out the oldest. */
-void fio2070_module_scan(struct fio2070_module *module, uint64_t raw);
-/** LINESYNC goes from 0 to 1: a load of the counter that was asked for happens now (TEES 2009). */
-void fio2070_module_line_sync(struct fio2070_module *module);
-/** Sets the flags whose bits are one: from bit 7 down P, E, K, R, T, M, L, W (own profile). */
-void fio2070_module_raise(struct fio2070_module *module, uint8_t mask);
-/** Sets the error counts that the answer 177 has from now on; both are 0 at the start. TEES 2009 leaves out what
- * counts as an error: the firmware does. */
-void fio2070_module_set_errors(struct fio2070_module *module, uint8_t receive, uint8_t transmit);
-/** Takes the octets of a frame, writes the answer to the front of `out`, and returns how many octets it
- * has, 1 to 773. 0 where there is no answer, and then `out` is unchanged: octets that spell no
- * command, and commands 56, 57 and 59, get none and change nothing (own profile). */
-size_t fio2070_module_receive(struct fio2070_module *module, const uint8_t *octets, size_t length,
-                              uint8_t out[FIO2070_LONGEST_FRAME]);
-/** The outputs, all 0 before the first command 55 (own profile). */
-struct fio2070_outputs fio2070_module_outputs(const struct fio2070_module *module);
-/** The timeout of the watchdog in milliseconds, 10 to 100; 0 before the first command 58. */
-uint8_t fio2070_module_watchdog_ms(const struct fio2070_module *module);
-/** The milliseconds counted, modulo 2^32 (TEES 2009). */
-uint32_t fio2070_module_counter(const struct fio2070_module *module);
-/** The filtered states, also of ignored inputs; bit i is input i. */
-uint64_t fio2070_module_filtered(const struct fio2070_module *module);
-/** The levels of the last scan, all 1 before any (own profile); bit i is input i. */
-uint64_t fio2070_module_raw(const struct fio2070_module *module);
-/** The flags that are up: from bit 7 down P, E, K, R, T, M, L, W (own profile). */
-uint8_t fio2070_module_flags(const struct fio2070_module *module);
-/** The error counts that the answer 177 has. */
-struct fio2070_error_counts fio2070_module_errors(const struct fio2070_module *module);
-/** How many entries wait for a poll, 0 to 1,024. */
-size_t fio2070_module_waiting(const struct fio2070_module *module);
+/** Those of TEES 2009: struct fio2070_limits limits = FIO2070_STANDARD_LIMITS; */
+#define FIO2070_STANDARD_LIMITS {FIO2070_STANDARD_WAITING, FIO2070_MOST_ENTRIES, 0}
 
-/** A module whose waiting entries are in an array of the caller, three octets each. _scan and _receive are given it as
- * `ring`, and its length, the limit of waiting entries, as `capacity`: always the same array, or one with its octets. With
- * another array or capacity each call is safe, and the entries that wait are what it has. With capacity 0 none waits, each
- * is lost, and `ring` may be null. The fields are the library's own. */
+/** Room for an entry that waits. */
+struct fio2070_slot {
+    uint8_t octets[3];
+};
+
+/** An array of such room. FIO2070_RING makes it of an array, and of nothing else. */
+struct fio2070_ring {
+    struct fio2070_slot *slots; /**< may be null where there are none */
+    size_t capacity;            /**< how many there are */
+};
+
+/** The ring that an array of slots is: struct fio2070_slot slots[64]; .. FIO2070_RING(slots). A pointer is an error when
+ * the program is compiled: by C++, by gcc and clang, and by each compiler of C11. */
+#if defined(__cplusplus)
+extern "C++" {
+template <size_t count>
+static inline struct fio2070_ring fio2070_ring_of(struct fio2070_slot (&slots)[count]) {
+    struct fio2070_ring ring = {slots, count};
+    return ring;
+}
+}
+#define FIO2070_RING(array) fio2070_ring_of(array)
+#else
+#define FIO2070_SLOTS(array) (sizeof(array) / sizeof(struct fio2070_slot))
+#if defined(__GNUC__)
+#define FIO2070_IS_ARRAY(array) sizeof(char[__builtin_types_compatible_p(__typeof__(array), struct fio2070_slot[]) ? 1 : -1])
+#elif defined(__STDC_VERSION__) && __STDC_VERSION__ >= 201112L
+#define FIO2070_IS_ARRAY(array) _Generic(&(array), struct fio2070_slot (*)[FIO2070_SLOTS(array)]: 1)
+#else
+#define FIO2070_IS_ARRAY(array) 1
+#endif
+#define FIO2070_RING(array) ((struct fio2070_ring){(array), FIO2070_SLOTS(array) * FIO2070_IS_ARRAY(array)})
+#endif
+
+/** A module whose waiting entries are in slots of the caller. _scan and _receive are given these as `ring`, always the same
+ * ones, or others with their octets; they use as many as the limit says, and leave further ones unchanged. With fewer each
+ * call is safe, but which and how many entries wait is not promised. The fields are the library's own. */
 struct fio2070_sized_module {
     struct {
         uint8_t id;
@@ -760,45 +748,132 @@ struct fio2070_sized_module {
         } sent;
     } state;
     struct {
-        uint64_t first;
-        uint64_t count;
+        uint16_t first;
+        uint16_t count;
     } place;
     struct fio2070_error_counts errors;
-    uint8_t reserved[6];
+    uint16_t waiting;
+    uint8_t reserved[16];
 };
 
-/** As fio2070_module_start. */
-uint8_t fio2070_sized_module_start(struct fio2070_sized_module *module, uint8_t id, uint8_t per_block);
-/** As fio2070_module_restart. */
+/** What a call that starts a module returns. */
+enum fio2070_start_kind {
+    FIO2070_STARTED = 0,
+    FIO2070_REFUSED = 1 /**< the limits are out of their ranges, and nothing changed */
+};
+
+/** Starts a module that answers `id` to command 60, with these limits. Returns FIO2070_STARTED; where `waiting` is not 1 to
+ * 8,192, or `per_block` is 0, FIO2070_REFUSED, and then nothing changes: the struct is not started. */
+FIO2070_MUST_USE
+uint8_t fio2070_sized_module_start(struct fio2070_sized_module *module, uint8_t id, struct fio2070_limits limits);
+/** Starts it anew with the same id and limits: the flags are P alone, the counter and both error counts are 0, and the
+ * waiting entries and the block that was sent last are lost (own profile). */
 void fio2070_sized_module_restart(struct fio2070_sized_module *module);
-/** As fio2070_module_scan; where `capacity` entries wait, one more pushes out the oldest. */
-void fio2070_sized_module_scan(struct fio2070_sized_module *module, uint8_t (*ring)[3], size_t capacity,
-                               uint64_t raw);
-/** As fio2070_module_line_sync. */
+/** Steps the counter by one millisecond, then samples each input; bit i of `raw` is the level of input i (own profile: one
+ * scan a step). Each reported transition becomes a waiting entry; where as many wait as the limit says it pushes out the
+ * oldest. */
+void fio2070_sized_module_scan(struct fio2070_sized_module *module, struct fio2070_ring ring, uint64_t raw);
+/** LINESYNC goes from 0 to 1: a load of the counter that was asked for happens now (TEES 2009). */
 void fio2070_sized_module_line_sync(struct fio2070_sized_module *module);
-/** As fio2070_module_raise. */
+/** Sets the flags whose bits are one: from bit 7 down P, E, K, R, T, M, L, W (own profile). */
 void fio2070_sized_module_raise(struct fio2070_sized_module *module, uint8_t mask);
-/** As fio2070_module_set_errors. */
+/** Sets the error counts that the answer 177 has from now on; both are 0 at the start. TEES 2009 leaves out what counts as
+ * an error: the firmware does. */
 void fio2070_sized_module_set_errors(struct fio2070_sized_module *module, uint8_t receive, uint8_t transmit);
-/** As fio2070_module_receive. */
-size_t fio2070_sized_module_receive(struct fio2070_sized_module *module, uint8_t (*ring)[3], size_t capacity,
-                                    const uint8_t *octets, size_t length, uint8_t out[FIO2070_LONGEST_FRAME]);
-/** As fio2070_module_outputs. */
+/** Counts one more error in receiving; 255 stays 255 (own profile). */
+void fio2070_sized_module_count_receive_error(struct fio2070_sized_module *module);
+/** Counts one more error in transmitting; 255 stays 255 (own profile). */
+void fio2070_sized_module_count_transmit_error(struct fio2070_sized_module *module);
+/** Carries out the command that the octets spell, writes the answer to the front of `out`, and returns how many octets it
+ * has. 0 for a command without an answer: 56, 57 and 59, which change nothing (own profile). FIO2070_NO_MESSAGE where the
+ * octets spell no command, and then nothing changes.
+ *
+ * `room` is to be enough for the longest answer of this module, the larger of 13 and 8 + 3 * per_block octets: where it is
+ * less nothing changes, and that number is returned. */
+FIO2070_MUST_USE
+size_t fio2070_sized_module_receive(struct fio2070_sized_module *module, struct fio2070_ring ring, const uint8_t *octets,
+                                    size_t length, uint8_t *out, size_t room);
+/** The outputs, all 0 before the first command 55 (own profile). */
 struct fio2070_outputs fio2070_sized_module_outputs(const struct fio2070_sized_module *module);
-/** As fio2070_module_watchdog_ms. */
+/** The timeout of the watchdog in milliseconds, 10 to 100; 0 before the first command 58. */
 uint8_t fio2070_sized_module_watchdog_ms(const struct fio2070_sized_module *module);
-/** As fio2070_module_counter. */
+/** The milliseconds counted, modulo 2^32 (TEES 2009). */
 uint32_t fio2070_sized_module_counter(const struct fio2070_sized_module *module);
-/** As fio2070_module_filtered. */
+/** The filtered states, also of ignored inputs; bit i is input i. */
 uint64_t fio2070_sized_module_filtered(const struct fio2070_sized_module *module);
-/** As fio2070_module_raw. */
+/** The levels of the last scan, all 1 before any (own profile); bit i is input i. */
 uint64_t fio2070_sized_module_raw(const struct fio2070_sized_module *module);
-/** As fio2070_module_flags. */
+/** The flags that are up: from bit 7 down P, E, K, R, T, M, L, W (own profile). */
 uint8_t fio2070_sized_module_flags(const struct fio2070_sized_module *module);
-/** As fio2070_module_errors. */
+/** The error counts that the answer 177 has. */
 struct fio2070_error_counts fio2070_sized_module_errors(const struct fio2070_sized_module *module);
-/** How many entries wait for a poll, 0 to `capacity`, which is that of its array. */
-size_t fio2070_sized_module_waiting(const struct fio2070_sized_module *module, size_t capacity);
+/** How many entries wait for a poll, 0 to the limit. */
+size_t fio2070_sized_module_waiting(const struct fio2070_sized_module *module);
+
+/** A module with slots of its own, for the 1,024 entries of TEES 2009 or fewer. Its calls are those above, compiled with the
+ * program. */
+struct fio2070_module {
+    struct fio2070_sized_module sized;
+    struct fio2070_slot slots[FIO2070_STANDARD_WAITING];
+};
+
+/** As fio2070_sized_module_start; it refuses a limit above 1,024 too. */
+FIO2070_MUST_USE
+static inline uint8_t fio2070_module_start(struct fio2070_module *module, uint8_t id, struct fio2070_limits limits) {
+    if (limits.waiting > FIO2070_STANDARD_WAITING) return FIO2070_REFUSED;
+    return fio2070_sized_module_start(&module->sized, id, limits);
+}
+/** As fio2070_sized_module_restart, and so each call below. */
+static inline void fio2070_module_restart(struct fio2070_module *module) {
+    fio2070_sized_module_restart(&module->sized);
+}
+static inline void fio2070_module_scan(struct fio2070_module *module, uint64_t raw) {
+    fio2070_sized_module_scan(&module->sized, FIO2070_RING(module->slots), raw);
+}
+static inline void fio2070_module_line_sync(struct fio2070_module *module) {
+    fio2070_sized_module_line_sync(&module->sized);
+}
+static inline void fio2070_module_raise(struct fio2070_module *module, uint8_t mask) {
+    fio2070_sized_module_raise(&module->sized, mask);
+}
+static inline void fio2070_module_set_errors(struct fio2070_module *module, uint8_t receive, uint8_t transmit) {
+    fio2070_sized_module_set_errors(&module->sized, receive, transmit);
+}
+static inline void fio2070_module_count_receive_error(struct fio2070_module *module) {
+    fio2070_sized_module_count_receive_error(&module->sized);
+}
+static inline void fio2070_module_count_transmit_error(struct fio2070_module *module) {
+    fio2070_sized_module_count_transmit_error(&module->sized);
+}
+FIO2070_MUST_USE
+static inline size_t fio2070_module_receive(struct fio2070_module *module, const uint8_t *octets, size_t length, uint8_t *out,
+                                            size_t room) {
+    return fio2070_sized_module_receive(&module->sized, FIO2070_RING(module->slots), octets, length, out, room);
+}
+static inline struct fio2070_outputs fio2070_module_outputs(const struct fio2070_module *module) {
+    return fio2070_sized_module_outputs(&module->sized);
+}
+static inline uint8_t fio2070_module_watchdog_ms(const struct fio2070_module *module) {
+    return fio2070_sized_module_watchdog_ms(&module->sized);
+}
+static inline uint32_t fio2070_module_counter(const struct fio2070_module *module) {
+    return fio2070_sized_module_counter(&module->sized);
+}
+static inline uint64_t fio2070_module_filtered(const struct fio2070_module *module) {
+    return fio2070_sized_module_filtered(&module->sized);
+}
+static inline uint64_t fio2070_module_raw(const struct fio2070_module *module) {
+    return fio2070_sized_module_raw(&module->sized);
+}
+static inline uint8_t fio2070_module_flags(const struct fio2070_module *module) {
+    return fio2070_sized_module_flags(&module->sized);
+}
+static inline struct fio2070_error_counts fio2070_module_errors(const struct fio2070_module *module) {
+    return fio2070_sized_module_errors(&module->sized);
+}
+static inline size_t fio2070_module_waiting(const struct fio2070_module *module) {
+    return fio2070_sized_module_waiting(&module->sized);
+}
 
 /* ---- Layout: written by tools/generate-layouts ---- */
 /* Each struct has this size and these offsets with every compiler. */
@@ -877,7 +952,11 @@ FIO2070_SAME(configured, sizeof(struct fio2070_configured) == 16 &&
              offsetof(struct fio2070_configured, reserved) == 1 &&
              offsetof(struct fio2070_configured, place) == 8);
 
-FIO2070_SAME(module, sizeof(struct fio2070_module) == 4112);
+FIO2070_SAME(limits, sizeof(struct fio2070_limits) == 4 &&
+             offsetof(struct fio2070_limits, per_block) == 2 &&
+             offsetof(struct fio2070_limits, reserved) == 3);
+
+FIO2070_SAME(sized_module, sizeof(struct fio2070_sized_module) == 1056);
 
 FIO2070_SAME(error_counts, sizeof(struct fio2070_error_counts) == 2 &&
              offsetof(struct fio2070_error_counts, transmit) == 1);
@@ -900,8 +979,6 @@ FIO2070_SAME(heard, sizeof(struct fio2070_heard) == 32 &&
              offsetof(struct fio2070_heard, entries) == 10 &&
              offsetof(struct fio2070_heard, reserved) == 11 &&
              offsetof(struct fio2070_heard, fault) == 16);
-
-FIO2070_SAME(sized_module, sizeof(struct fio2070_sized_module) == 1056);
 
 FIO2070_SAME(content_checker, sizeof(struct fio2070_content_checker) == 1168);
 

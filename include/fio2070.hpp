@@ -217,6 +217,13 @@ public:
         if (frame && frame->empty()) frame.reset();
         return frame;
     }
+    /// The same, and none too where there is nothing such.
+    template <typename Write>
+    static std::optional<Frame> of_some(Write write) {
+        std::optional<Frame> frame = of(write);
+        if (frame && frame->size_ > frame->octets_.size()) frame.reset();
+        return frame;
+    }
 
 private:
     std::array<std::uint8_t, FIO2070_LONGEST_FRAME> octets_{};
@@ -424,68 +431,30 @@ private:
     ::fio2070_filters filters_{};
 };
 
-/// The module.
+/// The module, of which as many entries may wait as Waiting says, 1 to 8,192; it has the slots for them.
+template <std::uint16_t Waiting = FIO2070_STANDARD_WAITING>
 class Module {
 public:
+    static_assert(Waiting > 0 && Waiting <= FIO2070_MOST_WAITING, "1 to 8,192 entries may wait");
     /// None where `per_block` is 0.
     static std::optional<Module> start(std::uint8_t id, std::uint8_t per_block = FIO2070_MOST_ENTRIES) {
         std::optional<Module> module{Module()};
-        if (::fio2070_module_start(&module->module_, id, per_block) != 0) module.reset();
-        return module;
-    }
-    void restart() { ::fio2070_module_restart(&module_); }
-    void scan(std::uint64_t raw) { ::fio2070_module_scan(&module_, raw); }
-    void line_sync() { ::fio2070_module_line_sync(&module_); }
-    void raise(std::uint8_t mask) { ::fio2070_module_raise(&module_, mask); }
-    void set_errors(std::uint8_t receive, std::uint8_t transmit) {
-        ::fio2070_module_set_errors(&module_, receive, transmit);
-    }
-    /// The answer; none where there is none.
-    std::optional<Frame> receive(Octets octets) {
-        return Frame::of_some([&](auto *out, auto) {
-            return ::fio2070_module_receive(&module_, octets.data(), octets.size(), out);
-        });
-    }
-    Outputs outputs() const { return ::fio2070_module_outputs(&module_); }
-    /// None before the first command 58.
-    std::optional<std::uint8_t> watchdog_ms() const {
-        std::uint8_t timeout = ::fio2070_module_watchdog_ms(&module_);
-        return timeout != 0 ? std::optional<std::uint8_t>(timeout) : std::nullopt;
-    }
-    std::uint32_t counter() const { return ::fio2070_module_counter(&module_); }
-    std::uint64_t filtered() const { return ::fio2070_module_filtered(&module_); }
-    std::uint64_t raw() const { return ::fio2070_module_raw(&module_); }
-    std::uint8_t flags() const { return ::fio2070_module_flags(&module_); }
-    ErrorCounts errors() const { return ::fio2070_module_errors(&module_); }
-    std::size_t waiting() const { return ::fio2070_module_waiting(&module_); }
-
-private:
-    Module() = default;
-    ::fio2070_module module_{};
-};
-
-/// A module of which as many entries may wait as Capacity says; it holds the array for them.
-template <std::size_t Capacity>
-class SizedModule {
-public:
-    static_assert(Capacity > 0, "a module without room loses each transition");
-    /// None where `per_block` is 0.
-    static std::optional<SizedModule> start(std::uint8_t id, std::uint8_t per_block = FIO2070_MOST_ENTRIES) {
-        std::optional<SizedModule> module{SizedModule()};
-        if (::fio2070_sized_module_start(&module->module_, id, per_block) != 0) module.reset();
+        if (::fio2070_sized_module_start(&module->module_, id, {Waiting, per_block, 0}) != FIO2070_STARTED) module.reset();
         return module;
     }
     void restart() { ::fio2070_sized_module_restart(&module_); }
-    void scan(std::uint64_t raw) { ::fio2070_sized_module_scan(&module_, ring_, Capacity, raw); }
+    void scan(std::uint64_t raw) { ::fio2070_sized_module_scan(&module_, FIO2070_RING(slots_), raw); }
     void line_sync() { ::fio2070_sized_module_line_sync(&module_); }
     void raise(std::uint8_t mask) { ::fio2070_sized_module_raise(&module_, mask); }
     void set_errors(std::uint8_t receive, std::uint8_t transmit) {
         ::fio2070_sized_module_set_errors(&module_, receive, transmit);
     }
-    /// The answer; none where there is none.
+    void count_receive_error() { ::fio2070_sized_module_count_receive_error(&module_); }
+    void count_transmit_error() { ::fio2070_sized_module_count_transmit_error(&module_); }
+    /// The answer; none where there is none, and where the octets spell no command.
     std::optional<Frame> receive(Octets octets) {
-        return Frame::of_some([&](auto *out, auto) {
-            return ::fio2070_sized_module_receive(&module_, ring_, Capacity, octets.data(), octets.size(), out);
+        return Frame::of_some([&](auto *out, auto room) {
+            return ::fio2070_sized_module_receive(&module_, FIO2070_RING(slots_), octets.data(), octets.size(), out, room);
         });
     }
     Outputs outputs() const { return ::fio2070_sized_module_outputs(&module_); }
@@ -499,12 +468,12 @@ public:
     std::uint64_t raw() const { return ::fio2070_sized_module_raw(&module_); }
     std::uint8_t flags() const { return ::fio2070_sized_module_flags(&module_); }
     ErrorCounts errors() const { return ::fio2070_sized_module_errors(&module_); }
-    std::size_t waiting() const { return ::fio2070_sized_module_waiting(&module_, Capacity); }
+    std::size_t waiting() const { return ::fio2070_sized_module_waiting(&module_); }
 
 private:
-    SizedModule() = default;
+    Module() = default;
     ::fio2070_sized_module module_{};
-    std::uint8_t ring_[Capacity][3]{};
+    ::fio2070_slot slots_[Waiting]{};
 };
 
 } // namespace fio2070

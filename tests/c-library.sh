@@ -50,7 +50,7 @@ described() {
     python3 - "$1" "$top/include/fio2070.h" <<'end'
 import glob, re, sys
 import xml.etree.ElementTree as xml
-declared = set(re.findall(r'fio2070_\w+(?=\()', re.sub('^static.*', '', open(sys.argv[2]).read(), flags=re.M)))
+declared = set(re.findall(r'fio2070_\w+(?=\()', re.sub('^(static|#).*', '', open(sys.argv[2]).read(), flags=re.M)))
 described = set()
 for path in glob.glob(sys.argv[1] + '/xml/*_8h.xml') + glob.glob(sys.argv[1] + '/xml/struct*.xml'):
     for one in xml.parse(path).iter():
@@ -109,7 +109,7 @@ prefixed() {
 # exports ARCHIVE: it has exactly the functions that the header declares.
 exports() {
     nm -g "$1" | awk '$2 == "T" { print $3 }' | sort >exported
-    grep -v '^static' "$top/include/fio2070.h" | grep -o 'fio2070_[a-z0-9_]*(' | tr -d '(' | sort -u | diff exported -
+    grep -v '^static\|^#' "$top/include/fio2070.h" | grep -o 'fio2070_[a-z0-9_]*(' | tr -d '(' | sort -u | diff exported -
 }
 
 # fits COMPILER: with it the structs have the layout of the library, as the header asserts.
@@ -221,7 +221,7 @@ for build in 'gcc -std=c99' 'g++ -std=c++11' 'clang -std=c99 -g -O1 -fsanitize=a
     counts "calls of a module in turn by $1" "$room/$1/turns"
     counts "whole structs by $1" "$room/$1/whole"
     counts "started structs by $1" "$room/$1/started"
-    counts "modules with an array of the caller by $1" "$room/$1/sized"
+    counts "modules in slots of the caller by $1" "$room/$1/sized"
     counts "memory that nothing has written by $1" "$room/$1/fresh"
     holds "decode by $1" decodes "$room/$1"
     holds "poller by $1" polls "$room/$1"

@@ -339,6 +339,11 @@ static void count_filters(void) {
     }
 }
 
+static void start(struct fio2070_module *module) {
+    struct fio2070_limits limits = FIO2070_STANDARD_LIMITS;
+    kept += fio2070_module_start(module, 2, limits);
+}
+
 COUNTED static void scan_module(struct fio2070_module *module, uint64_t flips, unsigned count) {
     uint64_t raw = 0;
     while (count-- > 0) {
@@ -353,8 +358,8 @@ COUNTED static uint32_t receive_each(struct fio2070_module *module, const struct
     unsigned turn;
     for (turn = 0; turn < count; turn++) {
         const struct frame *frame = &frames[turn % 2];
-        size_t length = fio2070_module_receive(module, frame->octets, frame->length, answer);
-        if (length > 0) sum += octet_at(answer, length);
+        size_t length = fio2070_module_receive(module, frame->octets, frame->length, answer, sizeof answer);
+        if (length - 1 < sizeof answer) sum += octet_at(answer, length);
     }
     return sum;
 }
@@ -365,8 +370,8 @@ COUNTED static uint32_t poll_each(struct fio2070_module *modules, uint8_t number
     uint32_t sum = 0;
     int module;
     for (module = 0; module < MODULES; module++) {
-        size_t length = fio2070_module_receive(&modules[module], poll, 2, answer);
-        if (length > 0) sum += octet_at(answer, length);
+        size_t length = fio2070_module_receive(&modules[module], poll, 2, answer, sizeof answer);
+        if (length - 1 < sizeof answer) sum += octet_at(answer, length);
     }
     return sum;
 }
@@ -384,7 +389,7 @@ static void count_receive(struct fio2070_module *module, const char *name, const
 static void open_inputs(struct fio2070_module *module) {
     static uint8_t answer[FIO2070_LONGEST_FRAME];
     struct frame frame = configure_frame(1);
-    fio2070_module_receive(module, frame.octets, frame.length, answer);
+    kept += fio2070_module_receive(module, frame.octets, frame.length, answer, sizeof answer) == 2;
 }
 
 /* Scans until 255 entries wait. */
@@ -402,7 +407,7 @@ static void count_receives(void) {
                          identify[] = {60}, other[] = {57, 1, 2}, none[] = {48};
     static struct fio2070_module module;
     struct frame frame = configure_frame(1);
-    fio2070_module_start(&module, 2, 255);
+    start(&module);
     count_receive(&module, "status", status, sizeof status);
     count_receive(&module, "load counter", load, sizeof load);
     count_receive(&module, "raw inputs", raw, sizeof raw);
@@ -420,7 +425,7 @@ static void count_polls(void) {
     static struct fio2070_module module;
     struct frame frames[2];
     int turn;
-    fio2070_module_start(&module, 2, 255);
+    start(&module);
     frames[0] = frame_of(first, 2);
     frames[1] = frame_of(second, 2);
     for (turn = 0; turn < 2; turn++) {
@@ -435,7 +440,7 @@ static void count_polls(void) {
 static void count_scans(void) {
     static struct fio2070_module module;
     int turn;
-    fio2070_module_start(&module, 2, 255);
+    start(&module);
     open_inputs(&module);
     for (turn = 0; turn < 4; turn++) {
         says("scan_module", "module_scan", turn < 2 ? "all inputs change, 1,024 entries wait" : "nothing changes", MANY);
@@ -447,7 +452,7 @@ static void count_full_polls(void) {
     static struct fio2070_module modules[MODULES];
     uint8_t number;
     int module;
-    for (module = 0; module < MODULES; module++) fio2070_module_start(&modules[module], 2, 255);
+    for (module = 0; module < MODULES; module++) start(&modules[module]);
     for (number = 0; number < 20; number++) {
         for (module = 0; module < MODULES; module++) fill(&modules[module]);
         says("poll_each", "module_receive", "new poll, 255 entries wait", MODULES);

@@ -110,8 +110,8 @@ static void step(struct bench *bench) {
     while ((length = recv(bench->module_end, octets, sizeof octets, MSG_DONTWAIT)) > 0) {
         size_t count;
         if (++bench->commands % 3 == 0) continue;
-        count = fio2070_module_receive(&bench->module, octets, (size_t)length, answer);
-        if (count == 0 || ++bench->answers % 5 == 0) continue;
+        count = fio2070_module_receive(&bench->module, octets, (size_t)length, answer, sizeof answer);
+        if (count == 0 || count > sizeof answer || ++bench->answers % 5 == 0) continue;
         (void)!send(bench->module_end, answer, count, 0);
         if (bench->answers % 7 == 0) (void)!send(bench->module_end, answer, count, 0);
     }
@@ -172,13 +172,14 @@ static void print_report(const struct bench *bench, const struct fio2070_poller 
 int main(int count, char **words) {
     static struct bench bench;
     struct link link;
+    struct fio2070_limits limits = FIO2070_STANDARD_LIMITS;
     struct fio2070_poller poller;
     uint8_t octets[FIO2070_LONGEST_FRAME];
     int ends[2], entries;
     if (socketpair(AF_UNIX, SOCK_DGRAM, 0, ends) != 0) return 1;
     bench.cpu_end = ends[0];
     bench.module_end = ends[1];
-    fio2070_module_start(&bench.module, 2, FIO2070_MOST_ENTRIES);
+    if (fio2070_module_start(&bench.module, 2, limits) != FIO2070_STARTED) return 1;
     link.context = &bench;
     link.send = send_frame;
     link.receive = receive_frame;

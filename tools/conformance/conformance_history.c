@@ -51,8 +51,8 @@ void conformance_saw_scan(struct history *history, const struct view *before, co
     put_if(rules, RULE_ENTRY, reported != 0);
     put_if(rules, RULE_COUNTER_AT_START, reported != 0 && !history->is_loaded);
     put_if(rules, RULE_ENTRY_ORDER, (reported & (reported - 1)) != 0 || (reported != 0 && before->waiting > 0));
-    put_if(rules, RULE_MOST_WAITING, reported != 0 && fio2070_module_waiting(after) == FIO2070_MOST_WAITING);
-    put_if(rules, RULE_PUSHED_OUT, before->waiting + history->entries - entries > FIO2070_MOST_WAITING);
+    put_if(rules, RULE_MOST_WAITING, reported != 0 && fio2070_module_waiting(after) == FIO2070_STANDARD_WAITING);
+    put_if(rules, RULE_PUSHED_OUT, before->waiting + history->entries - entries > FIO2070_STANDARD_WAITING);
     put_if(rules, RULE_CASE_500_SCANS, history->scans >= 500);
     put_if(rules, RULE_CASE_30000_ENTRIES, reported != 0 && history->entries > 30000);
     history->scans++;

@@ -119,7 +119,9 @@ static int exchange(struct link *link, const uint8_t *octets, size_t length, str
     struct view before;
     conformance_look(&link->module, &before);
     remember(link, &memory);
-    difference->expected_length = fio2070_module_receive(&link->module, octets, length, difference->expected);
+    difference->expected_length =
+        fio2070_module_receive(&link->module, octets, length, difference->expected, FIO2070_LONGEST_FRAME);
+    if (difference->expected_length > FIO2070_LONGEST_FRAME) difference->expected_length = 0; /* no command */
     conformance_saw_frame(&link->history, &before, octets, length, difference->expected, difference->expected_length,
                           &link->exercised);
     if (link->ends.cpu == NULL && is_undone(link, &memory)) return 0;
@@ -283,9 +285,11 @@ int conformance_link_step(struct link *link, const struct event *event, struct d
 }
 
 void conformance_link_start(struct link *link, const struct ends *ends, const struct script *script) {
+    struct fio2070_limits limits = FIO2070_STANDARD_LIMITS;
     memset(link, 0, sizeof *link);
     link->ends = *ends;
-    fio2070_module_start(&link->module, script->id, script->per_block);
+    limits.per_block = script->per_block;
+    (void)!fio2070_module_start(&link->module, script->id, limits); /* a script has limits in range */
     conformance_begin(&link->history);
     link->cpu.number = script->number;
     if (ends->module != NULL) reset_maker(link);

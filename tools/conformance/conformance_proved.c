@@ -5,8 +5,9 @@ static struct fio2070_module module;
 static struct fio2070_poller poller;
 
 static void reset(void *context) {
+    struct fio2070_limits limits = FIO2070_STANDARD_LIMITS;
     (void)context;
-    fio2070_module_start(&module, CONFORMANCE_PROVED_MODULE.id, CONFORMANCE_PROVED_MODULE.per_block);
+    (void)!fio2070_module_start(&module, CONFORMANCE_PROVED_MODULE.id, limits);
 }
 
 static void step(void *context, uint64_t inputs) {
@@ -20,8 +21,9 @@ static void line_sync(void *context) {
 }
 
 static size_t exchange(void *context, const uint8_t *octets, size_t length, uint8_t answer[FIO2070_LONGEST_FRAME]) {
+    size_t count = fio2070_module_receive(&module, octets, length, answer, FIO2070_LONGEST_FRAME);
     (void)context;
-    return fio2070_module_receive(&module, octets, length, answer);
+    return count <= FIO2070_LONGEST_FRAME ? count : 0;
 }
 
 static void outputs(void *context, uint8_t levels[8], uint8_t controls[8]) {

@@ -82,7 +82,7 @@ static void write_header(const struct script *script, FILE *out) {
     }
     if (script->per_block != FIO2070_MOST_ENTRIES) version = 3;
     fprintf(out, "fio2070 script %d %u %u", version, script->id, script->number);
-    if (version == 3) fprintf(out, " %u %u", script->per_block, FIO2070_MOST_WAITING);
+    if (version == 3) fprintf(out, " %u %u", script->per_block, FIO2070_STANDARD_WAITING);
     fputs("\n", out);
 }
 
@@ -167,10 +167,10 @@ static int read_event(const char *line, const struct link *link, struct event *e
 
 /* Reads the header. Returns 0 where the line is none. */
 static int read_header(const char *line, struct script *script) {
-    unsigned version, id, number, per_block = FIO2070_MOST_ENTRIES, waiting = FIO2070_MOST_WAITING;
+    unsigned version, id, number, per_block = FIO2070_MOST_ENTRIES, waiting = FIO2070_STANDARD_WAITING;
     int count = sscanf(line, "fio2070 script %u %u %u %u %u", &version, &id, &number, &per_block, &waiting);
     if (count < 3 || (version == 3 ? count != 5 : count != 3)) return 0;
-    if (id > 255 || number > 255 || per_block == 0 || per_block > 255 || waiting != FIO2070_MOST_WAITING) return 0;
+    if (id > 255 || number > 255 || per_block == 0 || per_block > 255 || waiting != FIO2070_STANDARD_WAITING) return 0;
     script->id = (uint8_t)id;
     script->number = (uint8_t)number;
     script->per_block = (uint8_t)per_block;

@@ -62,8 +62,8 @@ static void put64(uint8_t *p, uint64_t v) { put32(p, (uint32_t)v); put32(p + 4, 
 SAME(size_of_content_checker, sizeof(struct fio2070_content_checker), 1168);
 SAME(size_of_counter, sizeof(struct fio2070_counter), 12);
 SAME(size_of_filters, sizeof(struct fio2070_filters), 216);
-SAME(size_of_module, sizeof(struct fio2070_module), 4112);
 SAME(size_of_sized_module, sizeof(struct fio2070_sized_module), 1056);
+SAME(size_of_slot, sizeof(struct fio2070_slot), 3);
 SAME(size_of_outputs, sizeof(struct fio2070_outputs), 16);
 SAME(size_of_item, sizeof(struct fio2070_configuration_item), 4);
 SAME(size_of_entry, sizeof(struct fio2070_entry), 4);
@@ -402,69 +402,36 @@ struct fio2070_configured fio2070_filters_configure(struct fio2070_filters *filt
     return configured;
 }
 
-OVER(module, start, 1, uint8_t, return (uint8_t), (struct fio2070_module * module, uint8_t id, uint8_t per_block), it, id,
-     per_block)
-OVER(module, restart, 1, void, , (struct fio2070_module * module), it)
-OVER(module, scan, 1, void, , (struct fio2070_module * module, uint64_t raw), it, raw)
-OVER(module, line_sync, 1, void, , (struct fio2070_module * module), it)
-OVER(module, raise, 1, void, , (struct fio2070_module * module, uint8_t mask), it, mask)
-OVER(module, set_errors, 1, void, , (struct fio2070_module * module, uint8_t receive, uint8_t transmit), it, receive,
-     transmit)
-OVER(module, flags, 0, uint8_t, return (uint8_t), (const struct fio2070_module *module), it)
-OVER(module, raw, 0, uint64_t, return, (const struct fio2070_module *module), it)
-OVER(module, watchdog_ms, 0, uint8_t, return (uint8_t), (const struct fio2070_module *module), it)
-OVER(module, counter, 0, uint32_t, return, (const struct fio2070_module *module), it)
-OVER(module, filtered, 0, uint64_t, return, (const struct fio2070_module *module), it)
-OVER(module, waiting, 0, size_t, return (size_t), (const struct fio2070_module *module), it)
-
-struct fio2070_outputs fio2070_module_outputs(const struct fio2070_module *module) {
-    struct fio2070_outputs outputs = {{0}, {0}};
-    MACHINE(fio2070_module_outputs);
+uint8_t fio2070_sized_module_start(struct fio2070_sized_module *module, uint8_t id, struct fio2070_limits limits) {
+    uint8_t octets[4] = {0};
+    MACHINE(fio2070_sized_module_start);
+    put16(octets, limits.waiting);
+    octets[2] = limits.per_block;
     {
-        uint64_t a = WRITES(&outputs, sizeof outputs), b = READS(module, sizeof *module);
-        call_fio2070_module_outputs(&machine, a, b);
+        uint64_t a = WRITES(module, sizeof *module), b = READS(octets, 4);
+        return (uint8_t)call_fio2070_sized_module_start(&machine, a, id, b);
     }
-    return outputs;
 }
 
-struct fio2070_error_counts fio2070_module_errors(const struct fio2070_module *module) {
-    struct fio2070_error_counts errors = {0, 0};
-    MACHINE(fio2070_module_errors);
-    {
-        uint64_t a = WRITES(&errors, sizeof errors), b = READS(module, sizeof *module);
-        call_fio2070_module_errors(&machine, a, b);
-    }
-    return errors;
-}
-
-size_t fio2070_module_receive(struct fio2070_module *module, const uint8_t *octets, size_t length,
-                              uint8_t out[FIO2070_LONGEST_FRAME]) {
-    MACHINE(fio2070_module_receive);
-    uint64_t a = WRITES(module, sizeof *module), b = READS(octets, length), c = WRITES(out, FIO2070_LONGEST_FRAME);
-    return (size_t)call_fio2070_module_receive(&machine, a, b, length, c);
-}
-
-OVER(sized_module, start, 1, uint8_t, return (uint8_t),
-     (struct fio2070_sized_module * sized_module, uint8_t id, uint8_t per_block), it, id, per_block)
 OVER(sized_module, restart, 1, void, , (struct fio2070_sized_module * sized_module), it)
-OVER(sized_module, scan, 1, void, ,
-     (struct fio2070_sized_module * sized_module, uint8_t (*ring)[3], size_t capacity, uint64_t raw), it,
-     WRITES(ring, capacity * 3), capacity, raw)
+OVER(sized_module, scan, 1, void, , (struct fio2070_sized_module * sized_module, struct fio2070_ring ring, uint64_t raw), it,
+     WRITES(ring.slots, ring.capacity * 3), ring.capacity, raw)
 OVER(sized_module, line_sync, 1, void, , (struct fio2070_sized_module * sized_module), it)
 OVER(sized_module, raise, 1, void, , (struct fio2070_sized_module * sized_module, uint8_t mask), it, mask)
 OVER(sized_module, set_errors, 1, void, ,
      (struct fio2070_sized_module * sized_module, uint8_t receive, uint8_t transmit), it, receive, transmit)
+OVER(sized_module, count_receive_error, 1, void, , (struct fio2070_sized_module * sized_module), it)
+OVER(sized_module, count_transmit_error, 1, void, , (struct fio2070_sized_module * sized_module), it)
 OVER(sized_module, receive, 1, size_t, return (size_t),
-     (struct fio2070_sized_module * sized_module, uint8_t (*ring)[3], size_t capacity, const uint8_t *octets, size_t length,
-      uint8_t out[FIO2070_LONGEST_FRAME]),
-     it, WRITES(ring, capacity * 3), capacity, READS(octets, length), length, WRITES(out, FIO2070_LONGEST_FRAME))
+     (struct fio2070_sized_module * sized_module, struct fio2070_ring ring, const uint8_t *octets, size_t length, uint8_t *out,
+      size_t room),
+     it, WRITES(ring.slots, ring.capacity * 3), ring.capacity, READS(octets, length), length, WRITES(out, room), room)
 OVER(sized_module, flags, 0, uint8_t, return (uint8_t), (const struct fio2070_sized_module *sized_module), it)
 OVER(sized_module, raw, 0, uint64_t, return, (const struct fio2070_sized_module *sized_module), it)
 OVER(sized_module, watchdog_ms, 0, uint8_t, return (uint8_t), (const struct fio2070_sized_module *sized_module), it)
 OVER(sized_module, counter, 0, uint32_t, return, (const struct fio2070_sized_module *sized_module), it)
 OVER(sized_module, filtered, 0, uint64_t, return, (const struct fio2070_sized_module *sized_module), it)
-OVER(sized_module, waiting, 0, size_t, return (size_t), (const struct fio2070_sized_module *sized_module, size_t capacity),
-     it, capacity)
+OVER(sized_module, waiting, 0, size_t, return (size_t), (const struct fio2070_sized_module *sized_module), it)
 
 struct fio2070_outputs fio2070_sized_module_outputs(const struct fio2070_sized_module *module) {
     struct fio2070_outputs outputs = {{0}, {0}};

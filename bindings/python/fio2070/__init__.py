@@ -17,7 +17,7 @@ from .encode import Octets
 from .records import Answer, Breach, Command, ConfigurationItem, ContentBreach, Entry, Fault, RecordItem
 
 __all__ = ['Answer', 'Breach', 'Checker', 'Command', 'ConfigurationItem', 'ContentBreach', 'ContentChecker', 'Counter',
-           'Entry', 'Fault', 'Filters', 'Heard', 'Module', 'Octets', 'Poller', 'RecordItem', 'SizedModule', 'constants',
+           'Entry', 'Fault', 'Filters', 'Heard', 'Module', 'Octets', 'Poller', 'RecordItem', 'constants',
            'content_rule_text', 'decode_answer', 'decode_command', 'encode', 'read_identification', 'read_outputs_answer',
            'rule_text', 'show', 'version', 'widen']
 
@@ -293,21 +293,25 @@ class Filters:
         return int(c.library.fio2070_filters_raw(self._filters))
 
 
-class _AnyModule:
-    """What modules of both kinds do."""
+class Module:
+    """A field I/O module of which `waiting` entries may wait."""
 
-    _calls = ''  # how the names of their calls in the library begin
-    _module: Any  # the state
-    _ring: Tuple[Any, ...] = ()  # where entries wait, if not in the state: an array, and how many it holds
+    def __init__(self, id: int = 2, per_block: int = c.MOST_ENTRIES, waiting: int = c.STANDARD_WAITING) -> None:
+        """It answers `id` to command 60; its blocks have at most `per_block` entries, 1 to 255; `waiting` is 1 to 8,192."""
+        if not (0 <= id <= 255 and 1 <= per_block <= 255 and 1 <= waiting <= c.MOST_WAITING):
+            raise ValueError('id is 0 to 255, per_block 1 to 255, waiting 1 to 8,192')
+        self._module = c.CSizedModule()
+        self._ring = ((ctypes.c_uint8 * 3 * waiting)(), waiting)
+        self._call('start', id, c.CLimits(waiting, per_block, 0))
 
     def _call(self, name: str, *arguments: Any) -> Any:
-        return getattr(c.library, self._calls + name)(self._module, *arguments)
+        return getattr(c.library, 'fio2070_sized_module_' + name)(self._module, *arguments)
 
     def __repr__(self) -> str:
         return _shown(self, counter=self.counter, waiting=self.waiting, flags='%02x' % self.flags)
 
     def restart(self) -> None:
-        """Starts anew with the same id and per_block."""
+        """Starts anew with the same id and limits; both error counts are 0."""
         self._call('restart')
 
     def scan(self, raw: int) -> None:
@@ -329,12 +333,20 @@ class _AnyModule:
         encode.check_range(256, receive, transmit)
         self._call('set_errors', receive, transmit)
 
+    def count_receive_error(self) -> None:
+        """Counts one more error in receiving; 255 stays 255."""
+        self._call('count_receive_error')
+
+    def count_transmit_error(self) -> None:
+        """Counts one more error in transmitting; 255 stays 255."""
+        self._call('count_transmit_error')
+
     def receive(self, octets: Octets) -> Optional[bytes]:
-        """The answer to a frame; None where there is none."""
+        """The answer to a frame; None where there is none, and where the octets spell no command."""
         octets = bytes(octets)
         out = (ctypes.c_uint8 * c.LONGEST_FRAME)()
-        count = self._call('receive', *self._ring, octets, len(octets), out)
-        return bytes(out[:count]) if count else None
+        count = self._call('receive', *self._ring, octets, len(octets), out, len(out))
+        return bytes(out[:count]) if 0 < count <= len(out) else None
 
     @property
     def outputs(self) -> Tuple[bytes, bytes]:
@@ -375,33 +387,5 @@ class _AnyModule:
 
     @property
     def waiting(self) -> int:
-        """How many entries wait for a poll, at most the capacity."""
-        return int(self._call('waiting', *self._ring[1:]))
-
-
-class Module(_AnyModule):
-    """A field I/O module of which 1,024 entries may wait."""
-
-    _calls = 'fio2070_module_'
-
-    def __init__(self, id: int = 2, per_block: int = 255) -> None:
-        """It answers `id` to command 60; its blocks have at most `per_block` entries, 1 to 255."""
-        if not (0 <= id <= 255 and 1 <= per_block <= 255):
-            raise ValueError('id is 0 to 255, per_block 1 to 255')
-        self._module = c.CModule()
-        self._call('start', id, per_block)
-
-
-class SizedModule(_AnyModule):
-    """A field I/O module of which `capacity` entries may wait."""
-
-    _calls = 'fio2070_sized_module_'
-
-    def __init__(self, capacity: int, id: int = 2, per_block: int = 255) -> None:
-        """It answers `id` to command 60; its blocks have at most `per_block` entries, 1 to 255. With a capacity of 0
-        each transition is lost."""
-        if not (capacity >= 0 and 0 <= id <= 255 and 1 <= per_block <= 255):
-            raise ValueError('capacity is 0 or more, id 0 to 255, per_block 1 to 255')
-        self._module = c.CSizedModule()
-        self._ring = ((ctypes.c_uint8 * 3 * capacity)(), capacity)
-        self._call('start', id, per_block)
+        """How many entries wait for a poll."""
+        return int(self._call('waiting'))

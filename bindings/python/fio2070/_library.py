@@ -100,9 +100,8 @@ class CErrorCounts(ctypes.Structure):
     _fields_ = [('receive', c_uint8), ('transmit', c_uint8)]
 
 
-class CModule(ctypes.Structure):
-    """The octets of struct fio2070_module, as aligned as that is."""
-    _fields_ = [('words', c_uint64 * 514)]
+class CLimits(ctypes.Structure):
+    _fields_ = [('waiting', c_uint16), ('per_block', c_uint8), ('reserved', c_uint8)]
 
 
 class CSizedModule(ctypes.Structure):
@@ -163,33 +162,20 @@ _declare('fio2070_filters_scan', c_uint64, POINTER(CFilters), c_uint64)
 _declare('fio2070_filters_filtered', c_uint64, POINTER(CFilters))
 _declare('fio2070_filters_raw', c_uint64, POINTER(CFilters))
 _declare('fio2070_filters_configure', CConfigured, POINTER(CFilters), POINTER(CItem), c_size_t)
-_declare('fio2070_module_start', c_uint8, POINTER(CModule), c_uint8, c_uint8)
-_declare('fio2070_module_restart', None, POINTER(CModule))
-_declare('fio2070_module_scan', None, POINTER(CModule), c_uint64)
-_declare('fio2070_module_line_sync', None, POINTER(CModule))
-_declare('fio2070_module_raise', None, POINTER(CModule), c_uint8)
-_declare('fio2070_module_set_errors', None, POINTER(CModule), c_uint8, c_uint8)
-_declare('fio2070_module_receive', c_size_t, POINTER(CModule), c_char_p, c_size_t, POINTER(c_uint8))
-_declare('fio2070_module_flags', c_uint8, POINTER(CModule))
-_declare('fio2070_module_errors', CErrorCounts, POINTER(CModule))
-_declare('fio2070_module_outputs', COutputs, POINTER(CModule))
-_declare('fio2070_module_watchdog_ms', c_uint8, POINTER(CModule))
-_declare('fio2070_module_counter', c_uint32, POINTER(CModule))
-_declare('fio2070_module_filtered', c_uint64, POINTER(CModule))
-_declare('fio2070_module_raw', c_uint64, POINTER(CModule))
-_declare('fio2070_module_waiting', c_size_t, POINTER(CModule))
 _declare('fio2070_poller_start', None, POINTER(CPoller), c_uint8)
 _declare('fio2070_poller_poll', c_size_t, POINTER(CPoller), POINTER(c_uint8), c_size_t)
 _declare('fio2070_poller_hear', CHeard, POINTER(CPoller), c_char_p, c_size_t, POINTER(CRecordItem), c_size_t)
 _declare('fio2070_show', c_size_t, c_char_p, c_size_t, POINTER(c_uint8), c_size_t)
-_declare('fio2070_sized_module_start', c_uint8, POINTER(CSizedModule), c_uint8, c_uint8)
+_declare('fio2070_sized_module_start', c_uint8, POINTER(CSizedModule), c_uint8, CLimits)
 _declare('fio2070_sized_module_restart', None, POINTER(CSizedModule))
 _declare('fio2070_sized_module_scan', None, POINTER(CSizedModule), POINTER(c_uint8 * 3), c_size_t, c_uint64)
 _declare('fio2070_sized_module_line_sync', None, POINTER(CSizedModule))
 _declare('fio2070_sized_module_raise', None, POINTER(CSizedModule), c_uint8)
 _declare('fio2070_sized_module_set_errors', None, POINTER(CSizedModule), c_uint8, c_uint8)
+_declare('fio2070_sized_module_count_receive_error', None, POINTER(CSizedModule))
+_declare('fio2070_sized_module_count_transmit_error', None, POINTER(CSizedModule))
 _declare('fio2070_sized_module_receive', c_size_t, POINTER(CSizedModule), POINTER(c_uint8 * 3), c_size_t, c_char_p,
-         c_size_t, POINTER(c_uint8))
+         c_size_t, POINTER(c_uint8), c_size_t)
 _declare('fio2070_sized_module_flags', c_uint8, POINTER(CSizedModule))
 _declare('fio2070_sized_module_errors', CErrorCounts, POINTER(CSizedModule))
 _declare('fio2070_sized_module_outputs', COutputs, POINTER(CSizedModule))
@@ -197,7 +183,7 @@ _declare('fio2070_sized_module_watchdog_ms', c_uint8, POINTER(CSizedModule))
 _declare('fio2070_sized_module_counter', c_uint32, POINTER(CSizedModule))
 _declare('fio2070_sized_module_filtered', c_uint64, POINTER(CSizedModule))
 _declare('fio2070_sized_module_raw', c_uint64, POINTER(CSizedModule))
-_declare('fio2070_sized_module_waiting', c_size_t, POINTER(CSizedModule), c_size_t)
+_declare('fio2070_sized_module_waiting', c_size_t, POINTER(CSizedModule))
 _declare('fio2070_fault_text', c_size_t, POINTER(CFault), POINTER(c_uint8), c_size_t)
 _declare('fio2070_rule_text', c_size_t, c_uint8, POINTER(c_uint8), c_size_t)
 _declare('fio2070_content_rule_text', c_size_t, c_uint8, POINTER(c_uint8), c_size_t)

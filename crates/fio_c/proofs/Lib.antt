@@ -5,4 +5,5 @@ pub mod Overwriting
 pub mod TextLengths
 pub mod Checkers
 pub mod Decoded
-mod Started
+mod Rings
+mod Replies

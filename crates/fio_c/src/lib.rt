@@ -14,7 +14,7 @@
 //! | write a code in words | `fio2070_fault_text`, `fio2070_rule_text`, `fio2070_content_rule_text`, `fio2070_heard_text` |
 //! | judge what the CPU's end sends and hears | `fio2070_checker_..`, `fio2070_content_..` |
 //! | be the CPU's end | `fio2070_poller_..` |
-//! | be the module | `fio2070_module_..`; with another limit of waiting entries, `fio2070_sized_module_..` |
+//! | be the module | `fio2070_sized_module_..`; `fio2070_module_..` are these, in the header alone |
 //! | say which library it is | `fio2070_version` |
 //! | use its parts | `fio2070_counter_..`, `fio2070_filters_..`, `fio2070_widen` |
 //!
@@ -35,7 +35,6 @@ mod content;
 mod counter;
 mod faults;
 mod filters;
-mod module;
 mod parts;
 mod poller;
 mod show;

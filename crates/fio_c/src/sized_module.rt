@@ -1,57 +1,67 @@
-//! The module, whose waiting entries are in an array of the caller: its length is their limit.
+//! The module, whose waiting entries are in an array of the caller, its ring.
 //!
 //! `scan` and `receive` are given that array, always the same one, or one with its octets: array and
-//! struct may be moved. Given another array, the calls are right for the entries that it has.
-ghost use Rattle.std.specs.Prelude.{◌≡◌, ◌≢◌, ◌<◌, ◌-◌, ℕ, List, ◌∷◌, [], length, min, unwrap_or};
+//! struct may be moved. Of an array that is longer than the limit the further slots are unchanged; with a
+//! shorter one calls are safe, and which entries wait is not promised.
+//!
+//! C gives a ring by value, as the struct `fio2070_ring`. It is always the second parameter: so the
+//! conventions of x86-64 and of AArch64 have it in two registers, which are those of a slice here.
+ghost use Rattle.std.specs.Prelude.{◌≡◌, ◌<◌, ◌≤◌, ◌-◌, ℕ, true, false, List, ◌∷◌, [], drop, length, min, unwrap_or, None, Some};
+ghost use Rattle.fio_message.specs.declared.commands.Command.{Command};
 ghost use Rattle.fio_message.specs.declared.limits.TheConstants.{INPUTS};
 ghost use Rattle.fio_message.specs.Bits.{is_set};
+ghost use Rattle.fio_message.specs.Decoding.{command_in};
 ghost use Rattle.fio_input.specs.FilterHistory.{input_state, raw_levels};
 ghost use Rattle.fio_module.specs.Settings.{Settings};
 ghost use Rattle.fio_module.specs.Life.{Scan, LineSync, Raise, Received, Restart, life_of, counter_of, filter_events};
 ghost use Rattle.fio_module.specs.Log.{log_of};
 ghost use Rattle.fio_module.specs.Blocks.{newest_end};
 ghost use Rattle.fio_module.specs.Flags.{flags_of, watchdog_of, outputs_of};
-ghost use Rattle.fio_flat.specs.Module.{ErrorsSet, DeviceHistory, Reached, errors_of, events_reached};
-ghost use Rattle.fio_flat.specs.SizedModule.{HasHadIn, HasHadWithout, IsSizedModuleAfter, RepliesIn, sized_module_at_start, sized_settings};
+ghost use Rattle.fio_module.specs.Replies.{longest_answer};
+ghost use Rattle.fio_flat.specs.declared.written.TheConstants.{NO_MESSAGE};
+ghost use Rattle.fio_flat.specs.Module.{AddsEvent, AddsEventAlone, DeviceHistory, ErrorsChanged, IsDeviceAfter, OneMoreInReceiving, OneMoreInTransmitting, Reached, Replies, Set, are_limits, errors_of, events_reached, module_at_start, settings_of};
 
-use crate::answering::answer;
-use crate::module::NO_ERRORS;
-use fio_flat::{ErrorCounts, SizedModule};
-use fio_message::{EntryOctets, FRAME_OCTETS};
-use fio_module::{Limits, MemoryRing, ModuleState, Outputs, RingPlace, STANDARD_WAITING};
+use crate::answering::{answer, scan};
+use fio_flat::{ErrorCounts, Limits, NO_MESSAGE, SizedModule};
+use fio_message::{EntryOctets, read_command};
+use fio_module::{MOST_WAITING, ModuleState, Outputs, RingPlace};
+
+/// The error counts at the start, and after a restart (own profile).
+const NO_ERRORS: ErrorCounts = ErrorCounts {
+    receive: 0,
+    transmit: 0,
+};
 
 /// Starts a module that answers `id` where it is asked for its identification (own profile: one
-/// octet), and whose blocks have at most `per_block` entries, 1 to 255 (TEES 2009: 255). Each octet
-/// of the struct is set. Returns 0. Where `per_block` is 0 it returns 1, and nothing changes.
-///
-/// The limit of waiting entries is the length of the array that the calls below are given.
+/// octet), with these limits: 1 to 8,192 entries that wait, 1 to 255 entries of a block (TEES 2009: 1,024
+/// and 255). Each octet of the struct is set. Returns 0. Where a limit is out of its range it returns
+/// 1, and nothing changes.
 #[unsafe(no_mangle)]
-pub extern "C" fn fio2070_sized_module_start(device: &mut SizedModule, id: u8, per_block: u8) -> u8
-    ensures made { per_block ≢ 0 → (slots : List (List ℕ))
-        → IsSizedModuleAfter (sized_settings id per_block (length slots)) device.new slots [] }
-    ensures octets { per_block ≢ 0 → (result ≡ 0) × (device.new ≡ sized_module_at_start id per_block) }
-    ensures refused { per_block ≡ 0 → (result ≡ 1) × (device.new ≡ device.old) }
+pub extern "C" fn fio2070_sized_module_start(device: &mut SizedModule, id: u8, limits: Limits) -> u8
+    ensures made { are_limits limits ≡ true → (slots : List (List ℕ)) → limits.waiting ≤ length slots
+        → IsDeviceAfter (settings_of id limits) device.new slots [] }
+    ensures octets { are_limits limits ≡ true → (result ≡ 0) × (device.new ≡ module_at_start id limits) }
+    ensures refused { are_limits limits ≡ false → (result ≡ 1) × (device.new ≡ device.old) }
 {
-    match Limits::new(per_block, STANDARD_WAITING) {
-        Some(limits) => {
-            *device = SizedModule {
-                state: ModuleState::new(id, limits),
-                place: RingPlace::new(),
-                errors: NO_ERRORS,
-                reserved: [0; 6],
-            };
-            0
-        }
-        None => 1,
+    if limits.waiting == 0 || limits.waiting > MOST_WAITING || limits.per_block == 0 {
+        return 1;
     }
+    *device = SizedModule {
+        state: ModuleState::new(id, limits.per_block),
+        place: RingPlace::new(),
+        errors: NO_ERRORS,
+        waiting: limits.waiting,
+        reserved: [0; 16],
+    };
+    0
 }
 
-/// Starts anew: all but the identification and the entries of a block is as it was started. The
-/// flags are P alone, the counter and the error counts are 0, and the waiting entries and the block
-/// that was sent last are lost (own profile).
+/// Starts anew: all but the identification and the limits is as it was started. The flags are P alone,
+/// the counter and the error counts are 0, and the waiting entries and the block that was sent last are
+/// lost (own profile).
 #[unsafe(no_mangle)]
 pub extern "C" fn fio2070_sized_module_restart(device: &mut SizedModule)
-    ensures { HasHadWithout (Reached Restart) device.old device.new }
+    ensures { AddsEventAlone (Reached Restart) device.old device.new }
 {
     device.state.start_anew();
     device.place = RingPlace::new();
@@ -60,24 +70,25 @@ pub extern "C" fn fio2070_sized_module_restart(device: &mut SizedModule)
 
 /// Steps the counter by one millisecond, then takes a sample of each input (own profile: one scan a
 /// step). Bit i of `raw` is the level of input i. Each reported change of a filtered state joins the
-/// waiting entries; where the array is full it pushes out the oldest one, in an array of length 0
-/// itself.
+/// waiting entries; where as many wait as the limit says it pushes out the oldest one.
 #[unsafe(no_mangle)]
 pub extern "C" fn fio2070_sized_module_scan(
     device: &mut SizedModule,
     ring: &mut [EntryOctets],
     raw: u64,
 )
-    ensures { HasHadIn (Reached (Scan raw)) device.old ring.old device.new ring.new }
+    ensures scanned { AddsEvent (Reached (Scan raw)) device.old ring.old device.new ring.new }
+    ensures further { drop device.old.waiting ring.new ≡ drop device.old.waiting ring.old }
 {
-    let mut waiting = MemoryRing::new(ring, &mut device.place);
-    device.state.scan(&mut waiting, raw);
+    let used = usize::from(device.waiting).min(ring.len());
+    let (slots, _) = ring.split_at_mut(used);
+    scan(&mut device.state, &mut device.place, slots, raw);
 }
 
 /// As `fio_module::Module::line_sync`.
 #[unsafe(no_mangle)]
 pub extern "C" fn fio2070_sized_module_line_sync(device: &mut SizedModule)
-    ensures { HasHadWithout (Reached LineSync) device.old device.new }
+    ensures { AddsEventAlone (Reached LineSync) device.old device.new }
 {
     device.state.line_sync();
 }
@@ -85,7 +96,7 @@ pub extern "C" fn fio2070_sized_module_line_sync(device: &mut SizedModule)
 /// As `fio_module::Module::raise`.
 #[unsafe(no_mangle)]
 pub extern "C" fn fio2070_sized_module_raise(device: &mut SizedModule, mask: u8)
-    ensures { HasHadWithout (Reached (Raise mask)) device.old device.new }
+    ensures { AddsEventAlone (Reached (Raise mask)) device.old device.new }
 {
     device.state.raise(mask);
 }
@@ -98,33 +109,72 @@ pub extern "C" fn fio2070_sized_module_set_errors(
     receive: u8,
     transmit: u8,
 )
-    ensures { HasHadWithout (ErrorsSet receive transmit) device.old device.new }
+    ensures { AddsEventAlone (ErrorsChanged (Set receive transmit)) device.old device.new }
 {
     device.errors = ErrorCounts { receive, transmit };
 }
 
-/// Takes the octets of a frame, writes those of the answer to the front of `out`, and returns how
-/// many they are: 1 to 773, or 0 where there is no answer. Octets that spell no command, and commands
-/// 56, 57 and 59, get none and change nothing (own profile).
+/// Counts one more error in receiving; 255 stays 255 (own profile).
+#[unsafe(no_mangle)]
+pub extern "C" fn fio2070_sized_module_count_receive_error(device: &mut SizedModule)
+    ensures { AddsEventAlone (ErrorsChanged OneMoreInReceiving) device.old device.new }
+{
+    device.errors.receive = device.errors.receive.saturating_add(1);
+}
+
+/// Counts one more error in transmitting; 255 stays 255 (own profile).
+#[unsafe(no_mangle)]
+pub extern "C" fn fio2070_sized_module_count_transmit_error(device: &mut SizedModule)
+    ensures { AddsEventAlone (ErrorsChanged OneMoreInTransmitting) device.old device.new }
+{
+    device.errors.transmit = device.errors.transmit.saturating_add(1);
+}
+
+/// Takes the octets of a frame, writes those of the answer to the front of `out`, and returns how many
+/// they are, 0 where the command gets no answer: commands 56, 57 and 59, which change nothing (own
+/// profile). Where the octets spell no command the result is `NO_MESSAGE`, and nothing changes.
+///
+/// Where `out` is shorter than the longest answer of this module, 8 + 3 * `per_block` octets and at least
+/// 13, that number is returned, and nothing changes.
 #[unsafe(no_mangle)]
 pub extern "C" fn fio2070_sized_module_receive(
     device: &mut SizedModule,
     ring: &mut [EntryOctets],
     octets: &[u8],
-    out: &mut [u8; FRAME_OCTETS],
+    out: &mut [u8],
 ) -> usize
-    ensures carried { HasHadIn (Reached (Received octets.now)) device.old ring.old device.new ring.new }
-    ensures reply { RepliesIn octets.now device.old ring.old out.old out.new result }
+    ensures carried { longest_answer device.old.state.per_block ≤ length out.old
+        → AddsEvent (Reached (Received octets.now)) device.old ring.old device.new ring.new }
+    ensures reply { longest_answer device.old.state.per_block ≤ length out.old
+        → (command : Command) → command_in octets.now ≡ Some command
+        → Replies octets.now device.old ring.old out.old out.new result }
+    ensures no_command { longest_answer device.old.state.per_block ≤ length out.old
+        → command_in octets.now ≡ None
+        → (result ≡ NO_MESSAGE) × (length out.old < result)
+        × (device.new ≡ device.old) × (ring.new ≡ ring.old) × (out.new ≡ out.old) }
+    ensures no_room { length out.old < longest_answer device.old.state.per_block
+        → (result ≡ longest_answer device.old.state.per_block)
+        × (device.new ≡ device.old) × (ring.new ≡ ring.old) × (out.new ≡ out.old) }
+    ensures further { drop device.old.waiting ring.new ≡ drop device.old.waiting ring.old }
 {
-    let mut waiting = MemoryRing::new(ring, &mut device.place);
-    answer(&mut device.state, &mut waiting, &device.errors, octets, out)
+    let longest = device.state.longest_answer();
+    if out.len() < longest {
+        return longest;
+    }
+    let Ok(command) = read_command(octets) else {
+        return NO_MESSAGE;
+    };
+    let used = usize::from(device.waiting).min(ring.len());
+    let (slots, _) = ring.split_at_mut(used);
+    let (state, place, errors) = (&mut device.state, &mut device.place, &device.errors);
+    answer(state, place, slots, errors, command, out)
 }
 
 /// As `fio_module::ModuleState::flags`.
 #[unsafe(no_mangle)]
 pub extern "C" fn fio2070_sized_module_flags(device: &SizedModule) -> u8
     ensures { (settings : Settings) (slots : List (List ℕ)) (history : DeviceHistory)
-        → IsSizedModuleAfter settings device.now slots history
+        → IsDeviceAfter settings device.now slots history
         → result ≡ flags_of (life_of (events_reached history)) }
 {
     device.state.flags()
@@ -134,7 +184,7 @@ pub extern "C" fn fio2070_sized_module_flags(device: &SizedModule) -> u8
 #[unsafe(no_mangle)]
 pub extern "C" fn fio2070_sized_module_errors(device: &SizedModule) -> ErrorCounts
     ensures { (settings : Settings) (slots : List (List ℕ)) (history : DeviceHistory)
-        → IsSizedModuleAfter settings device.now slots history
+        → IsDeviceAfter settings device.now slots history
         → result ≡ errors_of history }
 {
     device.errors
@@ -144,7 +194,7 @@ pub extern "C" fn fio2070_sized_module_errors(device: &SizedModule) -> ErrorCoun
 #[unsafe(no_mangle)]
 pub extern "C" fn fio2070_sized_module_outputs(device: &SizedModule) -> Outputs
     ensures { (settings : Settings) (slots : List (List ℕ)) (history : DeviceHistory)
-        → IsSizedModuleAfter settings device.now slots history
+        → IsDeviceAfter settings device.now slots history
         → result ≡ outputs_of (life_of (events_reached history)) }
 {
     device.state.outputs()
@@ -155,7 +205,7 @@ pub extern "C" fn fio2070_sized_module_outputs(device: &SizedModule) -> Outputs
 #[unsafe(no_mangle)]
 pub extern "C" fn fio2070_sized_module_watchdog_ms(device: &SizedModule) -> u8
     ensures { (settings : Settings) (slots : List (List ℕ)) (history : DeviceHistory)
-        → IsSizedModuleAfter settings device.now slots history
+        → IsDeviceAfter settings device.now slots history
         → result ≡ unwrap_or (watchdog_of (life_of (events_reached history))) 0 }
 {
     device.state.watchdog_ms().unwrap_or(0)
@@ -165,7 +215,7 @@ pub extern "C" fn fio2070_sized_module_watchdog_ms(device: &SizedModule) -> u8
 #[unsafe(no_mangle)]
 pub extern "C" fn fio2070_sized_module_counter(device: &SizedModule) -> u32
     ensures { (settings : Settings) (slots : List (List ℕ)) (history : DeviceHistory)
-        → IsSizedModuleAfter settings device.now slots history
+        → IsDeviceAfter settings device.now slots history
         → result ≡ counter_of (life_of (events_reached history)) }
 {
     device.state.counter()
@@ -175,7 +225,7 @@ pub extern "C" fn fio2070_sized_module_counter(device: &SizedModule) -> u32
 #[unsafe(no_mangle)]
 pub extern "C" fn fio2070_sized_module_filtered(device: &SizedModule) -> u64
     ensures { (settings : Settings) (slots : List (List ℕ)) (history : DeviceHistory)
-        → IsSizedModuleAfter settings device.now slots history
+        → IsDeviceAfter settings device.now slots history
         → (input : ℕ) → input < INPUTS
         → is_set result input ≡ input_state input (filter_events (life_of (events_reached history))) }
 {
@@ -186,19 +236,19 @@ pub extern "C" fn fio2070_sized_module_filtered(device: &SizedModule) -> u64
 #[unsafe(no_mangle)]
 pub extern "C" fn fio2070_sized_module_raw(device: &SizedModule) -> u64
     ensures { (settings : Settings) (slots : List (List ℕ)) (history : DeviceHistory)
-        → IsSizedModuleAfter settings device.now slots history
+        → IsDeviceAfter settings device.now slots history
         → result ≡ raw_levels (filter_events (life_of (events_reached history))) }
 {
     device.state.raw()
 }
 
-/// Returns the number of entries that wait for a poll, at most `capacity`, the length of their array.
+/// Returns the number of entries that wait for a poll, at most the limit.
 #[unsafe(no_mangle)]
-pub extern "C" fn fio2070_sized_module_waiting(device: &SizedModule, capacity: usize) -> usize
+pub extern "C" fn fio2070_sized_module_waiting(device: &SizedModule) -> usize
     ensures { (settings : Settings) (slots : List (List ℕ)) (history : DeviceHistory)
-        → length slots ≡ capacity → IsSizedModuleAfter settings device.now slots history
+        → IsDeviceAfter settings device.now slots history
         → result ≡ min settings.waiting
         (length (log_of (life_of (events_reached history))) - newest_end settings (life_of (events_reached history))) }
 {
-    device.place.len(capacity)
+    usize::from(device.place.len(device.waiting))
 }

@@ -1,27 +1,23 @@
 -- Calls of the exports follow the link machine, event by event.
 use Rattle.std.proofs.Common.{◌≡◌, ◌≢◌, ◌∙◌, ℕ, zero, suc, ◌+◌, ◌%◌, ◌<◌, ◌≤◌, ◌==◌, inl, inr, Bool, true, false, List, [], ◌∷◌, ◌++◌, length, map, take, drop, Option, Some, None, refl, ap, ap₂, sym, subst, arith, append-nil, if◌then◌else◌}
-use Rattle.std.specs.Prelude.{option_map}
+use Rattle.std.specs.Prelude.{◌||◌, nat_lt, option_map}
 use Rattle.std.proofs.lemmas.Bool.{cases_lt}
 use Rattle.std.proofs.lemmas.Bool.Decides.{nat_tests}
-use Rattle.std.proofs.lemmas.List.{length-map, map-append}
+use Rattle.std.proofs.lemmas.List.{length-append, length-map, map-append}
 use Rattle.std.proofs.lemmas.Option.{same_Some, slice_get-map}
 use Rattle.std.proofs.Math.Seq.{take-append_seam}
 use Rattle.fio_message.specs.declared.answers.Answer.{Answer}
 use Rattle.fio_message.specs.declared.answers.Answer.TheVariants as answers
 use Rattle.fio_message.specs.declared.commands.Command.{Command}
 use Rattle.fio_message.specs.declared.commands.Command.TheVariants as commands
-use Rattle.fio_message.specs.Answers.{IsAnswer, answer_octets}
+use Rattle.fio_message.specs.Answers.{answer_octets}
 use Rattle.fio_message.specs.Commands.{command_octets}
 use Rattle.fio_message.specs.Blocks.{Block}
 use Rattle.fio_message.specs.Decoding.{command_in, decoded_answer, block_in}
-use Rattle.fio_message.specs.declared.kept_block.KeptBlock.{KeptBlock}
-use Rattle.fio_message.proofs.AnswerLaws.{answer_again}
 use Rattle.fio_module.specs.Settings.{Settings, AreInRange}
 use Rattle.fio_module.specs.Life.{Life, Received, Commanded, life_of, life_after_command}
 use Rattle.fio_module.specs.Life as lives
-use Rattle.fio_module.specs.Sendings.{Sending, answer_of_sending, latest_sending}
-use Rattle.fio_module.specs.KeptSending.{KeepsSending}
-use Rattle.fio_module.specs.Replies.{answer_to, answer_if, reply_to}
+use Rattle.fio_module.specs.Replies.{reply_to}
 use Rattle.fio_cpu.specs.Hearing.{new_items, next_number, heard_as}
 use Rattle.fio_cpu.specs.Record.{items_of_block}
 use Rattle.fio_cpu.specs.declared.record.Item.{Item}
@@ -36,11 +32,12 @@ use Rattle.fio_link.proofs.Spelled.{no_block_in}
 use Rattle.fio_flat.specs.declared.poller.Heard.{Heard}
 use Rattle.fio_flat.specs.declared.poller.RecordItem.{RecordItem}
 use Rattle.fio_flat.specs.Module as module_events
-use Rattle.fio_flat.specs.Module.{DeviceHistory, Reached, ErrorsSet, IsDeviceAfter, events_reached, errors_of, with_errors, settings_of}
+use Rattle.fio_flat.specs.Module.{DeviceHistory, Reached, ErrorsChanged, ErrorChange, IsDeviceAfter, WritesReply, are_limits, events_reached, errors_of, with_errors, settings_of}
+use Rattle.fio_flat.specs.declared.module.Limits.{Limits}
 use Rattle.fio_flat.specs.declared.module.ErrorCounts.{ErrorCounts}
-use Rattle.fio_flat.specs.Written.{Writes, WritesAnswer}
+use Rattle.fio_flat.specs.Written.{Writes}
 use Rattle.fio_flat.specs.Hearing.{Hears, flat_record_item, flat_heard, heard_no_room, with_block}
-use Rattle.fio_ends.specs.Calls.{CallerState, caller_at_start, HasHappened, HasPolled, HasReceived, HasHeard, IsFoundAnd, IsCalledFor, AreCalled, Call, For, SetErrors, CallsAreRuns, link_events, frames_written}
+use Rattle.fio_ends.specs.Calls.{CallerState, caller_at_start, HasHappened, HasPolled, HasReceived, HasHeard, IsFoundAnd, IsCalledFor, AreCalled, Call, For, ChangeErrors, CallsAreRuns, link_events, frames_written}
 
 -- the octets of a frame
 abbrev octets_of : SentFrame → List ℕ
@@ -54,7 +51,7 @@ block_of frame = block_in frame.octets
 -- others may have error counts.
 record Follows (settings : Settings) (first : ℕ) (machine : Machine) (held : CallerState) : Type 0 where
   history : DeviceHistory
-  device : IsDeviceAfter settings held.device history
+  device : IsDeviceAfter settings held.device held.ring history
   same_history : events_reached history ≡ machine.history
   number : held.number ≡ number_of first machine.round
   to_module : held.to_module ≡ map octets_of machine.to_module
@@ -97,9 +94,8 @@ module _ (settings : Settings) (first : ℕ) (machine : Machine) (held next : Ca
       follows_happened (Reached event) (event ∷ machine.history) h (ap (λ older. event ∷ older) f.same_history)
 
   -- error counts change nothing that the machine has
-  follows_errors : (receive transmit : ℕ) → HasHappened (ErrorsSet receive transmit) held next
-      → Follows settings first machine next
-  follows_errors receive transmit h = follows_happened (ErrorsSet receive transmit) machine.history h f.same_history
+  follows_errors : (change : ErrorChange) → HasHappened (ErrorsChanged change) held next → Follows settings first machine next
+  follows_errors change h = follows_happened (ErrorsChanged change) machine.history h f.same_history
 
   follows_sent : (command : Command) → next ≡ record held { to_module = held.to_module ++ command_octets command ∷ [] }
       → Follows settings first (after_sending machine command) next
@@ -128,59 +124,28 @@ module _ (settings : Settings) (first : ℕ) (machine : Machine) (held next : Ca
       ∙ ap (λ octets. record held { to_module = held.to_module ++ octets ∷ [] })
       (wrote ∙ ap (λ n. command_octets (commands.Poll n)) f.number))
 
--- ---- replies fit a frame
-
-length_of_answer : (answer : Answer) → IsAnswer answer → length (answer_octets answer) ≤ 773
-length_of_answer answer within = let a = answer_again answer within in omega (arith, a.short)
-
-kept_fits : (kept : KeptBlock) (found : Option Sending) (answer : Answer) → KeepsSending kept found
-    → option_map answer_of_sending found ≡ Some answer → length (answer_octets answer) ≤ 773
-kept_fits kept None answer keeps is = absurd (cc is)
-kept_fits kept (Some sending) answer keeps is =
-    subst (λ (a : Option Answer). (b : Answer) → a ≡ Some b → length (answer_octets b) ≤ 773) refl
-    (λ b same. subst (λ c. length (answer_octets c) ≤ 773) (same_Some _ _ same) (length_of_answer (answer_of_sending sending) keeps.within))
-    answer is
-
--- the answer to a command, after which the module is still what its history makes it
-answer_fits : (settings : Settings) (life : Life) (kept : KeptBlock) (command : Command) (answer : Answer)
-    → KeepsSending kept (latest_sending settings (Commanded command ∷ life))
-    → answer_to settings life command ≡ Some answer → length (answer_octets answer) ≤ 773
-answer_fits settings life kept (commands.Poll number) answer keeps is =
-    kept_fits kept (latest_sending settings (Commanded (commands.Poll number) ∷ life)) answer keeps is
-answer_fits settings life kept (commands.Other kind body) answer keeps is = absurd (cc is)
-answer_fits settings life kept (commands.Status clear) answer keeps is = subst (λ a. length (answer_octets a) ≤ 773) (same_Some _ _ is) (omega arith)
-answer_fits settings life kept (commands.LoadCounter load) answer keeps is = subst (λ a. length (answer_octets a) ≤ 773) (same_Some _ _ is) (omega arith)
-answer_fits settings life kept (commands.ConfigureInputs items) answer keeps is = subst (λ a. length (answer_octets a) ≤ 773) (same_Some _ _ is) (omega arith)
-answer_fits settings life kept commands.RawInputs answer keeps is = subst (λ a. length (answer_octets a) ≤ 773) (same_Some _ _ is) (omega arith)
-answer_fits settings life kept commands.FilteredInputs answer keeps is = subst (λ a. length (answer_octets a) ≤ 773) (same_Some _ _ is) (omega arith)
-answer_fits settings life kept (commands.SetOutputs levels controls) answer keeps is = subst (λ a. length (answer_octets a) ≤ 773) (same_Some _ _ is) (omega arith)
-answer_fits settings life kept (commands.Watchdog timeout) answer keeps is = subst (λ a. length (answer_octets a) ≤ 773) (same_Some _ _ is) (omega arith)
-answer_fits settings life kept commands.Identify answer keeps is = subst (λ a. length (answer_octets a) ≤ 773) (same_Some _ _ is) (omega arith)
-
-reply_fits : (settings : Settings) (life : Life) (kept : KeptBlock) (command : Option Command) (answer : Answer)
-    → KeepsSending kept (latest_sending settings (life_after_command command life))
-    → answer_if settings life command ≡ Some answer → length (answer_octets answer) ≤ 773
-reply_fits settings life kept None answer keeps is = absurd (cc is)
-reply_fits settings life kept (Some command) answer keeps is = answer_fits settings life kept command answer keeps is
-
 -- ---- frames to the CPU
 
-frames_some : (count : ℕ) (buffer : List ℕ) → 0 < count → frames_written count buffer ≡ take count buffer ∷ []
-frames_some count buffer some =
-    let not_none : (count == 0) ≡ false = grind (arith, nat_tests) in
+frames_some : (count : ℕ) (buffer : List ℕ) → 0 < count → count ≤ length buffer → frames_written count buffer ≡ take count buffer ∷ []
+frames_some count buffer some room =
+    let not_none : (count == 0 || nat_lt (length buffer) count) ≡ false = grind (arith, nat_tests) in
     ap (λ none. if none then [] else take count buffer ∷ []) not_none
 
+frames_none : (count : ℕ) (buffer : List ℕ) → length buffer < count → frames_written count buffer ≡ []
+frames_none count buffer long =
+    let none : (count == 0 || nat_lt (length buffer) count) ≡ true = grind (arith, nat_tests) in
+    ap (λ none. if none then [] else take count buffer ∷ []) none
+
 -- the answer that was written spells the block that the answer spells which the machine sends
-frames_written_say : (reply : Option Answer) (before after : List ℕ) (count : ℕ)
-    → ((answer : Answer) → reply ≡ Some answer → length (answer_octets answer) ≤ length before)
-    → WritesAnswer reply before after count
+frames_written_say : (reply : Option Answer) (before after : List ℕ) (count : ℕ) → WritesReply reply before after count
     → map block_in (frames_written count after) ≡ map block_of (answer_frames reply 0)
-frames_written_say None before after count fits wrote = ap (λ n. map block_in (frames_written n after)) wrote.0
-frames_written_say (Some answer) before after count fits wrote =
-    ap₂ (λ n l. map block_in (frames_written n l)) wrote.counted (wrote.room (fits answer refl))
-    ∙ ap (map block_in)
-    (frames_some (length (answer_octets answer)) (answer_octets answer ++ drop (length (answer_octets answer)) before) (omega arith))
-    ∙ ap (λ front. block_in front ∷ []) (take-append_seam (answer_octets answer) (drop (length (answer_octets answer)) before))
+frames_written_say None before after count wrote = ap (λ n. map block_in (frames_written n after)) wrote.0
+frames_written_say (Some answer) before after count wrote =
+    let octets = answer_octets answer in
+    let rest = drop (length octets) before in
+    ap₂ (λ n l. map block_in (frames_written n l)) wrote.0 wrote.1
+    ∙ ap (map block_in) (frames_some (length octets) (octets ++ rest) (omega arith) (omega (arith, length-append octets rest)))
+    ∙ ap (λ front. block_in front ∷ []) (take-append_seam octets rest)
 
 -- an answer with error counts spells a block only where it does without
 errors_say : (errors : ErrorCounts) (reply : Option Answer) (round : ℕ)
@@ -191,15 +156,6 @@ errors_say errors (Some (answers.Status flags receive transmit stamp)) round =
     (no_block_in (answers.Status flags errors.receive errors.transmit stamp) refl
     ∙ sym (no_block_in (answers.Status flags receive transmit stamp) refl))
 errors_say errors (Some other) round = refl
-
--- and it is as long
-errors_fit : (errors : ErrorCounts) (reply : Option Answer) (most : ℕ)
-    → ((answer : Answer) → reply ≡ Some answer → length (answer_octets answer) ≤ most)
-    → (answer : Answer) → with_errors errors reply ≡ Some answer → length (answer_octets answer) ≤ most
-errors_fit errors None most fits answer is = absurd (cc is)
-errors_fit errors (Some (answers.Status flags receive transmit stamp)) most fits answer is =
-    subst (λ a. length (answer_octets a) ≤ most) (same_Some _ _ is) (fits (answers.Status flags receive transmit stamp) refl)
-errors_fit errors (Some other) most fits answer is = fits answer is
 
 -- the frame with a number, by its octets
 numbered_octets : (frames : List SentFrame) (index : ℕ)
@@ -327,22 +283,27 @@ module _ (settings : Settings) (first : ℕ) (machine : Machine) (held : CallerS
       (hearing (next_number number (block_in octets)) (new_items number (block_in octets))))
       (same_Some _ _ same) (heard_found (block_in octets)))
 
+  -- what was written of the reply, where the frame spells a command or not
+  reply_says : (next : CallerState) (frame : SentFrame) (h : HasReceived index frame.octets held next) (command : Option Command)
+      → command_in frame.octets ≡ command
+      → map block_in (frames_written h.count h.after)
+      ≡ map block_of (answer_frames (reply_to settings (events_reached f.history) frame.octets) frame.round)
+  reply_says next frame h None none =
+      rw none (ap (map block_in) (frames_none h.count h.after (h.no_command none)))
+  reply_says next frame h (Some command) some =
+      let reply = reply_to settings (events_reached f.history) frame.octets in
+      frames_written_say (with_errors (errors_of f.history) reply) h.before h.after h.count (h.reply command some settings f.history f.device)
+      ∙ errors_say (errors_of f.history) reply frame.round
+
   follows_received : (next : CallerState) (found : Option SentFrame)
       → IsFoundAnd (option_map octets_of found) (λ octets. HasReceived index octets held next)
       → Follows settings first (after_delivery_to_module settings machine index found) next
   follows_received next None is = absurd is
   follows_received next (Some frame) h =
       let device = h.had settings f.history f.device in
-      let errors = errors_of f.history in
       let reply = reply_to settings (events_reached f.history) frame.octets in
-      let fits : (answer : Answer) → reply ≡ Some answer → length (answer_octets answer) ≤ length h.before = λ answer is.
-      (let most : length (answer_octets answer) ≤ 773 =
-      reply_fits settings (life_of (events_reached f.history)) h.device.state.sent (command_in frame.octets) answer device.state.sent is in
-      omega (arith, h.room)) in
       let wrote : map block_in (frames_written h.count h.after) ≡ map block_of (answer_frames reply frame.round) =
-      frames_written_say (with_errors errors reply) h.before h.after h.count
-      (errors_fit errors reply (length h.before) fits) (h.wrote settings f.history f.device)
-      ∙ errors_say errors reply frame.round in
+      reply_says next frame h (command_in frame.octets) refl in
       let frames : map block_in (held.to_cpu ++ frames_written h.count h.after)
       ≡ map block_of (machine.to_cpu ++ answer_frames reply frame.round) =
       map-append block_in held.to_cpu (frames_written h.count h.after)
@@ -406,14 +367,17 @@ follow_all settings first (For event ∷ calls) machine held last f called =
     let one = follows settings first machine held called.0 event f called.1 in
     let rest = follow_all settings first calls (after settings first machine event) called.0 last one.1 called.2 in
     (rest.0, (one.0, rest.1), rest.2)
-follow_all settings first (SetErrors receive transmit ∷ calls) machine held last f called =
+follow_all settings first (ChangeErrors change ∷ calls) machine held last f called =
     follow_all settings first calls machine called.0 last
-    (follows_errors settings first machine held called.0 f receive transmit called.1) called.2
+    (follows_errors settings first machine held called.0 f change called.1) called.2
+
+some_entries : (limits : Limits) → are_limits limits ≡ true → 1 ≤ limits.per_block
+some_entries limits are = grind (arith, nat_tests)
 
 pub calls_are_runs : CallsAreRuns
-calls_are_runs id per_block first device calls last id_low some few first_low started called =
-    let settings = settings_of id per_block in
-    let begin : Follows settings first start (caller_at_start device first) = record {
+calls_are_runs id first limits device ring calls last id_low first_low few are many room started called =
+    let settings = settings_of id limits in
+    let begin : Follows settings first start (caller_at_start device ring first) = record {
       history = [];
       device = started;
       same_history = refl;
@@ -426,11 +390,11 @@ calls_are_runs id per_block first device calls last id_low some few first_low st
     } in
     let range : AreInRange settings = record {
       id_fits = omega arith;
-      some_per_block = grind (arith, some);
+      some_per_block = some_entries limits are;
       few_per_block = omega arith;
-      many_waiting = omega arith;
+      many_waiting = many;
     } in
-    let run = follow_all settings first calls start (caller_at_start device first) last begin called in
+    let run = follow_all settings first calls start (caller_at_start device ring first) last begin called in
     record {
       machine = run.0;
       sound = runs_are_sound settings first (link_events calls) run.0 range run.1;

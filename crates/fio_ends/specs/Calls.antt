@@ -1,27 +1,32 @@
 -- What a caller does with one module and one poller, call by call, and the frames that it carries between
 -- them, in order, with losses and immediate repeats.
-use Rattle.std.specs.Prelude.{◌≡◌, ◌≢◌, ℕ, ◌<◌, ◌≤◌, ◌==◌, List, [], ◌∷◌, ◌++◌, length, map, take, Option, Some, None, if◌then◌else◌}
+use Rattle.std.specs.Prelude.{◌≡◌, ◌≢◌, ℕ, ◌<◌, ◌≤◌, ◌==◌, List, [], ◌∷◌, ◌++◌, length, map, take, Option, Some, None, if◌then◌else◌, ◌||◌, nat_lt, true}
+use Rattle.fio_message.specs.declared.commands.Command.{Command}
 use Rattle.fio_message.specs.declared.commands.Command.TheVariants as commands
-use Rattle.fio_message.specs.declared.limits.TheConstants.{FRAME_OCTETS}
 use Rattle.fio_message.specs.Commands.{command_octets}
+use Rattle.fio_message.specs.Decoding.{command_in}
 use Rattle.fio_module.specs.Settings.{Settings}
 use Rattle.fio_module.specs.Life as lives
+use Rattle.fio_module.specs.Replies.{longest_answer}
+use Rattle.fio_module.specs.declared.limits.TheConstants.{STANDARD_WAITING}
 use Rattle.fio_link.specs.declared.event.Event.{Event}
 use Rattle.fio_link.specs.declared.event.Event.TheVariants.{Scan, LineSync, Raise, Poll, Send, ToModule, ToCpu, Restart}
 use Rattle.fio_link.specs.Link.{Machine, item_numbered, delivery_refusal, sending_refusal}
 use Rattle.fio_link.specs.Sound.{IsSoundRun}
 use Rattle.fio_flat.specs.Module as module_events
-use Rattle.fio_flat.specs.Module.{Reached, ErrorsSet, AddsEvent, Replies, IsDeviceAfter, settings_of}
+use Rattle.fio_flat.specs.Module.{Reached, ErrorsChanged, ErrorChange, AddsEvent, Replies, IsDeviceAfter, are_limits, settings_of}
 use Rattle.fio_flat.specs.Written.{Writes}
 use Rattle.fio_flat.specs.Hearing.{Hears, flat_record_item}
-use Rattle.fio_flat.specs.declared.module.Module.{Module}
+use Rattle.fio_flat.specs.declared.module.Limits.{Limits}
+use Rattle.fio_flat.specs.declared.module.SizedModule.{SizedModule}
 use Rattle.fio_flat.specs.declared.poller.Heard.{Heard}
 use Rattle.fio_flat.specs.declared.poller.RecordItem.{RecordItem}
 
--- what a caller has: the module, the poller's number, the frames that each end has sent, oldest first, the
+-- what a caller has: the module and its ring, the poller's number, the frames that each end has sent, oldest first, the
 -- number of the one delivered last in each direction, 0 for none, and the items that hearing has written
 pub record CallerState : Type 0 where
-  pub device : Module
+  pub device : SizedModule
+  pub ring : List (List ℕ)
   pub number : ℕ
   pub to_module : List (List ℕ)
   pub to_cpu : List (List ℕ)
@@ -29,10 +34,11 @@ pub record CallerState : Type 0 where
   pub last_to_cpu : ℕ
   pub items : List RecordItem
 
--- before the first call: a module, and a poller with its first number
-abbrev pub caller_at_start : Module → ℕ → CallerState
-caller_at_start device number = record {
+-- before the first call: a module with its ring, and a poller with its first number
+abbrev pub caller_at_start : SizedModule → List (List ℕ) → ℕ → CallerState
+caller_at_start device ring number = record {
   device = device;
+  ring = ring;
   number = number;
   to_module = [];
   to_cpu = [];
@@ -41,22 +47,23 @@ caller_at_start device number = record {
   items = [];
 }
 
--- one call of a caller: one for an event of the link, or one that sets the error counts of the module
+-- one call of a caller: one for an event of the link, or one that changes the error counts of the module
 pub data Call : Type 0 where
   For : (event : Event) → Call
-  SetErrors : (receive transmit : ℕ) → Call
+  ChangeErrors : (change : ErrorChange) → Call
 
 -- the events of the link among calls
 abbrev pub link_events : List Call → List Event
 link_events [] = []
 link_events (For event ∷ calls) = event ∷ link_events calls
-link_events (SetErrors receive transmit ∷ calls) = link_events calls
+link_events (ChangeErrors change ∷ calls) = link_events calls
 
 -- the module has had one event more, and nothing else has changed
 pub record HasHappened (event : module_events.DeviceEvent) (old new : CallerState) : Type 0 where
-  pub device : Module
-  pub had : AddsEvent event old.device device
-  pub rest : new ≡ record old { device = device }
+  pub device : SizedModule
+  pub ring : List (List ℕ)
+  pub had : AddsEvent event old.device old.ring device ring
+  pub rest : new ≡ record old { device = device; ring = ring }
 
 -- `fio2070_poller_poll` wrote a poll, for which there was room, and the caller sends what it wrote
 pub record HasPolled (old new : CallerState) : Type 0 where
@@ -67,22 +74,30 @@ pub record HasPolled (old new : CallerState) : Type 0 where
   pub room : count ≤ length before
   pub rest : new ≡ record old { to_module = old.to_module ++ take count after ∷ [] }
 
--- the answer of a call that wrote so many octets to the front of a buffer, none where it wrote none
+-- the answer of a call that wrote so many octets to the front of a buffer: none where it wrote none, or
+-- would have written more than there is room for
 abbrev pub frames_written : ℕ → List ℕ → List (List ℕ)
-frames_written count buffer = if count == 0 then [] else take count buffer ∷ []
+frames_written count buffer =
+    if count == 0 || nat_lt (length buffer) count then [] else take count buffer ∷ []
 
--- `fio2070_module_receive` took this frame, and the caller sends the answer where there is one
+-- `fio2070_sized_module_receive` took this frame, with room for the longest answer, and the caller sends
+-- the answer where there is one
 pub record HasReceived (index : ℕ) (octets : List ℕ) (old new : CallerState) : Type 0 where
-  pub device : Module
+  pub device : SizedModule
+  pub ring : List (List ℕ)
   pub before : List ℕ
   pub after : List ℕ
   pub count : ℕ
-  pub room : length before ≡ FRAME_OCTETS
-  pub had : AddsEvent (Reached (lives.Received octets)) old.device device
-  pub wrote : Replies octets old.device before after count
+  pub room : longest_answer old.device.state.per_block ≤ length before
+  pub had : AddsEvent (Reached (lives.Received octets)) old.device old.ring device ring
+  pub reply :
+      (command : Command) → command_in octets ≡ Some command
+      → Replies octets old.device old.ring before after count
+  pub no_command : command_in octets ≡ None → length after < count
   pub rest :
       new ≡ record old {
         device = device;
+        ring = ring;
         last_to_module = index;
         to_cpu = old.to_cpu ++ frames_written count after;
       }
@@ -129,7 +144,7 @@ IsCalledFor (ToCpu index) old new =
 -- the caller makes the call
 abbrev pub IsCalled : Call → CallerState → CallerState → Type 0
 IsCalled (For event) old new = IsCalledFor event old new
-IsCalled (SetErrors receive transmit) old new = HasHappened (ErrorsSet receive transmit) old new
+IsCalled (ChangeErrors change) old new = HasHappened (ErrorsChanged change) old new
 
 -- these calls, one after the other
 abbrev pub AreCalled : List Call → CallerState → CallerState → Type 0
@@ -143,11 +158,14 @@ pub record AreRun (settings : Settings) (first : ℕ) (events : List Event) (las
   pub sound : IsSoundRun settings first events machine
   pub items : last.items ≡ map flat_record_item machine.items
 
--- any calls, from the start of a module and of a poller on, are a run
+-- Any calls, from the start of a module and of a poller on, are a run, where as many entries may wait as the
+-- promises of the link need.
 abbrev pub CallsAreRuns : Type 0
 CallsAreRuns =
-    (id per_block first : ℕ) (device : Module) (calls : List Call) (last : CallerState)
-    → id < 256 → per_block ≢ 0 → per_block < 256 → first < 256
-    → IsDeviceAfter (settings_of id per_block) device []
-    → AreCalled calls (caller_at_start device first) last
-    → AreRun (settings_of id per_block) first (link_events calls) last
+    (id first : ℕ) (limits : Limits) (device : SizedModule) (ring : List (List ℕ)) (calls : List Call)
+    (last : CallerState)
+    → id < 256 → first < 256 → limits.per_block < 256 → are_limits limits ≡ true
+    → STANDARD_WAITING ≤ limits.waiting → length ring ≡ limits.waiting
+    → IsDeviceAfter (settings_of id limits) device ring []
+    → AreCalled calls (caller_at_start device ring first) last
+    → AreRun (settings_of id limits) first (link_events calls) last

@@ -2,4 +2,3 @@ pub mod Faults
 pub mod Written
 pub mod Hearing
 pub mod Module
-pub mod SizedModule

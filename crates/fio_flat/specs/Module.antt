@@ -1,21 +1,30 @@
--- Which history a module in memory of the caller stands for.
-use Rattle.std.specs.Prelude.{◌≡◌, ℕ, List, [], ◌∷◌, replicate, Option, Some}
+-- Which history a module stands for whose entries wait in an array of the caller.
+use Rattle.std.specs.Prelude.{◌≡◌, ℕ, ◌+◌, ◌&&◌, min, nat_le, Bool, List, [], ◌∷◌, ◌++◌, length, take, drop, replicate, Option, Some, None}
+use Rattle.circular_buffer.specs.Buffer.{Buffer}
 use Rattle.fio_message.specs.declared.answers.Answer.{Answer}
 use Rattle.fio_message.specs.declared.answers.Answer.TheVariants as answers
+use Rattle.fio_message.specs.Answers.{answer_octets}
 use Rattle.fio_module.specs.Settings.{Settings}
 use Rattle.fio_module.specs.Life as lives
 use Rattle.fio_module.specs.Life.{Restart}
-use Rattle.fio_module.specs.Rings.{empty_ring, held_in}
+use Rattle.fio_module.specs.declared.limits.TheConstants.{MOST_WAITING}
+use Rattle.fio_module.specs.Rings.{empty_place, ring_in}
 use Rattle.fio_module.specs.Replies.{reply_to}
 use Rattle.fio_module.specs.State.{IsAfterHistory, state_at_start}
-use Rattle.fio_flat.specs.Written.{WritesAnswer}
 use Rattle.fio_flat.specs.declared.module.ErrorCounts.{ErrorCounts}
-use Rattle.fio_flat.specs.declared.module.Module.{Module}
+use Rattle.fio_flat.specs.declared.module.Limits.{Limits}
+use Rattle.fio_flat.specs.declared.module.SizedModule.{SizedModule}
 
--- what happens to a module of C: something reaches it, or its firmware sets the error counts
+-- what the firmware does to the error counts: it sets them, or counts one more
+pub data ErrorChange : Type 0 where
+  Set : (receive transmit : ℕ) → ErrorChange
+  OneMoreInReceiving : ErrorChange
+  OneMoreInTransmitting : ErrorChange
+
+-- what happens to a module of C: something reaches it, or its firmware changes the error counts
 pub data DeviceEvent : Type 0 where
   Reached : (event : lives.Event) → DeviceEvent
-  ErrorsSet : (receive transmit : ℕ) → DeviceEvent
+  ErrorsChanged : (change : ErrorChange) → DeviceEvent
 
 -- all that has happened to it since it was started, newest first
 abbrev pub DeviceHistory : Type 0
@@ -25,12 +34,22 @@ DeviceHistory = List DeviceEvent
 abbrev pub events_reached : DeviceHistory → lives.History
 events_reached [] = []
 events_reached (Reached event ∷ history) = event ∷ events_reached history
-events_reached (ErrorsSet receive transmit ∷ history) = events_reached history
+events_reached (ErrorsChanged change ∷ history) = events_reached history
 
--- the error counts: those that the firmware set last, 0 before; a restart clears them
+-- one more error: 255 stays 255 (own profile)
+abbrev pub one_more : ℕ → ℕ
+one_more count = min (count + 1) 255
+
+-- error counts after a change
+abbrev pub changed : ErrorChange → ErrorCounts → ErrorCounts
+changed (Set receive transmit) errors = record { receive = receive; transmit = transmit }
+changed OneMoreInReceiving errors = record errors { receive = one_more errors.receive }
+changed OneMoreInTransmitting errors = record errors { transmit = one_more errors.transmit }
+
+-- the error counts: 0 at the start and after a restart
 abbrev pub errors_of : DeviceHistory → ErrorCounts
 errors_of [] = record { receive = 0; transmit = 0 }
-errors_of (ErrorsSet receive transmit ∷ history) = record { receive = receive; transmit = transmit }
+errors_of (ErrorsChanged change ∷ history) = changed change (errors_of history)
 errors_of (Reached Restart ∷ history) = record { receive = 0; transmit = 0 }
 errors_of (Reached other ∷ history) = errors_of history
 
@@ -45,31 +64,57 @@ abbrev pub reply_after : Settings → DeviceHistory → List ℕ → Option Answ
 reply_after settings history octets =
     with_errors (errors_of history) (reply_to settings (events_reached history) octets)
 
--- what a module is made with: 1,024 entries may wait, as TEES 2009 has it
-abbrev pub settings_of : ℕ → ℕ → Settings
-settings_of id per_block = record { id = id; per_block = per_block; waiting = 1024 }
+-- 1 to 8,192 entries may wait, and a block has at most 1 to 255, which is the most that an octet is
+abbrev pub are_limits : Limits → Bool
+are_limits limits =
+    nat_le 1 limits.waiting && (nat_le limits.waiting MOST_WAITING && nat_le 1 limits.per_block)
+
+-- what a module is made with
+abbrev pub settings_of : ℕ → Limits → Settings
+settings_of id limits = record { id = id; per_block = limits.per_block; waiting = limits.waiting }
 
 -- a module as it is started, each of its octets given
-abbrev pub module_at_start : ℕ → ℕ → Module
-module_at_start id per_block = record {
-  state = state_at_start id per_block;
-  waiting = empty_ring;
+abbrev pub module_at_start : ℕ → Limits → SizedModule
+module_at_start id limits = record {
+  state = state_at_start id limits.per_block;
+  place = empty_place;
   errors = errors_of [];
-  reserved = replicate 2 0;
+  waiting = limits.waiting;
+  reserved = replicate 16 0;
 }
 
--- the module was started with these settings, and has been through this history since
-pub record IsDeviceAfter (settings : Settings) (value : Module) (history : DeviceHistory) : Type 0 where
-  pub state : IsAfterHistory settings value.state (held_in value.waiting) (events_reached history)
-  pub errors : value.errors ≡ errors_of history
+-- the ring of a module: the front of its array, as many slots as entries may wait
+abbrev pub ring_of : SizedModule → List (List ℕ) → Buffer (List ℕ)
+ring_of value slots = ring_in value.place (take value.waiting slots)
 
--- after a call the module has had one event more, whatever it has been through
-abbrev pub AddsEvent : DeviceEvent → Module → Module → Type 0
-AddsEvent event old new = (settings : Settings) (history : DeviceHistory)
-    → IsDeviceAfter settings old history → IsDeviceAfter settings new (event ∷ history)
+-- The module was started with these settings, and with this array has been through this history since. The
+-- array has room for as many entries as may wait.
+pub record IsDeviceAfter (settings : Settings) (value : SizedModule) (slots : List (List ℕ))
+    (history : DeviceHistory) : Type 0 where
+  pub state : IsAfterHistory settings value.state (ring_of value slots) (events_reached history)
+  pub errors : value.errors ≡ errors_of history
+  pub limit : value.waiting ≡ settings.waiting
+
+-- after a call the module with its array has had one event more, whatever it has been through
+abbrev pub AddsEvent : DeviceEvent → SizedModule → List (List ℕ) → SizedModule → List (List ℕ) → Type 0
+AddsEvent event old old_slots new new_slots = (settings : Settings) (history : DeviceHistory)
+    → IsDeviceAfter settings old old_slots history
+    → IsDeviceAfter settings new new_slots (event ∷ history)
+
+-- after a call that leaves the array alone, whichever it is
+abbrev pub AddsEventAlone : DeviceEvent → SizedModule → SizedModule → Type 0
+AddsEventAlone event old new = (slots : List (List ℕ)) → AddsEvent event old slots new slots
+
+-- the octets of the answer are written to the front of the buffer, and the count is how many they are: 0
+-- where there is none
+abbrev pub WritesReply : Option Answer → List ℕ → List ℕ → ℕ → Type 0
+WritesReply None before after count = (count ≡ 0) × (after ≡ before)
+WritesReply (Some answer) before after count =
+    (count ≡ length (answer_octets answer))
+    × (after ≡ answer_octets answer ++ drop (length (answer_octets answer)) before)
 
 -- the reply to a frame is written, whatever the module has been through
-abbrev pub Replies : List ℕ → Module → List ℕ → List ℕ → ℕ → Type 0
-Replies octets old before after count = (settings : Settings) (history : DeviceHistory)
-    → IsDeviceAfter settings old history
-    → WritesAnswer (reply_after settings history octets) before after count
+abbrev pub Replies : List ℕ → SizedModule → List (List ℕ) → List ℕ → List ℕ → ℕ → Type 0
+Replies octets old slots before after count = (settings : Settings) (history : DeviceHistory)
+    → IsDeviceAfter settings old slots history
+    → WritesReply (reply_after settings history octets) before after count

@@ -3,17 +3,15 @@
 //!
 //! The definitions are in `specs/`: faults and what reading does (`Faults`), octets and lists in the
 //! caller's arrays (`Written`), what a poller does (`Hearing`), which history a module stands for
-//! (`Module`, `SizedModule`).
+//! (`Module`).
 #![tactic(auto)]
 
 mod faults;
 mod module;
 mod poller;
-mod sized_module;
 mod written;
 
 pub use faults::Fault;
-pub use module::{ErrorCounts, Module};
+pub use module::{ErrorCounts, Limits, SizedModule};
 pub use poller::{Heard, Poller, RecordItem};
-pub use sized_module::SizedModule;
 pub use written::NO_MESSAGE;

@@ -1,5 +1,5 @@
 -- The reply that octets get after a history.
-use Rattle.std.specs.Prelude.{◌≡◌, ℕ, false, not, List, ◌∷◌, Option, Some, None, option_map, is_some}
+use Rattle.std.specs.Prelude.{◌≡◌, ℕ, ◌+◌, ◌*◌, max, false, not, List, ◌∷◌, Option, Some, None, option_map, is_some}
 use Rattle.arrayvec.specs.ArrayVec.{ArrayVec}
 use Rattle.fio_message.specs.declared.answers.Answer.{Answer}
 use Rattle.fio_message.specs.declared.answers.Answer.TheVariants as answers
@@ -39,6 +39,11 @@ answer_to settings life (Watchdog timeout) =
 answer_to settings life Identify = Some (identity_answer settings.id)
 -- 56, 57 and 59 get none
 answer_to settings life (Other kind body) = None
+
+-- how many octets the longest answer has that is ever given: a block with the most entries, or inputs and
+-- a stamp
+abbrev pub longest_answer : ℕ → ℕ
+longest_answer per_block = max 13 (8 + 3 * per_block)
 
 -- octets that spell no command get no answer
 abbrev pub answer_if : Settings → Life → Option Command → Option Answer

@@ -1,5 +1,5 @@
 //! A ring of entries in an array of the caller.
-ghost use Rattle.std.specs.Prelude.{◌≡◌, ◌+◌, ◌<◌, ◌≤◌, [], ◌∷◌, List, ℕ, length};
+ghost use Rattle.std.specs.Prelude.{◌≡◌, ◌+◌, ◌<◌, ◌≤◌, [], ◌∷◌, List, ℕ, length, min};
 ghost use Rattle.fio_module.specs.Rings.{empty_place, slot_entries, first_in, ring_in};
 
 use crate::ring::EntryRing;
@@ -10,9 +10,9 @@ use fio_message::EntryOctets;
 #[repr(C)]
 pub struct RingPlace {
     /// The index of the oldest entry; one that the array does not have is taken as 0.
-    first: u64,
+    first: u16,
     /// How many entries there are; more than the array's length is taken as that.
-    count: u64,
+    count: u16,
 }
 
 impl Default for RingPlace {
@@ -33,26 +33,28 @@ impl RingPlace {
     }
 
     /// Returns the number of entries in an array of this length.
-    pub fn len(&self, capacity: usize) -> usize
+    pub fn len(&self, capacity: u16) -> u16
         ensures { (slots : List (List ℕ)) → length slots ≡ capacity
             → result ≡ length (slot_entries self.now slots) }
     {
-        (self.count as usize).min(capacity)
+        self.count.min(capacity)
     }
 }
 
-/// A ring in an array of the caller, whose length is its capacity. It takes no memory of its own.
-/// Any contents are a valid ring. With capacity 0 each entry is pushed
-/// out at once.
+/// A ring in an array of the caller, whose length is its capacity, at most 65,535. It takes no memory
+/// of its own. Any contents are a valid ring. With capacity 0 each entry is pushed out at once.
+// Numbers of 16 bits: on a processor of 32 bits those of 64 are slow.
 #[derive(Debug, Drop)]
 pub struct MemoryRing<'a> {
     entries: &'a mut [EntryOctets],
     place: &'a mut RingPlace,
+    ghost short: { length entries.now < 65536 },
 }
 
 impl<'a> MemoryRing<'a> {
     /// Returns the ring that this array has at this place.
     pub fn new(entries: &'a mut [EntryOctets], place: &'a mut RingPlace) -> MemoryRing<'a>
+        requires { length entries.old < 65536 }
         ensures same_entries { result.entries.ghost_name ≡ entries.entry.ghost_name }
         ensures same_place { result.place.ghost_name ≡ place.entry.ghost_name }
         ensures entries { result.entries.now ≡ entries.old }
@@ -61,17 +63,31 @@ impl<'a> MemoryRing<'a> {
         MemoryRing { entries, place }
     }
 
+    /// Returns the length of the array.
+    fn room(&self) -> u16
+        ensures { result ≡ length self.now.entries.now }
+    {
+        self.entries.len() as u16
+    }
+
+    /// Returns how many entries there are.
+    fn count(&self) -> u16
+        ensures { result ≡ min self.now.place.now.count (length self.now.entries.now) }
+    {
+        self.place.count.min(self.room())
+    }
+
     /// Returns the index of the oldest entry.
-    fn first(&self) -> usize
+    fn first(&self) -> u16
         ensures { result ≡ first_in self.now.place.now.first (length self.now.entries.now) }
     {
-        let first = self.place.first as usize;
-        if first < self.entries.len() { first } else { 0 }
+        let first = self.place.first;
+        if first < self.room() { first } else { 0 }
     }
 }
 
 /// Returns `first + steps`, less `room` if that is `room` or more: index `room` is index 0 again.
-fn index_behind(first: usize, steps: usize, room: usize) -> usize
+fn index_behind(first: u16, steps: u16, room: u16) -> u16
     requires { first ≤ room }
     ensures straight { first + steps < room → result ≡ first + steps }
     ensures wrapped { room ≤ first + steps → room + result ≡ first + steps }
@@ -90,38 +106,40 @@ impl EntryRing for MemoryRing<'_> {
     ghost memory = { λ ring. ring.entries.ghost_name ∷ ring.place.ghost_name ∷ [] };
 
     fn len(&self) -> usize {
-        self.place.len(self.entries.len())
+        usize::from(self.count())
     }
 
     fn push(&mut self, entry: EntryOctets) -> bool {
-        let room = self.entries.len();
+        let room = self.room();
         if room == 0 {
             return true;
         }
         let first = self.first();
-        let count = self.len();
-        self.entries[index_behind(first, count, room)] = entry;
+        let count = self.count();
+        self.entries[usize::from(index_behind(first, count, room))] = entry;
         if count < room {
-            self.place.count = (count + 1) as u64;
+            self.place.count = count + 1;
             false
         } else {
-            self.place.first = index_behind(first, 1, room) as u64;
+            let next = index_behind(first, 1, room);
+            self.place.first = next;
             true
         }
     }
 
     fn parts(&self) -> (&[EntryOctets], &[EntryOctets]) {
-        let count = self.len();
-        let (wrapped, straight) = self.entries.split_at(self.first());
+        let (first, count) = (usize::from(self.first()), usize::from(self.count()));
+        let (wrapped, straight) = self.entries.split_at(first);
         let from_first = straight.len().min(count);
         (&straight[..from_first], &wrapped[..count - from_first])
     }
 
     fn remove_front(&mut self, count: usize) {
-        let held = self.len();
-        let removed = count.min(held);
-        self.place.first = index_behind(self.first(), removed, self.entries.len()) as u64;
-        self.place.count = (held - removed) as u64;
+        let (first, held, room) = (self.first(), self.count(), self.room());
+        let removed = count.min(usize::from(held)) as u16;
+        let next = index_behind(first, removed, room);
+        self.place.first = next;
+        self.place.count = held - removed;
     }
 
     fn clear(&mut self) {

@@ -3,7 +3,6 @@
 mod commands;
 mod polls;
 
-use crate::limits::Limits;
 use crate::outputs::Outputs;
 use crate::ring::EntryRing;
 use crate::waiting::push_changed;
@@ -46,17 +45,18 @@ impl ModuleState {
     ghost use Rattle.fio_module.specs.Flags.{flags_of, watchdog_of, outputs_of};
     ghost use Rattle.fio_module.specs.State.{IsAfter, IsAfterHistory, state_at_start};
 
-    /// Returns a module with these limits whose ring is empty, of any capacity.
+    /// Returns a module whose blocks have at most `per_block` entries, and whose ring is empty, of any
+    /// capacity.
     #[tactic(auto, unfolding(crate::specs::Flags::word_of))]
-    pub fn new(id: u8, limits: Limits) -> ModuleState
+    pub fn new(id: u8, per_block: u8) -> ModuleState
         ensures life { (waiting : ℕ)
-            → IsAfter (record { id = id; per_block = limits.per_block; waiting = waiting })
+            → IsAfter (record { id = id; per_block = per_block; waiting = waiting })
             result (buffer [] waiting) [] }
-        ensures cleared { result ≡ state_at_start id limits.per_block }
+        ensures cleared { result ≡ state_at_start id per_block }
     {
         ModuleState {
             id,
-            per_block: limits.per_block(),
+            per_block,
             flags: RESET,
             watchdog: 0,
             pushed_out: 0,

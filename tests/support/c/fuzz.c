@@ -126,11 +126,11 @@ static int is_heard(const uint8_t *octets, size_t length) {
 
 static int is_received(struct fio2070_module *device, const uint8_t *octets, size_t length, uint8_t *answer) {
     struct fio2070_answer read;
-    size_t count = fio2070_module_receive(device, octets, length, answer);
+    size_t count = fio2070_module_receive(device, octets, length, answer, FIO2070_LONGEST_FRAME);
     memset(&read, 0, sizeof read);
     fio2070_module_scan(device, next_random());
-    if (fio2070_module_waiting(device) > FIO2070_MOST_WAITING) return 0;
-    return count == 0 || (fio2070_decode_answer(answer, count, &read).kind == FIO2070_FAULT_NONE &&
+    if (fio2070_module_waiting(device) > FIO2070_STANDARD_WAITING) return 0;
+    return count == 0 || count == FIO2070_NO_MESSAGE || (fio2070_decode_answer(answer, count, &read).kind == FIO2070_FAULT_NONE &&
                           read.code == octets[0] + FIO2070_TYPE_ANSWER);
 }
 
@@ -164,12 +164,13 @@ int main(int arguments, char **words) {
     long buffers = arguments > 1 ? atol(words[1]) : 1000, number, failed = 0;
     uint8_t *end = guarded_end(), *text_end = guarded_end(), *answer = guarded_end() - FIO2070_LONGEST_FRAME;
     static struct fio2070_module device;
+    struct fio2070_limits limits = FIO2070_STANDARD_LIMITS;
     static struct fio2070_checker checker;
     static struct fio2070_content_checker content;
     uint8_t octets[LONGEST + 1];
     random_state = arguments > 2 ? strtoul(words[2], NULL, 10) : 1;
     last_rule = arguments > 3 ? strtoul(words[3], NULL, 10) : 0;
-    fio2070_module_start(&device, 2, FIO2070_MOST_ENTRIES);
+    if (fio2070_module_start(&device, 2, limits) != FIO2070_STARTED) return 1;
     fio2070_checker_start(&checker);
     fio2070_content_start(&content);
     for (number = 0; number < buffers; number++) {

@@ -510,15 +510,26 @@ static int answers(const char *octets, size_t length, const void *answer, size_t
     memset(expected, '?', sizeof expected);
     memset(out, '?', sizeof out);
     memcpy(expected, answer, answer_length);
-    return fio2070_module_receive(&device, (const uint8_t *)octets, length, out) == answer_length &&
+    return fio2070_module_receive(&device, (const uint8_t *)octets, length, out, sizeof out) == answer_length &&
            memcmp(out, expected, sizeof out) == 0;
+}
+
+/* Whether the octets spell no command, and nothing is written for them. */
+static int is_no_command(const char *octets, size_t length) {
+    memset(out, '?', sizeof out);
+    return fio2070_module_receive(&device, (const uint8_t *)octets, length, out, sizeof out) == FIO2070_NO_MESSAGE && out[0] == '?';
+}
+
+static uint8_t starts(uint16_t waiting, uint8_t per_block) {
+    struct fio2070_limits limits = {waiting, per_block, 0};
+    return fio2070_module_start(&device, 2, limits);
 }
 
 static void is_a_module(void) {
     struct fio2070_outputs outputs;
     memset(&device, 0xa5, sizeof device);
-    CHECK(fio2070_module_start(&device, 2, 0) == 1 && device.state.id == 0xa5);
-    CHECK(fio2070_module_start(&device, 2, 255) == 0);
+    CHECK(starts(1024, 0) == FIO2070_REFUSED && starts(0, 255) == FIO2070_REFUSED && starts(1025, 255) == FIO2070_REFUSED);
+    CHECK(device.sized.state.id == 0xa5 && starts(1024, 255) == FIO2070_STARTED);
     CHECK(fio2070_module_waiting(&device) == 0 && fio2070_module_counter(&device) == 0);
     CHECK(fio2070_module_filtered(&device) == ~(uint64_t)0 && fio2070_module_watchdog_ms(&device) == 0);
     CHECK(fio2070_module_raw(&device) == ~(uint64_t)0 && fio2070_module_flags(&device) == FIO2070_BIT_WAS_RESET);
@@ -530,8 +541,11 @@ static void is_a_module(void) {
     CHECK(answers("\x31\1", 2, "\xb1\2\0\0\0\0\0\0", 8) && fio2070_module_flags(&device) == 2);
     fio2070_module_set_errors(&device, 7, 255);
     CHECK(fio2070_module_errors(&device).receive == 7 && fio2070_module_errors(&device).transmit == 255);
-    CHECK(answers("\x31\0", 2, "\xb1\2\7\xff\0\0\0\0", 8) && answers("\x3c", 1, "\xbc\2", 2));
-    CHECK(answers("\x38", 1, "", 0) && answers("\x33", 1, "", 0) && answers("", 0, "", 0));
+    fio2070_module_count_receive_error(&device);
+    fio2070_module_count_transmit_error(&device);
+    CHECK(fio2070_module_errors(&device).receive == 8 && fio2070_module_errors(&device).transmit == 255);
+    CHECK(answers("\x31\0", 2, "\xb1\2\x08\xff\0\0\0\0", 8) && answers("\x3c", 1, "\xbc\2", 2));
+    CHECK(answers("\x38", 1, "", 0) && is_no_command("\x33", 1) && is_no_command("", 0));
     CHECK(answers("\x33\1\x40\1\1", 5, "\xb3\1", 2) && answers("\x33\1\x0c\1\1", 5, "\xb3\0", 2));
     CHECK(answers("\x32\0\0\3\xe6", 5, "\xb2\0", 2));
     fio2070_module_line_sync(&device);
@@ -563,14 +577,14 @@ static void overflows(void) {
         configuration[2 + 3 * place] = (uint8_t)place;
         configuration[3 + 3 * place] = configuration[4 + 3 * place] = 1;
     }
-    CHECK(fio2070_module_start(&device, 2, 255) == 0);
-    CHECK(fio2070_module_receive(&device, configuration, sizeof configuration, out) == 2 && out[1] == 0);
+    CHECK(starts(1024, 255) == FIO2070_STARTED);
+    CHECK(fio2070_module_receive(&device, configuration, sizeof configuration, out, sizeof out) == 2 && out[1] == 0);
     for (place = 0; place < 20; place++) fio2070_module_scan(&device, place % 2 ? ~(uint64_t)0 : 0);
     CHECK(fio2070_module_waiting(&device) == 1024);
     for (block = 0; block < 5; block++) {
         uint8_t poll[2] = {54, (uint8_t)block}, count = block < 4 ? 255 : 4;
         int first = 256 + 255 * block, scan = first / 64 + 1;
-        CHECK(fio2070_module_receive(&device, poll, 2, out) == 8 + 3 * (size_t)count);
+        CHECK(fio2070_module_receive(&device, poll, 2, out, sizeof out) == 8 + 3 * (size_t)count);
         CHECK(out[0] == 182 && out[1] == block && out[2] == count);
         CHECK(out[3] == (first % 64 | (scan % 2 ? 0 : 128)) && out[4] == 0 && out[5] == scan);
         CHECK(out[3 + 3 * count] == (block == 0 ? 12 : block < 4 ? 8 : 0) && out[7 + 3 * count] == 20);
@@ -618,7 +632,8 @@ static void ends_take_nulls(void) {
     fio2070_content_start(&content);
     fio2070_content_sent(&content, NULL, 0);
     CHECK(fio2070_content_heard(&content, NULL, 0, &entry) == 0);
-    CHECK(fio2070_module_start(&device, 2, 255) == 0 && fio2070_module_receive(&device, NULL, 0, out) == 0);
+    CHECK(starts(1024, 255) == FIO2070_STARTED && fio2070_module_receive(&device, NULL, 0, NULL, 0) == FIO2070_LONGEST_FRAME);
+    CHECK(fio2070_module_receive(&device, NULL, 0, out, sizeof out) == FIO2070_NO_MESSAGE);
     CHECK(fio2070_filters_configure(&inputs, NULL, 0).kind == FIO2070_CONFIGURED_APPLIED);
     CHECK(fio2070_poller_poll(&poller, NULL, 0) == 2);
     CHECK(fio2070_poller_hear(&poller, NULL, 0, NULL, 0).kind == FIO2070_HEARD_UNREADABLE);

@@ -1,4 +1,4 @@
-/* A module whose waiting entries are in an array of the caller, by the rules of docs/PROTOCOL.md. The last line is
+/* A module whose waiting entries are in slots of the caller, by the rules of docs/PROTOCOL.md. The last line is
  * `N passed, M failed`. */
 #include "fio2070.h"
 
@@ -10,31 +10,40 @@ enum { MOST = 3000 };
 static const uint64_t ALL = ~(uint64_t)0;
 
 static struct fio2070_sized_module device;
-static uint8_t ring[MOST + 1][3], out[FIO2070_LONGEST_FRAME];
-static size_t capacity;
+static struct fio2070_slot slots[MOST + 1];
+static struct fio2070_ring ring = {slots, MOST + 1};
+static uint8_t out[FIO2070_LONGEST_FRAME];
+
+static uint8_t starts(size_t waiting, uint8_t per_block) {
+    struct fio2070_limits limits = {(uint16_t)waiting, per_block, 0};
+    return fio2070_sized_module_start(&device, 2, limits);
+}
+
+static size_t receive(const void *octets, size_t length) {
+    return fio2070_sized_module_receive(&device, ring, (const uint8_t *)octets, length, out, sizeof out);
+}
 
 static int answers(const char *octets, size_t length, const void *answer, size_t answer_length) {
     uint8_t expected[FIO2070_LONGEST_FRAME];
     memset(expected, '?', sizeof expected);
     memset(out, '?', sizeof out);
     memcpy(expected, answer, answer_length);
-    return fio2070_sized_module_receive(&device, ring, capacity, (const uint8_t *)octets, length, out) == answer_length &&
-           memcmp(out, expected, sizeof out) == 0;
+    return receive(octets, length) == answer_length && memcmp(out, expected, sizeof out) == 0;
 }
 
-/* The calls of a module whose array is never full. */
+/* The calls of a module whose slots are never full. */
 static void is_a_module(void) {
     struct fio2070_outputs outputs;
     struct fio2070_error_counts errors;
-    capacity = 1;
     memset(&device, 0xa5, sizeof device);
-    memset(ring, 0xa5, sizeof ring);
-    CHECK(fio2070_sized_module_start(&device, 2, 0) == 1 && device.state.id == 0xa5);
-    CHECK(fio2070_sized_module_start(&device, 2, 255) == 0);
-    CHECK(fio2070_sized_module_waiting(&device, 1) == 0 && fio2070_sized_module_counter(&device) == 0);
+    memset(slots, 0xa5, sizeof slots);
+    CHECK(starts(1, 0) == FIO2070_REFUSED && starts(0, 255) == FIO2070_REFUSED && device.state.id == 0xa5);
+    CHECK(starts(8193, 255) == FIO2070_REFUSED && device.waiting == 0xa5a5 && starts(8192, 255) == FIO2070_STARTED);
+    CHECK(starts(1, 255) == FIO2070_STARTED);
+    CHECK(fio2070_sized_module_waiting(&device) == 0 && fio2070_sized_module_counter(&device) == 0);
     CHECK(fio2070_sized_module_filtered(&device) == ALL && fio2070_sized_module_raw(&device) == ALL);
     CHECK(fio2070_sized_module_watchdog_ms(&device) == 0 && fio2070_sized_module_flags(&device) == FIO2070_BIT_WAS_RESET);
-    CHECK(answers("\x3c", 1, "\xbc\2", 2) && answers("\x38", 1, "", 0) && answers("\x33", 1, "", 0));
+    CHECK(answers("\x3c", 1, "\xbc\2", 2) && answers("\x38", 1, "", 0) && receive("\x33", 1) == FIO2070_NO_MESSAGE);
     fio2070_sized_module_raise(&device, 3);
     CHECK(answers("\x31\x81", 2, "\xb1\2\0\0\0\0\0\0", 8) && fio2070_sized_module_flags(&device) == 2);
     fio2070_sized_module_set_errors(&device, 7, 255);
@@ -42,8 +51,8 @@ static void is_a_module(void) {
     CHECK(errors.receive == 7 && errors.transmit == 255 && answers("\x31\0", 2, "\xb1\2\7\xff\0\0\0\0", 8));
     CHECK(answers("\x33\1\x0c\1\1", 5, "\xb3\0", 2) && answers("\x32\0\0\3\xe6", 5, "\xb2\0", 2));
     fio2070_sized_module_line_sync(&device);
-    fio2070_sized_module_scan(&device, ring, capacity, ~((uint64_t)1 << 12));
-    CHECK(fio2070_sized_module_counter(&device) == 999 && fio2070_sized_module_waiting(&device, 1) == 1);
+    fio2070_sized_module_scan(&device, ring, ~((uint64_t)1 << 12));
+    CHECK(fio2070_sized_module_counter(&device) == 999 && fio2070_sized_module_waiting(&device) == 1);
     CHECK(fio2070_sized_module_filtered(&device) == ~((uint64_t)1 << 12));
     CHECK(fio2070_sized_module_raw(&device) == ~((uint64_t)1 << 12));
     CHECK(answers("\x36\5", 2, "\xb6\5\1\x0c\3\xe7\0\0\0\3\xe7", 11));
@@ -53,9 +62,9 @@ static void is_a_module(void) {
     outputs = fio2070_sized_module_outputs(&device);
     CHECK(outputs.levels[0] == 1 && outputs.levels[7] == 8 && outputs.controls[0] == 9 && outputs.controls[1] == 0);
     CHECK(answers("\x3a\5", 2, "\xba\0", 2) && fio2070_sized_module_watchdog_ms(&device) == 10);
-    fio2070_sized_module_scan(&device, ring, capacity, ALL);
+    fio2070_sized_module_scan(&device, ring, ALL);
     fio2070_sized_module_restart(&device);
-    CHECK(fio2070_sized_module_counter(&device) == 0 && fio2070_sized_module_waiting(&device, 1) == 0);
+    CHECK(fio2070_sized_module_counter(&device) == 0 && fio2070_sized_module_waiting(&device) == 0);
     CHECK(fio2070_sized_module_errors(&device).receive == 0 && answers("\x31\0", 2, "\xb1\x80\0\0\0\0\0\0", 8));
 }
 
@@ -66,10 +75,13 @@ static void starts_with_all_inputs(size_t room) {
         configuration[2 + 3 * place] = (uint8_t)place;
         configuration[3 + 3 * place] = configuration[4 + 3 * place] = 1;
     }
-    capacity = room;
-    memset(ring, 0xa5, sizeof ring);
-    CHECK(fio2070_sized_module_start(&device, 2, 255) == 0);
-    CHECK(fio2070_sized_module_receive(&device, ring, capacity, configuration, sizeof configuration, out) == 2);
+    memset(slots, 0xa5, sizeof slots);
+    CHECK(starts(room, 255) == FIO2070_STARTED);
+    CHECK(receive(configuration, sizeof configuration) == 2);
+}
+
+static int is_untouched(size_t place) {
+    return slots[place].octets[0] == 0xa5 && slots[place].octets[1] == 0xa5 && slots[place].octets[2] == 0xa5;
 }
 
 /* 1,280 transitions, 64 a scan: the latest wait for which there is room. The first block says whether some were pushed
@@ -78,74 +90,99 @@ static void keeps_the_latest(size_t room) {
     size_t waiting = room < 1280 ? room : 1280, next = 1280 - waiting, most = 255;
     int place, block;
     starts_with_all_inputs(room);
-    for (place = 0; place < 20; place++) fio2070_sized_module_scan(&device, ring, capacity, place % 2 ? ALL : 0);
+    for (place = 0; place < 20; place++) fio2070_sized_module_scan(&device, ring, place % 2 ? ALL : 0);
     for (block = 0; waiting != 0 || block == 0; block++) {
         uint8_t poll[2] = {54, (uint8_t)block};
         size_t count = waiting < most ? waiting : most, scan = next / 64 + 1;
-        CHECK(fio2070_sized_module_waiting(&device, capacity) == waiting);
-        CHECK(fio2070_sized_module_receive(&device, ring, capacity, poll, 2, out) == 8 + 3 * count);
+        CHECK(fio2070_sized_module_waiting(&device) == waiting);
+        CHECK(receive(poll, 2) == 8 + 3 * count);
         CHECK(out[0] == 182 && out[1] == block && out[2] == count && out[7 + 3 * count] == 20);
-        CHECK(count == 0 || (out[3] == (next % 64 | (scan % 2 ? 0 : 128)) && out[4] == 0 && out[5] == scan));
+        CHECK(out[3] == (next % 64 | (scan % 2 ? 0 : 128)) && out[4] == 0 && out[5] == scan);
         CHECK(out[3 + 3 * count] == (waiting > most ? 8 : 0) + (block == 0 && room < 1280 ? 4 : 0));
         next += count;
         waiting -= count;
     }
-    /* Nothing is written behind the array. */
-    CHECK(ring[room][0] == 0xa5 && ring[room][1] == 0xa5 && ring[room][2] == 0xa5);
+    /* Of more slots than may wait the further ones are left alone. */
+    CHECK(is_untouched(room) && is_untouched(MOST));
 }
 
-/* A module and its array go on where they are copied to, and the array goes round. */
+/* A module and its slots go on where they are copied to, and the ring goes round. */
 static void moves(void) {
     static struct fio2070_sized_module moved;
-    static uint8_t other[5][3];
+    static struct fio2070_slot other[5];
     int scan;
     starts_with_all_inputs(5);
-    for (scan = 0; scan < 4; scan++) fio2070_sized_module_scan(&device, ring, 5, scan % 2 ? ALL : ~(uint64_t)3);
-    CHECK(fio2070_sized_module_waiting(&device, 5) == 5);
+    for (scan = 0; scan < 4; scan++) fio2070_sized_module_scan(&device, ring, scan % 2 ? ALL : ~(uint64_t)3);
+    CHECK(fio2070_sized_module_waiting(&device) == 5);
     memcpy(&moved, &device, sizeof moved);
-    memcpy(other, ring, sizeof other);
+    memcpy(other, slots, sizeof other);
     memset(&device, 0xa5, sizeof device);
-    memset(ring, 0xa5, sizeof ring);
-    fio2070_sized_module_scan(&moved, other, 5, ALL);
-    CHECK(fio2070_sized_module_receive(&moved, other, 5, (const uint8_t *)"\x36\1", 2, out) == 23);
+    memset(slots, 0xa5, sizeof slots);
+    fio2070_sized_module_scan(&moved, FIO2070_RING(other), ALL);
+    CHECK(fio2070_sized_module_receive(&moved, FIO2070_RING(other), (const uint8_t *)"\x36\1", 2, out, sizeof out) == 23);
     /* Inputs 0 and 1 change at each of four scans; of the eight entries the latest five are left. */
     CHECK(memcmp(out, "\xb6\1\5\x81\0\2\0\0\3\1\0\3\x80\0\4\x81\0\4\4\0\0\0\5", 23) == 0);
 }
 
-/* Without room no entry waits, and the next block says that some are lost. */
-static void has_no_room(void) {
-    starts_with_all_inputs(0);
-    fio2070_sized_module_scan(&device, NULL, 0, 0);
-    CHECK(fio2070_sized_module_waiting(&device, 0) == 0);
-    CHECK(fio2070_sized_module_receive(&device, NULL, 0, (const uint8_t *)"\x36\0", 2, out) == 8);
-    CHECK(memcmp(out, "\xb6\0\0\4\0\0\0\1", 8) == 0);
-    CHECK(fio2070_sized_module_receive(&device, NULL, 0, (const uint8_t *)"\x36\1", 2, out) == 8 && out[3] == 0);
-    CHECK(fio2070_sized_module_receive(&device, NULL, 0, NULL, 0, out) == 0);
+/* The room for answers is that of the longest, which a block has, or inputs and a stamp: with less nothing is done. */
+static void needs_room(void) {
+    static const struct { uint8_t per_block; size_t longest; } rows[] = {{1, 13}, {2, 14}, {3, 17}, {254, 770}, {255, 773}};
+    static const uint8_t poll[] = {54, 0}, unknown[] = {6};
+    static struct fio2070_sized_module before;
+    size_t place;
+    for (place = 0; place < sizeof rows / sizeof rows[0]; place++) {
+        size_t longest = rows[place].longest;
+        memset(&device, 0, sizeof device);
+        CHECK(starts(5, rows[place].per_block) == FIO2070_STARTED);
+        memcpy(&before, &device, sizeof before);
+        memset(out, '?', sizeof out);
+        CHECK(fio2070_sized_module_receive(&device, ring, poll, 2, out, longest - 1) == longest);
+        CHECK(fio2070_sized_module_receive(&device, ring, poll, 2, NULL, 0) == longest);
+        CHECK(fio2070_sized_module_receive(&device, ring, unknown, 1, out, longest) == FIO2070_NO_MESSAGE);
+        CHECK(memcmp(&before, &device, sizeof before) == 0 && out[0] == '?');
+        CHECK(fio2070_sized_module_receive(&device, ring, poll, 2, out, longest) == 8 && out[0] == 182);
+    }
 }
 
-/* Any octets of a struct and any array: no more entries wait than there is room for, and each call returns. */
+/* One more error at a time, until 255. */
+static void counts_errors(void) {
+    int time;
+    CHECK(starts(1, 255) == FIO2070_STARTED);
+    for (time = 1; time < 300; time++) {
+        fio2070_sized_module_count_receive_error(&device);
+        if (time % 2 == 0) fio2070_sized_module_count_transmit_error(&device);
+        CHECK(fio2070_sized_module_errors(&device).receive == (time < 255 ? time : 255));
+        CHECK(fio2070_sized_module_errors(&device).transmit == time / 2);
+    }
+    CHECK(answers("\x31\0", 2, "\xb1\x80\xff\x95\0\0\0\0", 8));
+    fio2070_sized_module_restart(&device);
+    CHECK(fio2070_sized_module_errors(&device).receive == 0 && fio2070_sized_module_errors(&device).transmit == 0);
+}
+
+/* Any octets of a struct, and any number of slots: each call returns, and none writes outside what it is given. */
 static void takes_any_octets(void) {
     unsigned fill;
     size_t room;
     for (fill = 0; fill < 256; fill += 5) {
         for (room = 0; room < 4; room++) {
+            struct fio2070_ring few = {room == 0 ? NULL : slots, room};
+            memset(slots, 0xa5, sizeof slots);
             memset(&device, (int)fill, sizeof device);
-            memset(ring, (int)fill, sizeof ring);
-            fio2070_sized_module_scan(&device, ring, room, fill % 2 ? ALL : 0);
-            CHECK(fio2070_sized_module_waiting(&device, room) <= room);
-            CHECK(fio2070_sized_module_receive(&device, ring, room, (const uint8_t *)"\x36\0", 2, out) <= sizeof out);
-            CHECK(fio2070_sized_module_waiting(&device, room) <= room);
+            fio2070_sized_module_scan(&device, few, fill % 2 ? ALL : 0);
+            CHECK(fio2070_sized_module_receive(&device, few, (const uint8_t *)"\x36\0", 2, out, sizeof out) <= sizeof out);
+            CHECK(fio2070_sized_module_waiting(&device) <= device.waiting && is_untouched(room));
         }
     }
 }
 
 int main(void) {
-    static const size_t rooms[] = {0, 1, 2, 63, 64, 100, 255, 256, 1024, 1279, 1280, 1281, MOST};
+    static const size_t rooms[] = {1, 2, 63, 64, 100, 255, 256, 1024, 1279, 1280, 1281, MOST};
     size_t place;
     is_a_module();
     for (place = 0; place < sizeof rooms / sizeof rooms[0]; place++) keeps_the_latest(rooms[place]);
     moves();
-    has_no_room();
+    needs_room();
+    counts_errors();
     takes_any_octets();
     return end_of_checks();
 }

@@ -6,7 +6,7 @@
 
 #include <string.h>
 
-static unsigned char first[sizeof(struct fio2070_module)], second[sizeof(struct fio2070_module)];
+static unsigned char first[sizeof(struct fio2070_content_checker)], second[sizeof(struct fio2070_content_checker)];
 
 static void fill(void *one, void *other, size_t size) {
     memset(one, 0x5a, size);
@@ -31,10 +31,11 @@ static int same(const void *one, const void *other, size_t size) {
     } while (0)
 
 static void modules(void) {
-    static struct fio2070_module one, other;
+    static struct fio2070_sized_module one, other;
+    struct fio2070_limits limits = FIO2070_STANDARD_LIMITS, refused = {FIO2070_MOST_WAITING, 0, 0};
     fill(&one, &other, sizeof one);
-    check(fio2070_module_start(&one, 2, 0) == 1 && memchr(&one, 0, sizeof one) == NULL, "module that is not started", __LINE__);
-    check(fio2070_module_start(&one, 2, 255) == 0 && fio2070_module_start(&other, 2, 255) == 0, "module", __LINE__);
+    check(fio2070_sized_module_start(&one, 2, refused) == FIO2070_REFUSED && memchr(&one, 0, sizeof one) == NULL, "module that is not started", __LINE__);
+    check(fio2070_sized_module_start(&one, 2, limits) + fio2070_sized_module_start(&other, 2, limits) == FIO2070_STARTED, "module", __LINE__);
     check(same(&one, &other, sizeof one), "octets of the module", __LINE__);
 }
 

@@ -7,7 +7,7 @@
 #include <stdio.h>
 #include <string.h>
 
-enum kind { RECEIVE, SCAN, LINE_SYNC, RAISE, RESTART, COUNTER, WAITING, FILTERED, WATCHDOG, OUTPUTS };
+enum kind { RECEIVE, NO_COMMAND, SCAN, LINE_SYNC, RAISE, RESTART, COUNTER, WAITING, FILTERED, WATCHDOG, OUTPUTS };
 
 /* A call of a module, with its argument or what it returns. Of the outputs each octet is this one. */
 struct call {
@@ -20,6 +20,8 @@ struct call {
 };
 
 #define CALL(kind, number) {kind, number, 0, "", 0, ""}
+/* These octets spell no command. */
+#define SPELLS_NONE(octets) {NO_COMMAND, 0, sizeof(octets) - 1, octets, 0, ""}
 /* These octets get this answer, and none where nothing stands. */
 #define GETS(octets, answer) {RECEIVE, 0, sizeof(octets) - 1, octets, sizeof(answer) - 1, answer}
 
@@ -28,12 +30,12 @@ static const struct call commands[] = {
     CALL(WATCHDOG, 0),
     CALL(OUTPUTS, 0),
     /* Some octets get no answer, and change nothing. */
-    GETS("", ""),
-    GETS("\x36", ""),
+    SPELLS_NONE(""),
+    SPELLS_NONE("\x36"),
     GETS("\x38", ""),
     GETS("\x39", ""),
     GETS("\x3b", ""),
-    GETS("\x3d", ""),
+    SPELLS_NONE("\x3d"),
     /* The flags are raised, and cleared where the command says so. */
     GETS("\x31\0", "\xb1\x80\0\0\0\0\0\0"),
     CALL(RAISE, 1),
@@ -124,12 +126,12 @@ static const struct call one_entry_a_block[] = {
     GETS("\x36\0", "\xb6\0\1\0\0\1\x08\0\0\0\1"),
     GETS("\x36\1", "\xb6\1\1\x0c\0\1\0\0\0\0\1"),
 };
-static int is_answered(struct fio2070_module *module, const struct call *call) {
+static int is_answered(struct fio2070_module *module, const struct call *call, size_t count) {
     static uint8_t out[FIO2070_LONGEST_FRAME], expected[FIO2070_LONGEST_FRAME];
     memset(out, '?', sizeof out);
     memset(expected, '?', sizeof expected);
     memcpy(expected, call->answer, call->answer_length);
-    return fio2070_module_receive(module, (const uint8_t *)call->octets, call->length, out) == call->answer_length &&
+    return fio2070_module_receive(module, (const uint8_t *)call->octets, call->length, out, sizeof out) == count &&
            memcmp(out, expected, sizeof out) == 0;
 }
 
@@ -143,7 +145,8 @@ static int has_outputs(const struct fio2070_module *module, uint8_t octet) {
 /* Makes a call, and returns whether it returns what it should. */
 static int holds(struct fio2070_module *module, const struct call *call) {
     switch (call->kind) {
-    case RECEIVE: return is_answered(module, call);
+    case RECEIVE: return is_answered(module, call, call->answer_length);
+    case NO_COMMAND: return is_answered(module, call, FIO2070_NO_MESSAGE);
     case SCAN: fio2070_module_scan(module, call->number); return 1;
     case LINE_SYNC: fio2070_module_line_sync(module); return 1;
     case RAISE: fio2070_module_raise(module, (uint8_t)call->number); return 1;
@@ -160,9 +163,11 @@ static int holds(struct fio2070_module *module, const struct call *call) {
 /* The calls of a new module whose blocks have so many entries at most. */
 static void run(const char *name, uint8_t per_block, const struct call *calls, size_t count) {
     static struct fio2070_module module;
+    struct fio2070_limits limits = FIO2070_STANDARD_LIMITS;
     size_t place;
+    limits.per_block = per_block;
     memset(&module, 0xa5, sizeof module);
-    check(fio2070_module_start(&module, 2, per_block) == 0, name, 0);
+    check(fio2070_module_start(&module, 2, limits) == FIO2070_STARTED, name, 0);
     for (place = 0; place < count; place++) {
         check(holds(&module, &calls[place]), name, (unsigned)place);
     }

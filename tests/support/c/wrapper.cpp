@@ -178,7 +178,7 @@ static void polls_a_module() {
     CHECK(module && !module->watchdog_ms() && module->filtered() == ~std::uint64_t(0));
     const fio2070::ConfigurationItem item[] = {{12, 0, 1, 1}};
     CHECK(octets(*module->receive(*fio2070::encode::configure_inputs(item))) == List({0xb3, 0}));
-    CHECK(!module->receive(List({56})));
+    CHECK(!module->receive(List({56})) && !module->receive(List({6})));
     module->scan(~(std::uint64_t(1) << 12));
     CHECK(module->counter() == 1 && module->waiting() == 1);
     auto answer = module->receive(poller.poll());
@@ -199,6 +199,9 @@ static void polls_a_module() {
     module->set_errors(3, 4);
     CHECK(module->errors().receive == 3 && module->errors().transmit == 4 && module->flags() == 0x80);
     CHECK((*module->receive(fio2070::encode::status(0)))[2] == 3);
+    module->count_receive_error();
+    module->count_transmit_error();
+    CHECK(module->errors().receive == 4 && module->errors().transmit == 5);
     CHECK(module->raw() == ~(std::uint64_t(1) << 12));
     module->raise(1);
     CHECK((*module->receive(fio2070::encode::status(0)))[1] == 0x81);
@@ -212,7 +215,7 @@ static void polls_a_module() {
 
 /* Four transitions of inputs 0 and 1 where three may wait: the first is pushed out. */
 static void has_little_room() {
-    auto module = fio2070::SizedModule<3>::start(2);
+    auto module = fio2070::Module<3>::start(2);
     const fio2070::ConfigurationItem items[] = {{0, 0, 1, 1}, {1, 0, 1, 1}};
     module->receive(*fio2070::encode::configure_inputs(items));
     module->scan(~std::uint64_t(3));
@@ -263,8 +266,8 @@ int main() {
     has_the_most();
     has_words();
     checks();
-    polls_a_module<fio2070::Module>();
-    polls_a_module<fio2070::SizedModule<1>>();
+    polls_a_module<fio2070::Module<>>();
+    polls_a_module<fio2070::Module<1>>();
     has_little_room();
     has_parts();
     judges_content();

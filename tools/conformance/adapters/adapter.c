@@ -49,7 +49,8 @@ static void set_inputs(const char *words, int has_clock) {
 static void exchange(const char *words) {
     uint8_t frame[1024], answer[FIO2070_LONGEST_FRAME];
     size_t length = read_octets(words, frame, sizeof frame), place;
-    size_t count = fio2070_module_receive(&module, frame, length, answer);
+    size_t count = fio2070_module_receive(&module, frame, length, answer, sizeof answer);
+    if (count > sizeof answer) count = 0; /* no command */
     printf(count > 0 ? "answer " : "none");
     for (place = 0; place < count; place++) printf("%02x", answer[place]);
     puts("");
@@ -57,8 +58,9 @@ static void exchange(const char *words) {
 
 int main(int count, char **words) {
     static char line[2100];
+    struct fio2070_limits limits = FIO2070_STANDARD_LIMITS;
     int has_clock = count == 2 && strcmp(words[1], "clock") == 0;
-    fio2070_module_start(&module, 2, FIO2070_MOST_ENTRIES);
+    if (fio2070_module_start(&module, 2, limits) != FIO2070_STARTED) return 1;
     while (fgets(line, sizeof line, stdin) != NULL) {
         if (has_clock) catch_up();
         if (strncmp(line, "frame ", 6) == 0) {

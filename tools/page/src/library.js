@@ -3,7 +3,7 @@
 //
 // A message is given by its address and length in the machine's memory: `place` puts octets there.
 
-import { LONGEST_FRAME, LONGEST_TEXT, MOST_RECORD_ITEMS } from './constants.js';
+import { LONGEST_FRAME, LONGEST_TEXT, MOST_RECORD_ITEMS, STANDARD_WAITING } from './constants.js';
 import { AT, SIZE } from './layouts.js';
 
 const FAULTS = { none: 0, unknownType: 3 };
@@ -104,8 +104,8 @@ export class Library {
 
   // A module as it starts; null where it may have no block of `perBlock` entries.
   module(id, perBlock) {
-    const address = this.machine.reserve(SIZE.module);
-    return this.calls.fio2070_module_start(BigInt(address), id, perBlock) === 0 ? new Module(this, address) : null;
+    const module = new Module(this);
+    return module.start(id, perBlock) ? module : null;
   }
 
   // What judges transcripts.
@@ -163,49 +163,54 @@ class Poller {
 }
 
 class Module {
-  constructor(library, address) {
+  constructor(library) {
     this.library = library;
-    this.at = BigInt(address);
+    this.at = BigInt(library.machine.reserve(SIZE.sizedModule));
+    // Three octets for each entry that may wait.
+    this.ring = [BigInt(library.machine.reserve(3 * STANDARD_WAITING)), BigInt(STANDARD_WAITING)];
   }
 
   start(id, perBlock) {
-    return this.library.calls.fio2070_module_start(this.at, id, perBlock) === 0;
+    const { library } = this, { all, data } = library.machine, limits = library.result;
+    data.setUint16(limits + AT.limits.waiting, STANDARD_WAITING, true);
+    all[limits + AT.limits.per_block] = perBlock;
+    return library.calls.fio2070_sized_module_start(this.at, id, BigInt(limits)) === 0;
   }
 
   scan(levels) {
-    this.library.calls.fio2070_module_scan(this.at, BigInt.asIntN(64, levels));
+    this.library.calls.fio2070_sized_module_scan(this.at, ...this.ring, BigInt.asIntN(64, levels));
   }
 
   lineSync() {
-    this.library.calls.fio2070_module_line_sync(this.at);
+    this.library.calls.fio2070_sized_module_line_sync(this.at);
   }
 
   raise(mask) {
-    this.library.calls.fio2070_module_raise(this.at, mask);
+    this.library.calls.fio2070_sized_module_raise(this.at, mask);
   }
 
   restart() {
-    this.library.calls.fio2070_module_restart(this.at);
+    this.library.calls.fio2070_sized_module_restart(this.at);
   }
 
-  // The octets of the answer to a frame; none where there is no answer.
+  // The octets of the answer to a frame; none where there is no answer, and where the octets spell no command.
   receive(octets) {
     const { library } = this;
     const address = library.place(octets);
-    return library.written(library.calls.fio2070_module_receive(this.at, BigInt(address), BigInt(octets.length),
-      BigInt(library.out)));
+    return library.written(library.calls.fio2070_sized_module_receive(this.at, ...this.ring, BigInt(address),
+      BigInt(octets.length), BigInt(library.out), BigInt(LONGEST_FRAME)));
   }
 
   get counter() {
-    return this.library.calls.fio2070_module_counter(this.at) >>> 0;
+    return this.library.calls.fio2070_sized_module_counter(this.at) >>> 0;
   }
 
   get waiting() {
-    return Number(this.library.calls.fio2070_module_waiting(this.at));
+    return Number(this.library.calls.fio2070_sized_module_waiting(this.at));
   }
 
   get filtered() {
-    return BigInt.asUintN(64, this.library.calls.fio2070_module_filtered(this.at));
+    return BigInt.asUintN(64, this.library.calls.fio2070_sized_module_filtered(this.at));
   }
 }
 

@@ -5,7 +5,8 @@ pub const VERSION: u32 = 10_000;
 pub const LONGEST_FRAME: usize = 773;
 pub const MOST_ENTRIES: usize = 255;
 pub const MOST_RECORD_ITEMS: usize = 256;
-pub const MOST_WAITING: usize = 1_024;
+pub const STANDARD_WAITING: usize = 1_024;
+pub const MOST_WAITING: usize = 8_192;
 pub const LONGEST_TEXT: usize = 62;
 pub const NO_MESSAGE: usize = usize::MAX;
 

@@ -4,10 +4,11 @@ use crate::constants::LONGEST_TEXT;
 use crate::errors::ConfigurationError;
 use crate::raw::{
     self, Breach, ConfigurationItem, ContentBreach, ErrorCounts, Fault, Outputs, RawChecker,
-    RawContentChecker, RawCounter, RawFilters, RawHeard, RawModule, RawPoller, RawSizedModule,
+    RawContentChecker, RawCounter, RawFilters, RawHeard, RawLimits, RawPoller, RawSizedModule,
     RecordItem,
 };
 use crate::written::{text, Unwritten};
+use crate::constants::STANDARD_WAITING;
 use crate::LONGEST_FRAME;
 use core::fmt;
 
@@ -279,179 +280,78 @@ impl Filters {
     }
 }
 
-// What modules of both kinds do with their state, each by the calls of its kind.
-macro_rules! calls_of_state {
-    (
-        $state:tt,
-        restart: $restart:ident,
-        line_sync: $line_sync:ident,
-        raise: $raise:ident,
-        set_errors: $set_errors:ident,
-        outputs: $outputs:ident,
-        watchdog_ms: $watchdog_ms:ident,
-        counter: $counter:ident,
-        filtered: $filtered:ident,
-        raw: $raw:ident,
-        flags: $flags:ident,
-        errors: $errors:ident,
-    ) => {
-        /// Starts anew with the same id and per_block.
-        pub fn restart(&mut self) {
-            unsafe { raw::$restart(&mut self.$state) }
-        }
-
-        /// LINESYNC goes from 0 to 1: a load of the counter that was asked for happens now.
-        pub fn line_sync(&mut self) {
-            unsafe { raw::$line_sync(&mut self.$state) }
-        }
-
-        /// Sets the flags whose bits are one.
-        pub fn raise(&mut self, mask: u8) {
-            unsafe { raw::$raise(&mut self.$state, mask) }
-        }
-
-        /// Sets the error counts that the answer 177 has from now on.
-        pub fn set_errors(&mut self, receive: u8, transmit: u8) {
-            unsafe { raw::$set_errors(&mut self.$state, receive, transmit) }
-        }
-
-        /// What the outputs are set to.
-        pub fn outputs(&self) -> Outputs {
-            unsafe { raw::$outputs(&self.$state) }
-        }
-
-        /// The timeout of the watchdog in milliseconds, `None` before the first command 58.
-        pub fn watchdog_ms(&self) -> Option<u8> {
-            match unsafe { raw::$watchdog_ms(&self.$state) } {
-                0 => None,
-                timeout => Some(timeout),
-            }
-        }
-
-        /// The milliseconds counted, modulo 2^32.
-        pub fn counter(&self) -> u32 {
-            unsafe { raw::$counter(&self.$state) }
-        }
-
-        /// The filtered states, also of ignored inputs.
-        pub fn filtered(&self) -> u64 {
-            unsafe { raw::$filtered(&self.$state) }
-        }
-
-        /// The levels of the last scan, all 1 before any.
-        pub fn raw(&self) -> u64 {
-            unsafe { raw::$raw(&self.$state) }
-        }
-
-        /// The flags that are up.
-        pub fn flags(&self) -> u8 {
-            unsafe { raw::$flags(&self.$state) }
-        }
-
-        /// The error counts that the answer 177 has.
-        pub fn errors(&self) -> ErrorCounts {
-            unsafe { raw::$errors(&self.$state) }
-        }
-    };
-}
-
-/// A field I/O module of which 1,024 entries may wait.
+/// A field I/O module of which `WAITING` entries may wait.
 #[derive(Clone)]
-pub struct Module(RawModule);
+pub struct Module<const WAITING: usize = STANDARD_WAITING> {
+    raw: RawSizedModule,
+    ring: [[u8; 3]; WAITING],
+}
 
 impl Module {
-    calls_of_state! {
-        0,
-        restart: fio2070_module_restart,
-        line_sync: fio2070_module_line_sync,
-        raise: fio2070_module_raise,
-        set_errors: fio2070_module_set_errors,
-        outputs: fio2070_module_outputs,
-        watchdog_ms: fio2070_module_watchdog_ms,
-        counter: fio2070_module_counter,
-        filtered: fio2070_module_filtered,
-        raw: fio2070_module_raw,
-        flags: fio2070_module_flags,
-        errors: fio2070_module_errors,
-    }
-
-    /// It answers `id` to command 60; its blocks have at most `per_block` entries. `None` where that is 0.
+    /// As `sized`, for the 1,024 waiting entries of TEES 2009.
     pub fn new(id: u8, per_block: u8) -> Option<Module> {
-        let mut module = RawModule::default();
-        match unsafe { raw::fio2070_module_start(&mut module, id, per_block) } {
-            0 => Some(Module(module)),
-            _ => None,
-        }
-    }
-
-    /// Steps the counter by one millisecond, and samples each input; bit i of `raw` is input i.
-    pub fn scan(&mut self, raw: u64) {
-        unsafe { raw::fio2070_module_scan(&mut self.0, raw) }
-    }
-
-    /// The answer to a frame, written to the front of `out`; `None` where there is none.
-    pub fn receive<'a>(
-        &mut self,
-        octets: &[u8],
-        out: &'a mut [u8; LONGEST_FRAME],
-    ) -> Option<&'a [u8]> {
-        match unsafe {
-            raw::fio2070_module_receive(&mut self.0, octets.as_ptr(), octets.len(), out)
-        } {
-            0 => None,
-            count => out.get(..count),
-        }
-    }
-
-    /// How many entries wait for a poll.
-    pub fn waiting(&self) -> usize {
-        unsafe { raw::fio2070_module_waiting(&self.0) }
+        Module::sized(id, per_block)
     }
 }
 
-/// A field I/O module of which `CAPACITY` entries may wait.
-#[derive(Clone)]
-pub struct SizedModule<const CAPACITY: usize> {
-    raw: RawSizedModule,
-    ring: [[u8; 3]; CAPACITY],
-}
-
-impl<const CAPACITY: usize> SizedModule<CAPACITY> {
-    calls_of_state! {
-        raw,
-        restart: fio2070_sized_module_restart,
-        line_sync: fio2070_sized_module_line_sync,
-        raise: fio2070_sized_module_raise,
-        set_errors: fio2070_sized_module_set_errors,
-        outputs: fio2070_sized_module_outputs,
-        watchdog_ms: fio2070_sized_module_watchdog_ms,
-        counter: fio2070_sized_module_counter,
-        filtered: fio2070_sized_module_filtered,
-        raw: fio2070_sized_module_raw,
-        flags: fio2070_sized_module_flags,
-        errors: fio2070_sized_module_errors,
-    }
-
-    /// It answers `id` to command 60; its blocks have at most `per_block` entries. `None` where that is 0.
-    pub fn new(id: u8, per_block: u8) -> Option<Self> {
+impl<const WAITING: usize> Module<WAITING> {
+    /// It answers `id` to command 60; its blocks have at most `per_block` entries. `None` where that is 0, and
+    /// where `WAITING` is not 1 to 8,192.
+    pub fn sized(id: u8, per_block: u8) -> Option<Self> {
+        let limits = RawLimits {
+            waiting: u16::try_from(WAITING).ok()?,
+            per_block,
+            reserved: 0,
+        };
         let mut raw = RawSizedModule::default();
-        match unsafe { raw::fio2070_sized_module_start(&mut raw, id, per_block) } {
-            0 => Some(SizedModule {
+        match unsafe { raw::fio2070_sized_module_start(&mut raw, id, limits) } {
+            0 => Some(Module {
                 raw,
-                ring: [[0; 3]; CAPACITY],
+                ring: [[0; 3]; WAITING],
             }),
             _ => None,
         }
     }
 
+    /// Starts anew with the same id and limits; both error counts are 0.
+    pub fn restart(&mut self) {
+        unsafe { raw::fio2070_sized_module_restart(&mut self.raw) }
+    }
+
     /// Steps the counter by one millisecond, and samples each input; bit i of `raw` is input i.
     pub fn scan(&mut self, raw: u64) {
         unsafe {
-            raw::fio2070_sized_module_scan(&mut self.raw, self.ring.as_mut_ptr(), CAPACITY, raw)
+            raw::fio2070_sized_module_scan(&mut self.raw, self.ring.as_mut_ptr(), WAITING, raw)
         }
     }
 
-    /// The answer to a frame, written to the front of `out`; `None` where there is none.
+    /// LINESYNC goes from 0 to 1: a load of the counter that was asked for happens now.
+    pub fn line_sync(&mut self) {
+        unsafe { raw::fio2070_sized_module_line_sync(&mut self.raw) }
+    }
+
+    /// Sets the flags whose bits are one.
+    pub fn raise(&mut self, mask: u8) {
+        unsafe { raw::fio2070_sized_module_raise(&mut self.raw, mask) }
+    }
+
+    /// Sets the error counts that the answer 177 has from now on.
+    pub fn set_errors(&mut self, receive: u8, transmit: u8) {
+        unsafe { raw::fio2070_sized_module_set_errors(&mut self.raw, receive, transmit) }
+    }
+
+    /// Counts one more error in receiving; 255 stays 255.
+    pub fn count_receive_error(&mut self) {
+        unsafe { raw::fio2070_sized_module_count_receive_error(&mut self.raw) }
+    }
+
+    /// Counts one more error in transmitting; 255 stays 255.
+    pub fn count_transmit_error(&mut self) {
+        unsafe { raw::fio2070_sized_module_count_transmit_error(&mut self.raw) }
+    }
+
+    /// The answer to a frame, written to the front of `out`; `None` where there is none, and where the octets
+    /// spell no command.
     pub fn receive<'a>(
         &mut self,
         octets: &[u8],
@@ -461,10 +361,11 @@ impl<const CAPACITY: usize> SizedModule<CAPACITY> {
             raw::fio2070_sized_module_receive(
                 &mut self.raw,
                 self.ring.as_mut_ptr(),
-                CAPACITY,
+                WAITING,
                 octets.as_ptr(),
                 octets.len(),
-                out,
+                out.as_mut_ptr(),
+                LONGEST_FRAME,
             )
         } {
             0 => None,
@@ -472,8 +373,46 @@ impl<const CAPACITY: usize> SizedModule<CAPACITY> {
         }
     }
 
+    /// What the outputs are set to.
+    pub fn outputs(&self) -> Outputs {
+        unsafe { raw::fio2070_sized_module_outputs(&self.raw) }
+    }
+
+    /// The timeout of the watchdog in milliseconds, `None` before the first command 58.
+    pub fn watchdog_ms(&self) -> Option<u8> {
+        match unsafe { raw::fio2070_sized_module_watchdog_ms(&self.raw) } {
+            0 => None,
+            timeout => Some(timeout),
+        }
+    }
+
+    /// The milliseconds counted, modulo 2^32.
+    pub fn counter(&self) -> u32 {
+        unsafe { raw::fio2070_sized_module_counter(&self.raw) }
+    }
+
+    /// The filtered states, also of ignored inputs.
+    pub fn filtered(&self) -> u64 {
+        unsafe { raw::fio2070_sized_module_filtered(&self.raw) }
+    }
+
+    /// The levels of the last scan, all 1 before any.
+    pub fn raw(&self) -> u64 {
+        unsafe { raw::fio2070_sized_module_raw(&self.raw) }
+    }
+
+    /// The flags that are up.
+    pub fn flags(&self) -> u8 {
+        unsafe { raw::fio2070_sized_module_flags(&self.raw) }
+    }
+
+    /// The error counts that the answer 177 has.
+    pub fn errors(&self) -> ErrorCounts {
+        unsafe { raw::fio2070_sized_module_errors(&self.raw) }
+    }
+
     /// How many entries wait for a poll.
     pub fn waiting(&self) -> usize {
-        unsafe { raw::fio2070_sized_module_waiting(&self.raw, CAPACITY) }
+        unsafe { raw::fio2070_sized_module_waiting(&self.raw) }
     }
 }

@@ -34,7 +34,7 @@ pub use encode::{
     other_command, poll, raw_inputs, raw_inputs_answer, set_outputs, status, status_answer,
     watchdog, watchdog_answer,
 };
-pub use ends::{Checker, ContentChecker, Counter, Filters, Heard, Module, Poller, SizedModule};
+pub use ends::{Checker, ContentChecker, Counter, Filters, Heard, Module, Poller};
 pub use errors::ConfigurationError;
 pub use raw::{
     Answer, Breach, Command, ConfigurationItem, ContentBreach, Entry, ErrorCounts, Fault, Outputs,

@@ -161,6 +161,15 @@ pub struct ContentBreach {
     pub input: u8,
 }
 
+/// The limits of a module: the most entries that wait, 1 to 8,192, and the most of a block, 1 to 255.
+#[derive(Clone, Copy, Debug, PartialEq, Eq)]
+#[repr(C)]
+pub struct RawLimits {
+    pub waiting: u16,
+    pub per_block: u8,
+    pub reserved: u8,
+}
+
 /// Structs that the calls alone read, as words of 64 bits.
 macro_rules! opaque {
     ($($name:ident: $words:literal,)*) => {$(
@@ -179,7 +188,6 @@ macro_rules! opaque {
 opaque! {
     RawContentChecker: 146,
     RawFilters: 27,
-    RawModule: 514,
     RawSizedModule: 132,
 }
 
@@ -335,26 +343,6 @@ extern "C" {
         items: *const ConfigurationItem,
         items_count: usize,
     ) -> RawConfigured;
-    pub(crate) fn fio2070_module_start(device: &mut RawModule, id: u8, per_block: u8) -> u8;
-    pub(crate) fn fio2070_module_restart(device: &mut RawModule);
-    pub(crate) fn fio2070_module_scan(device: &mut RawModule, raw: u64);
-    pub(crate) fn fio2070_module_line_sync(device: &mut RawModule);
-    pub(crate) fn fio2070_module_raise(device: &mut RawModule, mask: u8);
-    pub(crate) fn fio2070_module_set_errors(device: &mut RawModule, receive: u8, transmit: u8);
-    pub(crate) fn fio2070_module_receive(
-        device: &mut RawModule,
-        octets: *const u8,
-        octets_count: usize,
-        out: &mut [u8; 773],
-    ) -> usize;
-    pub(crate) fn fio2070_module_flags(device: &RawModule) -> u8;
-    pub(crate) fn fio2070_module_errors(device: &RawModule) -> ErrorCounts;
-    pub(crate) fn fio2070_module_outputs(device: &RawModule) -> Outputs;
-    pub(crate) fn fio2070_module_watchdog_ms(device: &RawModule) -> u8;
-    pub(crate) fn fio2070_module_counter(device: &RawModule) -> u32;
-    pub(crate) fn fio2070_module_filtered(device: &RawModule) -> u64;
-    pub(crate) fn fio2070_module_raw(device: &RawModule) -> u64;
-    pub(crate) fn fio2070_module_waiting(device: &RawModule) -> usize;
     pub(crate) fn fio2070_poller_start(poller: &mut RawPoller, number: u8);
     pub(crate) fn fio2070_poller_poll(poller: &RawPoller, out: *mut u8, out_count: usize) -> usize;
     pub(crate) fn fio2070_poller_hear(
@@ -373,7 +361,7 @@ extern "C" {
     pub(crate) fn fio2070_sized_module_start(
         device: &mut RawSizedModule,
         id: u8,
-        per_block: u8,
+        limits: RawLimits,
     ) -> u8;
     pub(crate) fn fio2070_sized_module_restart(device: &mut RawSizedModule);
     pub(crate) fn fio2070_sized_module_scan(
@@ -389,13 +377,16 @@ extern "C" {
         receive: u8,
         transmit: u8,
     );
+    pub(crate) fn fio2070_sized_module_count_receive_error(device: &mut RawSizedModule);
+    pub(crate) fn fio2070_sized_module_count_transmit_error(device: &mut RawSizedModule);
     pub(crate) fn fio2070_sized_module_receive(
         device: &mut RawSizedModule,
         ring: *mut [u8; 3],
         ring_count: usize,
         octets: *const u8,
         octets_count: usize,
-        out: &mut [u8; 773],
+        out: *mut u8,
+        out_count: usize,
     ) -> usize;
     pub(crate) fn fio2070_sized_module_flags(device: &RawSizedModule) -> u8;
     pub(crate) fn fio2070_sized_module_errors(device: &RawSizedModule) -> ErrorCounts;
@@ -404,7 +395,7 @@ extern "C" {
     pub(crate) fn fio2070_sized_module_counter(device: &RawSizedModule) -> u32;
     pub(crate) fn fio2070_sized_module_filtered(device: &RawSizedModule) -> u64;
     pub(crate) fn fio2070_sized_module_raw(device: &RawSizedModule) -> u64;
-    pub(crate) fn fio2070_sized_module_waiting(device: &RawSizedModule, capacity: usize) -> usize;
+    pub(crate) fn fio2070_sized_module_waiting(device: &RawSizedModule) -> usize;
     pub(crate) fn fio2070_fault_text(fault: &Fault, text: *mut u8, text_count: usize) -> usize;
     pub(crate) fn fio2070_rule_text(rule: u8, text: *mut u8, text_count: usize) -> usize;
     pub(crate) fn fio2070_content_rule_text(rule: u8, text: *mut u8, text_count: usize) -> usize;

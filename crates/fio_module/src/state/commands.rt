@@ -8,6 +8,7 @@ ghost use Rattle.fio_message.specs.Answers.{SpellsAnswer};
 ghost use Rattle.fio_message.specs.declared.answers.Answer.TheVariants as answers;
 ghost use Rattle.fio_module.specs.Flags.{flags_of};
 ghost use Rattle.fio_module.specs.Life.{Commanded, Life, counter_of};
+ghost use Rattle.fio_module.specs.Replies.{longest_answer};
 ghost use Rattle.fio_module.specs.Settings.{Settings};
 ghost use Rattle.fio_module.specs.State.{IsAfter, Obeys, frame_if, reply_frame};
 
@@ -137,26 +138,8 @@ impl ModuleState {
         true
     }
 
-    /// Carries out command 49 as `obey` does, but that the answer has these error counts (TEES 2009,
-    /// answer 177): clears the flags whose bits are one, and writes those that are left.
-    pub fn tell_status(
-        &mut self,
-        clear: u8,
-        receive_errors: u8,
-        transmit_errors: u8,
-        frame: &mut Frame,
-    )
-        ensures { (settings : Settings) (ring : Buffer (List ℕ)) (life : Life)
-            → IsAfter settings self.old ring life
-            → IsAfter settings self.new ring (Commanded (commands.Status clear) ∷ life)
-            × SpellsAnswer (answers.Status (flags_of (Commanded (commands.Status clear) ∷ life))
-            receive_errors transmit_errors (counter_of life)) frame.new.items }
-    {
-        let answer = self.clear_flags(clear, receive_errors, transmit_errors);
-        write_short(&answer, frame);
-    }
-
-    /// Carries out command 49 as `tell_status` does, and returns the octets of the answer.
+    /// Carries out command 49 as `carry_out` does, but that the answer has these error counts (TEES 2009,
+    /// answer 177): clears the flags whose bits are one, and returns the octets of the answer.
     pub fn clear_flags(&mut self, clear: u8, receive_errors: u8, transmit_errors: u8) -> ShortAnswer
         ensures { (settings : Settings) (ring : Buffer (List ℕ)) (life : Life)
             → IsAfter settings self.old ring life
@@ -170,6 +153,14 @@ impl ModuleState {
             STATUS_ANSWER,
             &flags_and_counts(self.flags, receive_errors, transmit_errors, stamp),
         )
+    }
+
+    /// Returns how many octets the longest answer has that is ever given: a block with the most entries, or
+    /// inputs and a stamp.
+    pub fn longest_answer(&self) -> usize
+        ensures { result ≡ longest_answer self.now.per_block }
+    {
+        (8 + 3 * usize::from(self.per_block)).max(SHORT_OCTETS)
     }
 
     fn load_counter(&mut self, load: u32) -> ShortAnswer

@@ -39,9 +39,14 @@ static uint8_t number;
 /* ---- The cases ---- */
 
 static void scan(void) { fio2070_module_scan(&device, levels); }
-static void poll(void) { block_length = fio2070_module_receive(&device, frame, length, block); }
+static void poll(void) { block_length = fio2070_module_receive(&device, frame, length, block, sizeof block); }
 static void hear(void) { heard = fio2070_poller_hear(&poller, block, block_length, record, FIO2070_MOST_RECORD_ITEMS); }
-static void receive(void) { count = fio2070_module_receive(&device, frame, length, out); }
+static void receive(void) { count = fio2070_module_receive(&device, frame, length, out, sizeof out); }
+
+static void start(void) {
+    static const struct fio2070_limits limits = FIO2070_STANDARD_LIMITS;
+    count = fio2070_module_start(&device, 2, limits);
+}
 
 /* A module with open inputs and filters of 1, with all levels 1. */
 static void begin(void) {
@@ -51,7 +56,7 @@ static void begin(void) {
         items[place].leading = items[place].trailing = 1;
         items[place].ignore = 0;
     }
-    fio2070_module_start(&device, 2, FIO2070_MOST_ENTRIES);
+    start();
     length = fio2070_encode_configure_inputs(items, 64, frame, sizeof frame);
     receive();
     levels = ~(uint64_t)0;
@@ -100,10 +105,21 @@ static void count_polls(const char *poll_case, const char *again, const char *he
     spent = agains; say(again);
 }
 
+static void count_configurations(const char *what, size_t most) {
+    int time;
+    begin();
+    length = fio2070_encode_configure_inputs(items, most, frame, sizeof frame);
+    for (time = 0; time < TIMES; time++) {
+        from_here();
+        receive();
+        to_here();
+    }
+    say(what);
+}
+
 /* ---- The stack ---- */
 
 static void nothing(void) {}
-static void start(void) { fio2070_module_start(&device, 2, 255); }
 static void decode_command(void) { fault = fio2070_decode_command(frame, length, &command); }
 static void command_items(void) { count = fio2070_command_items(frame, length, items, FIO2070_MOST_ENTRIES); }
 static void configure(void) { count = fio2070_filters_configure(&filters, items, FIO2070_MOST_ENTRIES).kind; }
@@ -179,6 +195,8 @@ int main(void) {
     count_scans("module_scan, 64 inputs change", ~(uint64_t)0);
     count_polls("module_receive, poll, 20 entries", "module_receive, poll again, 20 entries", "poller_hear, 20 entries", 20);
     count_polls("module_receive, poll, 255 entries", "module_receive, poll again, 255 entries", "poller_hear, 255 entries", 255);
+    count_configurations("module_receive, 64 items", 64);
+    count_configurations("module_receive, 255 items", FIO2070_MOST_ENTRIES);
     count_stacks();
     return 0;
 }

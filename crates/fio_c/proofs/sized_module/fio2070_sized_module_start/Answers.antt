@@ -1,12 +1,17 @@
-use Rattle.std.proofs.Common.{refl, sym, ◌∙◌, ◌≡◌, ap, length}
-use Rattle.fio_module.specs.Limits.{Limits}
-use Rattle.fio_c.proofs.Started.{limits-made}
+use Rattle.std.proofs.Common.{ℕ, [], refl, sym, subst, take}
+use Rattle.std.proofs.lemmas.List.{length-take-le}
+use Rattle.fio_module.proofs.Names.{buffer}
+use Rattle.fio_module.specs.State.{IsAfter}
+use Rattle.fio_flat.specs.Module.{settings_of}
 use Rattle.fio_c.proofs.sized_module.fio2070_sized_module_start.Goals as goal
 
-pub returns-in-Some-clause-made : goal.returns-in-Some-clause-made
-returns-in-Some-clause-made c some slots =
-    let per_block : c.in-Some.limits.per_block ≡ c.args.per_block =
-    ap (λ (limits : Limits). limits.per_block) (limits-made _ _ c.in-Some.limits (sym c.in-Some.is ∙ c.new.ensures)) in record {
-      state = rw (c.new-in-Some-2.ensures.none slots) (rw per_block at (c.new-in-Some.ensures.life (length slots)));
+pub returns-clause-made : goal.returns-clause-made
+returns-clause-made c are slots room =
+    let most = c.args.limits.waiting in
+    record {
+      state = rw (c.new-2.ensures.none (take most slots)) (
+          subst (λ (n : ℕ). IsAfter (settings_of c.args.id c.args.limits) c.new.result (buffer [] n) [])
+          (sym (length-take-le most slots room)) (c.new.ensures.life most));
       errors = refl;
+      limit = refl;
     }
