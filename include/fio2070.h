@@ -11,7 +11,9 @@
  *    length is 0 it may be null (tested, not proved); any other pointer is not null.
  *  - What an argument with const points to is initialised. What a call writes need not be.
  *  - During a call no one else writes what an argument points to, and no one else reads what an
- *    argument without const points to. Such an argument overlaps no other.
+ *    argument without const points to. Such an argument overlaps no other. So threads may call at once, each with its
+ *    own structs. A firmware that scans in a timer interrupt makes each other call on the module, getters too, with
+ *    that interrupt held off.
  *  - The structs filters, counter, checker, content_checker, module and sized_module are written by the calls of
  *    this header alone, _start first, and so are the slots of a sized_module. Before _start they may hold any octets;
  *    _start sets each of those of a struct. They may be copied and moved by memcpy.
@@ -48,14 +50,7 @@
 #endif
 #endif
 
-/** In front of the calls whose result tells of a failure: gcc and clang warn where it is dropped. */
-#if defined(__GNUC__)
-#define FIO2070_MUST_USE __attribute__((warn_unused_result))
-#else
-#define FIO2070_MUST_USE
-#endif
-
-/** In front of the calls whose result tells of a failure: gcc and clang warn where it is dropped. */
+/** In front of the calls whose result says that something failed: gcc and clang warn if it is dropped. */
 #if defined(__GNUC__)
 #define FIO2070_MUST_USE __attribute__((warn_unused_result))
 #else
@@ -291,10 +286,12 @@ struct fio2070_fault fio2070_decode_answer(const uint8_t *octets, size_t length,
 /** Reads the module's millisecond counter in its answer to command 55: answer 183, in the own profile the octet 0 and the
  * stamp, 6 octets in all. The octet before the stamp, octets[1], is not looked at. After a fault `stamp` is unchanged. Any
  * other answer is an unknown type here. */
+FIO2070_MUST_USE
 struct fio2070_fault fio2070_read_outputs_answer(const uint8_t *octets, size_t length, uint32_t *stamp);
 
 /** Reads which module answered command 60: answer 188, in the own profile one octet, 2 octets in all. After a fault `id` is
  * unchanged. Any other answer is an unknown type here. */
+FIO2070_MUST_USE
 struct fio2070_fault fio2070_read_identification(const uint8_t *octets, size_t length, uint8_t *id);
 
 /** Writes the text that `fio2070 show` writes of a frame, with a line feed behind each line: the lines of the message,
@@ -438,6 +435,7 @@ size_t fio2070_poller_poll(const struct fio2070_poller *poller, uint8_t *out, si
  * the record is written to the front of `items`, a gap mark if F is set and then its entries in order,
  * and the number rises by one modulo 256. In all other cases nothing changes; a block with no room
  * can be heard again with more. 256 items are always enough. Of any block the number and the stamp are said. */
+FIO2070_MUST_USE
 struct fio2070_heard fio2070_poller_hear(struct fio2070_poller *poller, const uint8_t *octets, size_t length,
                                          struct fio2070_record_item *items, size_t room);
 
@@ -500,11 +498,11 @@ struct fio2070_checker {
     uint8_t reserved[7];
 };
 
-/** The first rule that a frame breaks, and what was due. */
+/** The first rule that a frame breaks, and what was due. Without a breach each field is 0. */
 struct fio2070_breach {
-    /** 0 for none, else the number of the rule: one of `FIO2070_RULE_READABLE` and those after it. */
+    /** FIO2070_RULE_NONE, or the rule. */
     uint8_t rule;
-    /** 1 where `due` and `got` are set: for advance and number, and for pair below a command. */
+    /** 1 if `due` and `got` are set: for advance and number, and for pair below a command. Else these three are 0. */
     uint8_t has_due;
     /** The number of the poll or the block answer, or the type of the answer, that was due. */
     uint8_t due;
@@ -517,13 +515,18 @@ struct fio2070_breach {
 FIO2070_MUST_USE
 size_t fio2070_rule_text(uint8_t rule, char *text, size_t room);
 
-/** Above the first frame. */
+/** Starts above the first frame. The rules assume a bus that repeats no frame, and delivers an answer before the CPU's next
+ * command or never; a module that was not restarted, with the standard limits; and a CPU's end that heard each block with
+ * room for it. Then no frame breaks one. */
 void fio2070_checker_start(struct fio2070_checker *checker);
-/** Takes a frame that the CPU's end sent: writes its breach, and returns the breach's rule. Below a breach the
- * checker goes on as one that starts at the next poll. */
+/** Takes a frame that the CPU's end sent: writes its breach, and returns the breach's rule. Below a breach the checker goes
+ * on as one that starts at the next poll, which is not the frame with the breach: until then no frame has a breach, even if
+ * it is unreadable. */
+FIO2070_MUST_USE
 uint8_t fio2070_checker_sent(struct fio2070_checker *checker, const uint8_t *octets, size_t length,
                              struct fio2070_breach *breach);
-/** Takes a frame that the CPU's end heard, likewise. */
+/** Takes a frame that the CPU's end heard; breaches are as for `fio2070_checker_sent`. */
+FIO2070_MUST_USE
 uint8_t fio2070_checker_heard(struct fio2070_checker *checker, const uint8_t *octets, size_t length,
                               struct fio2070_breach *breach);
 
@@ -566,9 +569,9 @@ struct fio2070_content_checker {
     uint8_t reserved[2];
 };
 
-/** The first entry of a block that breaks a rule on content. */
+/** The first entry of a block that breaks a rule on content. Without one each field is 0. */
 struct fio2070_content_breach {
-    /** 0 none; 1 order; 2 alternate; 3 apart. */
+    /** FIO2070_CONTENT_NONE, or the rule. */
     uint8_t rule;
     /** The index of the entry in its block, from 0. */
     uint8_t entry;
@@ -581,13 +584,17 @@ struct fio2070_content_breach {
 FIO2070_MUST_USE
 size_t fio2070_content_rule_text(uint8_t rule, char *text, size_t room);
 
-/** Above the first frame. */
+/** Starts above the first frame. Beside what `fio2070_checker_start` assumes, the rules assume that the frames begin with
+ * the start of both ends; that an entry waits for fewer than 65,536 scans; and that fewer than 2^31 scans lie between an
+ * entry and the next. */
 void fio2070_content_start(struct fio2070_content_checker *content);
 /** Takes a frame that the CPU's end sent: no entry is in it. */
 void fio2070_content_sent(struct fio2070_content_checker *content, const uint8_t *octets, size_t length);
 /** Takes a frame that the CPU's end heard: writes the first entry of its block that breaks a rule on content, and returns
- * the number of the rule, 0 where none does. All entries of the block are taken, below a breach too. Blocks are judged
- * that a poller takes whose first number is that of the first poll sent, each once. */
+ * the number of the rule, 0 if none does. All entries of the block are taken, below a breach too. Blocks are judged
+ * that a poller takes whose first number is that of the first poll sent, each once. After a frame that breaks a rule of
+ * `fio2070_checker` the result is not promised. */
+FIO2070_MUST_USE
 uint8_t fio2070_content_heard(struct fio2070_content_checker *content, const uint8_t *octets, size_t length,
                               struct fio2070_content_breach *breach);
 
@@ -629,7 +636,7 @@ enum fio2070_configured_kind {
     FIO2070_CONFIGURED_TOO_MANY_ITEMS = 2  /**< more than 255 */
 };
 
-/** What became of a configuration, and where. */
+/** What became of a configuration, and where. Of more than 255 items, one of which names an input above 63, it is kind 2. */
 struct fio2070_configured {
     /** 0 applied; 1 an item names an input above 63; 2 more than 255 items. */
     uint8_t kind;
@@ -756,12 +763,6 @@ struct fio2070_sized_module {
     uint8_t reserved[16];
 };
 
-/** What a call that starts a module returns. */
-enum fio2070_start_kind {
-    FIO2070_STARTED = 0,
-    FIO2070_REFUSED = 1 /**< the limits are out of their ranges, and nothing changed */
-};
-
 /** Starts a module that answers `id` to command 60, with these limits. Returns FIO2070_STARTED; where `waiting` is not 1 to
  * 8,192, or `per_block` is 0, FIO2070_REFUSED, and then nothing changes: the struct is not started. */
 FIO2070_MUST_USE
@@ -785,8 +786,8 @@ void fio2070_sized_module_count_receive_error(struct fio2070_sized_module *modul
 /** Counts one more error in transmitting; 255 stays 255 (own profile). */
 void fio2070_sized_module_count_transmit_error(struct fio2070_sized_module *module);
 /** Carries out the command that the octets spell, writes the answer to the front of `out`, and returns how many octets it
- * has. 0 for a command without an answer: 56, 57 and 59, which change nothing (own profile). FIO2070_NO_MESSAGE where the
- * octets spell no command, and then nothing changes.
+ * has, 2 to 773. 0 for a command without an answer: 56, 57 and 59, which change nothing (own profile). FIO2070_NO_MESSAGE
+ * if the octets spell no command, and then nothing changes.
  *
  * `room` is to be enough for the longest answer of this module, the larger of 13 and 8 + 3 * per_block octets: where it is
  * less nothing changes, and that number is returned. */
