@@ -500,9 +500,9 @@ struct fio2070_checker {
 
 /** The first rule that a frame breaks, and what was due. Without a breach each field is 0. */
 struct fio2070_breach {
-    /** FIO2070_RULE_NONE, or the rule. */
+    /** 0 for none, else the number of the rule: one of `FIO2070_RULE_READABLE` and those after it. */
     uint8_t rule;
-    /** 1 if `due` and `got` are set: for advance and number, and for pair below a command. Else these three are 0. */
+    /** 1 where `due` and `got` are set: for advance and number, and for pair below a command. */
     uint8_t has_due;
     /** The number of the poll or the block answer, or the type of the answer, that was due. */
     uint8_t due;
@@ -571,7 +571,7 @@ struct fio2070_content_checker {
 
 /** The first entry of a block that breaks a rule on content. Without one each field is 0. */
 struct fio2070_content_breach {
-    /** FIO2070_CONTENT_NONE, or the rule. */
+    /** 0 none; 1 order; 2 alternate; 3 apart. */
     uint8_t rule;
     /** The index of the entry in its block, from 0. */
     uint8_t entry;
