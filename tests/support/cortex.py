@@ -14,7 +14,7 @@ FLAGS = ['-std=c99', '-mcpu=cortex-m4', '-mthumb', '-ffunction-sections', '-fdat
 COMPILER, QEMU = 'arm-none-eabi-gcc', 'qemu-system-arm'
 # The parts of the library, each with the names of its calls; `all` has every call of the header.
 PARTS = {'module': r'sized_module_', 'poller': r'poller_',
-         'codec': r'(en|de)code_|command_items|read_block|block_entries|widen|_text', 'all': ''}
+         'codec': r'(en|de)code_|command_items|read_block|block_entries|widen|fault_text', 'all': ''}
 
 
 class Failed(Exception):
