@@ -1,6 +1,7 @@
 // The calls of fio2070.h for C++17: values that are always started, views of octets, optional results.
-// Header only; link libfio2070.a. Ranges, errors and sources are those of fio2070.h. Nothing here
-// throws but Read::value() and what a std::vector throws where memory runs out.
+// Header only; link libfio2070.a, or compile the portable fio2070.c, beside which `make portable` puts this header. Ranges,
+// errors and sources are those of fio2070.h. Nothing here throws but Read::value() and what a std::vector throws where
+// memory runs out.
 #ifndef FIO2070_HPP
 #define FIO2070_HPP
 

@@ -101,15 +101,22 @@ alone() {
     nm -g "$1" >names && ! awk '$1 == "U" { print $2 }' names | sort -u | grep -Ev '^mem(cpy|move|set)$'
 }
 
-# prefixed LIBRARY: the shared library exports what the header declares and the tester's calls for languages that load it.
-prefixed() {
-    nm -D --defined-only "$1" >names && awk '{ print $3 }' names | grep -v '^fio2070_tester_' | sort | diff exported -
+# declared: the functions that the header declares.
+declared() {
+    grep -v '^static\|^#' "$top/include/fio2070.h" | grep -o 'fio2070_[a-z0-9_]*(' | tr -d '(' | sort -u
 }
 
-# exports ARCHIVE: it has exactly the functions that the header declares.
+# prefixed LIBRARY: the shared library exports these, and the calls of the tester for languages that load it, whose names
+# begin likewise.
+prefixed() {
+    declared >calls
+    nm -D --defined-only "$1" >names && awk '{ print $3 }' names | grep -v '^fio2070_tester_' | sort | diff calls -
+}
+
+# exports ARCHIVE: it has exactly these functions.
 exports() {
     nm -g "$1" | awk '$2 == "T" { print $3 }' | sort >exported
-    grep -v '^static\|^#' "$top/include/fio2070.h" | grep -o 'fio2070_[a-z0-9_]*(' | tr -d '(' | sort -u | diff exported -
+    declared | diff exported -
 }
 
 # fits COMPILER: with it the structs have the layout of the library, as the header asserts.

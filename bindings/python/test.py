@@ -161,6 +161,18 @@ class Ends(unittest.TestCase):
             with self.subTest(type(module).__name__):
                 self.answer_a_poller(module)
 
+    def test_first_number(self):
+        # The module's last poll was for block 5: who asks for it anew records its entry again, who goes on does not.
+        module, first = fio2070.Module(), fio2070.Poller(5)
+        module.receive(encode.configure_inputs([ConfigurationItem(12, False, 1, 1)]))
+        module.scan(2**64 - 1 - 2**12)
+        first.hear(module.receive(first.poll()))
+        anew, on = fio2070.Poller(5), fio2070.Poller(first.number)
+        self.assertEqual(anew.hear(module.receive(anew.poll())).status, fio2070.constants.BIT_AGAIN)
+        self.assertEqual((anew.record, len(anew.record)), (first.record, 1))
+        self.assertEqual(on.hear(module.receive(on.poll())).status, 0)
+        self.assertEqual(on.record, [])
+
     def test_sized_module(self):
         # Four transitions of inputs 0 and 1 where three may wait: the first is pushed out.
         module = fio2070.SizedModule(3)

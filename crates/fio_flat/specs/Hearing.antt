@@ -66,10 +66,10 @@ pub record Gain (before : MutBor (List RecordItem)) (items : List Item)
   pub room : length items ≤ length before.now
   pub written : after.now ≡ map flat_record_item items ++ drop (length items) before.now
 
--- A poller with this number hears what this block spells, or what spells none: what it adds to its record is
--- written to the front of the caller's items, and its number is the next if the block was taken. Where there
--- is no room for all of what it adds, that is heard, and nothing changes. Of any block the number and the
--- stamp are said.
+-- A poller with this number hears octets of which it reports this, and which spell this block, or none: what
+-- they add to its record is written to the front of the caller's items, and its number is the next if a block
+-- was taken. Where there is no room for all that they add, that is heard, and nothing changes. Of any block
+-- the number and the stamp are said.
 pub record HearsAs (number : ℕ) (what : HeardOf) (found : Option BlockOf) (before after : List RecordItem)
     (next : ℕ) (heard : Heard) : Type 0 where
   pub room :
@@ -83,7 +83,7 @@ pub record HearsAs (number : ℕ) (what : HeardOf) (found : Option BlockOf) (bef
       length before < count →
       (heard ≡ with_block found (heard_no_room count)) × (next ≡ number) × (after ≡ before)
 
--- the same of octets
+-- A poller with this number hears these octets.
 abbrev pub Hears : ℕ → List ℕ → List RecordItem → List RecordItem → ℕ → Heard → Type 0
 Hears number octets before after next heard =
     HearsAs number (heard_as number (decoded_answer octets)) (block_in octets) before after next heard
