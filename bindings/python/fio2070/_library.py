@@ -5,7 +5,7 @@ import os
 from ctypes import POINTER, c_char_p, c_size_t, c_uint8, c_uint16, c_uint32, c_uint64
 from typing import Any
 
-from .constants import LONGEST_FAULT_TEXT, LONGEST_FRAME, MOST_ENTRIES, MOST_RECORD_ITEMS
+from .constants import LONGEST_FAULT_TEXT, LONGEST_FRAME, MOST_ENTRIES, MOST_RECORD_ITEMS, MOST_WAITING, STANDARD_WAITING
 
 
 def _load() -> ctypes.CDLL:
