@@ -52,6 +52,10 @@ CONFIGURED_APPLIED = 0
 CONFIGURED_ABSENT_INPUT = 1
 CONFIGURED_TOO_MANY_ITEMS = 2
 
+# What a start of a module returns.
+STARTED = 0
+REFUSED = 1
+
 # Rules of transcripts.
 RULE_READABLE = 1
 RULE_PAIR = 2

@@ -52,6 +52,10 @@ pub const CONFIGURED_APPLIED: u8 = 0;
 pub const CONFIGURED_ABSENT_INPUT: u8 = 1;
 pub const CONFIGURED_TOO_MANY_ITEMS: u8 = 2;
 
+// What a start of a module returns.
+pub const STARTED: u8 = 0;
+pub const REFUSED: u8 = 1;
+
 // Rules of transcripts.
 pub const RULE_READABLE: u8 = 1;
 pub const RULE_PAIR: u8 = 2;

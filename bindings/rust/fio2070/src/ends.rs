@@ -1,10 +1,10 @@
 //! Both ends of the link, and the filters.
 
+use crate::constants::STANDARD_WAITING;
 use crate::raw::{
     self, Breach, ConfigurationItem, ContentBreach, ErrorCounts, Fault, Outputs, RawChecker,
     RawContentChecker, RawCounter, RawFilters, RawLimits, RawPoller, RawSizedModule, RecordItem,
 };
-use crate::constants::STANDARD_WAITING;
 use crate::LONGEST_FRAME;
 
 // SAFETY of the calls below: slices are given with their lengths, all memory is initialised and,
