@@ -157,8 +157,8 @@ class Messages(unittest.TestCase):
 
 class Ends(unittest.TestCase):
     def test_module_and_poller(self):
-        for module in [fio2070.Module(id=2), fio2070.SizedModule(1, id=2)]:
-            with self.subTest(type(module).__name__):
+        for module in [fio2070.Module(id=2), fio2070.Module(id=2, waiting=1)]:
+            with self.subTest(module):
                 self.answer_a_poller(module)
 
     def test_first_number(self):
@@ -173,16 +173,21 @@ class Ends(unittest.TestCase):
         self.assertEqual(on.hear(module.receive(on.poll())).status, 0)
         self.assertEqual(on.record, [])
 
-    def test_sized_module(self):
+    def test_waiting(self):
         # Four transitions of inputs 0 and 1 where three may wait: the first is pushed out.
-        module = fio2070.SizedModule(3)
+        module = fio2070.Module(waiting=3)
         module.receive(encode.configure_inputs([ConfigurationItem(input, False, 1, 1) for input in (0, 1)]))
         module.scan(2**64 - 4)
         module.scan(2**64 - 1)
         self.assertEqual(module.waiting, 3)
         self.assertEqual(module.receive(encode.poll(7)).hex(), 'b607030100018000028100020400000002')
-        self.assertEqual(fio2070.SizedModule(0).receive(encode.poll(7)).hex(), 'b607000000000000')
-        self.assertRaises(ValueError, fio2070.SizedModule, -1)
+        for waiting in (-1, 0, 8193):
+            self.assertRaises(ValueError, fio2070.Module, waiting=waiting)
+        self.assertEqual(fio2070.Module(waiting=8192).waiting, 0)
+        self.assertIsNone(module.receive(b'\6'))
+        module.count_receive_error()
+        module.count_transmit_error()
+        self.assertEqual(module.errors, (1, 1))
 
     def answer_a_poller(self, module):
         poller = fio2070.Poller(5)

@@ -10,7 +10,9 @@ from .constants import LONGEST_FRAME as LONGEST_FRAME
 from .constants import LONGEST_TEXT as LONGEST_TEXT
 from .constants import MOST_ENTRIES as MOST_ENTRIES
 from .constants import MOST_RECORD_ITEMS as MOST_RECORD_ITEMS
+from .constants import MOST_WAITING as MOST_WAITING
 from .constants import NO_MESSAGE as NO_MESSAGE
+from .constants import STANDARD_WAITING as STANDARD_WAITING
 
 
 def _load() -> ctypes.CDLL:

@@ -38,3 +38,7 @@ pub record AreFiltersAfter (filters : Filters) (history : List FilterEvent) : Ty
   pub raw : filters.raw ≡ raw_levels history
   pub inputs : (input : ℕ) → input < INPUTS
       → KeepsInput filters input (input_setting input history) (input_samples input history) (input_state input history)
+
+-- the filters but that these inputs are ignored
+abbrev pub with_ignored : Filters → ℕ → Filters
+with_ignored filters ignored = record filters { ignored = ignored }

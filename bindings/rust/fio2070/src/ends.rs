@@ -2,13 +2,13 @@
 
 use crate::constants::LONGEST_TEXT;
 use crate::errors::ConfigurationError;
+use crate::constants::STANDARD_WAITING;
 use crate::raw::{
     self, Breach, ConfigurationItem, ContentBreach, ErrorCounts, Fault, Outputs, RawChecker,
     RawContentChecker, RawCounter, RawFilters, RawHeard, RawLimits, RawPoller, RawSizedModule,
     RecordItem,
 };
 use crate::written::{text, Unwritten};
-use crate::constants::STANDARD_WAITING;
 use crate::LONGEST_FRAME;
 use core::fmt;
 

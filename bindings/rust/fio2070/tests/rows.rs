@@ -246,8 +246,9 @@ fn codes_have_words() {
 /// Four transitions of inputs 0 and 1 where three may wait: the first is pushed out.
 #[test]
 fn a_sized_module_keeps_the_latest_entries() {
-    assert!(SizedModule::<3>::new(2, 0).is_none());
-    let mut module = SizedModule::<3>::new(2, 255).unwrap();
+    assert!(Module::<3>::sized(2, 0).is_none() && Module::<0>::sized(2, 255).is_none());
+    assert!(Module::<8193>::sized(2, 255).is_none() && Module::<8192>::sized(2, 255).is_some());
+    let mut module = Module::<3>::sized(2, 255).unwrap();
     let mut out = [0; LONGEST_FRAME];
     let configuration = [0x33, 2, 0, 1, 1, 1, 1, 1];
     assert_eq!(
@@ -281,8 +282,9 @@ fn a_sized_module_keeps_the_latest_entries() {
     moved.receive(&[0x32, 0, 0, 0, 9], &mut out);
     moved.line_sync();
     assert_eq!(moved.counter(), 9);
-    let mut none = SizedModule::<0>::new(2, 255).unwrap();
-    assert_eq!(none.receive(&[0x3c], &mut out), Some(&[0xbc, 2][..]));
+    moved.count_receive_error();
+    moved.count_transmit_error();
+    assert_eq!((moved.errors().receive, moved.errors().transmit), (4, 5));
 }
 
 #[test]
@@ -296,6 +298,7 @@ fn a_poller_polls_a_module() {
     let mut poller = Poller::new(5);
     assert_eq!(module.receive(&[60], &mut out), Some(&[188, 2][..]));
     assert_eq!(module.receive(&[56], &mut out), None);
+    assert_eq!(module.receive(&[6], &mut out), None);
     assert_eq!(
         module.receive(&[51, 1, 12, 1, 1], &mut out),
         Some(&[179, 0][..])

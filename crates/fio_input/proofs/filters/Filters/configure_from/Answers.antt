@@ -1,4 +1,5 @@
 use Rattle.fio_input.proofs.Names.{◌∷◌, [], take, sym, ◌∙◌, refl, subst, arith, take_more, take_all, Configure, AreFiltersAfter}
+use Rattle.fio_input.specs.Filters.{with_ignored}
 use Rattle.fio_input.proofs.Configured.{AreFiltersAfter-unapplied}
 use Rattle.fio_input.proofs.Present.{all_present-none, all_present-some, all_present-take, all_present-at, applied_items-some}
 use Rattle.fio_input.proofs.filters.Filters.configure_from.Goals as goal
@@ -22,7 +23,7 @@ loop-place-preserved g c history s =
 
 pub returns-clause-carried : goal.returns-clause-carried
 returns-clause-carried g c history s =
-    subst (λ front. AreFiltersAfter c.loop-place.self (Configure front ∷ history))
+    subst (λ front. AreFiltersAfter (with_ignored c.loop-place.self c.loop-place.ignored) (Configure front ∷ history))
     (take_all c.loop-place.place (g.C.Configuration.items c.args.items.now) (omega arith)) (c.loop-place.invariant history s)
 
 pub returns-clause-ok : goal.returns-clause-ok
