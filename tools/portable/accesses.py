@@ -46,7 +46,7 @@ class Tested(NamedTuple):
 
 
 def span(these):
-    """Where accesses with one base begin, how many octets they have, and whether one writes."""
+    """Returns where accesses with one base begin, how many octets they have, and whether one writes."""
     start, end = min(it.start() for it in these), max(it.start() + it.size for it in these)
     return start, end - start, any(it.writes for it in these)
 
@@ -61,13 +61,13 @@ class Accesses:
         self.locals, self.objects = {}, {}
 
     def fresh(self, local=None):
-        """A number of which nothing is known, or no more than that it is in this local."""
+        """Returns a number of which nothing is known, or no more than that it is in this local."""
         self.bases += 1
         self.locals[self.bases] = local
         return Place(self.bases, 0)
 
     def named(self, place, local):
-        """A number is put into a local."""
+        """Puts a number into a local."""
         if place.base != NOTHING and self.locals[place.base] is None:
             self.locals[place.base] = local
 
@@ -86,13 +86,13 @@ class Accesses:
         return self.names()[-1]
 
     def add(self, line, address, place, size, writes, depth, offset, is_repeated):
-        """A further access. Returns the mark that its line has for the pointer."""
+        """Adds an access. Returns the mark that its line has for the pointer."""
         mark = '@%d@' % len(self.waiting)
         self.waiting.append(Access(line, mark, address, place, size, writes, depth, offset, is_repeated))
         return mark
 
     def frame(self, place, size, depth):
-        """The function's frame, of which all octets are tested at once. Returns the pointer."""
+        """Tests all octets of the function's frame at once. Returns the pointer."""
         self.tested.append(Tested(place.base, place.distance, place.distance + size, True, self.pointer(), depth))
         return self.tested[-1].pointer
 
@@ -143,12 +143,12 @@ class Accesses:
         return found
 
     def object_of(self, first, size, writes):
-        """The variable for the object that a loop's accesses were in, whose bounds are then at hand for the next ones.
+        """Returns the variable for the object that a loop's accesses were in, whose bounds are then at hand for the next ones.
         It is no more than a guess that those from one local are in one object: a miss is looked up."""
         return self.objects.setdefault((self.locals.get(first.place.base), size, writes), 'n%d' % (len(self.objects) + 1))
 
     def leave(self, depth, is_joined):
-        """A block ends that is open at this depth. Where its end is reached by branches too, what was tested in it is
+        """Ends a block that is open at this depth. Where its end is reached by branches too, what was tested in it is
         not tested there."""
         if is_joined:
             self.tested = [it for it in self.tested if it.depth < depth]

@@ -8,7 +8,7 @@ ONE_NUMBER = (0x0C, 0x0D, 0x10, 0x20, 0x21, 0x22, 0x23, 0x24)
 
 
 def assigned_in(it):
-    """The locals that a loop sets, read ahead to its end."""
+    """Returns the locals that a loop sets, read ahead to its end."""
     ahead, depth, found = Octets(it.octets, it.place), 0, set()
     while depth >= 0:
         op = ahead.octet()

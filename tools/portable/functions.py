@@ -62,11 +62,11 @@ class Function:
                             'assigned': set(), 'places': list(self.places), 'bases': self.accesses.bases})
 
     def settle(self):
-        """What follows is not always done after what stands here."""
+        """Settles the accesses: what follows is not always done after what is here."""
         self.accesses.settle(self.lines)
 
     def forget(self, assigned):
-        """These locals may have other numbers than those known."""
+        """Forgets what is known of these locals."""
         for index in assigned:
             self.places[index] = self.accesses.fresh(index)
 
@@ -81,7 +81,7 @@ class Function:
         return 'goto l%d;' % block['label']
 
     def move(self, block):
-        """The results of a block go to the variables that they have behind it."""
+        """Moves the results of a block to the variables that they have after it."""
         if block['kind'] == 'function':
             if self.gives:
                 self.say('r = %s;' % self.stack[-1][1])
@@ -186,7 +186,7 @@ class Function:
         return STEPS[op](self, op, it) is not False
 
     def comparison(self, op, places):
-        """What is known of a number that this instruction makes of others."""
+        """Returns what is known of a number that this instruction makes of others."""
         if op == IS_ZERO_32 and isinstance(places[0], Comparison):
             return places[0].opposite()
         if op == IS_ZERO_64:
@@ -194,7 +194,7 @@ class Function:
         return Comparison(*places, False) if op == IS_OTHER_64 else None
 
     def sum(self, op):
-        """A sum or a difference of 64 bits, of which more is known than that it is a number. What is taken from the stack
+        """Returns a sum or a difference of 64 bits, of which more is known than that it is a number. What the stack gives
         pointer is the size of the function's frame."""
         (second, other), (first, one) = self.pop_entry(I64), self.pop_entry(I64)
         place = None
@@ -211,7 +211,7 @@ class Function:
         return True
 
     def access(self, address, place, size, offset, writes):
-        """The mark of a pointer to these octets, which the next line has."""
+        """Returns the mark of a pointer to these octets, which the next line has."""
         moves = place.base > max([it['bases'] for it in self.blocks if it['kind'] == 'loop'], default=place.base)
         return self.accesses.add(len(self.lines), address, place, size, writes, len(self.blocks), offset, moves)
 
@@ -249,7 +249,7 @@ class Function:
         self.say('l%d:;' % self.labels)
 
     def end_turn(self, condition):
-        """The end of a straight loop, which goes on where this holds. Returns what moves pointers on."""
+        """Ends a straight loop, which goes on where this holds. Returns what moves pointers on."""
         loop = self.blocks[-1].get('loop')
         if not loop:
             return []
@@ -312,7 +312,7 @@ class Function:
         self.push(self.locals[index], 'v%d' % index, self.places[index])
 
     def put(self, index, name, place):
-        """A number is put into a local."""
+        """Puts a number into a local."""
         self.places[index] = place if isinstance(place, Place) else self.accesses.fresh()
         self.accesses.named(self.places[index], index)
         self.blocks[-1]['assigned'].add(index)

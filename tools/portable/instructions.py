@@ -17,7 +17,7 @@ UNARY = {'clz': 'leading{n}({0})', 'ctz': 'trailing{n}({0})', 'popcnt': 'ones{n}
 
 
 def table():
-    """Numeric instructions: opcode -> (C, operand types, result type)."""
+    """Returns the numeric instructions: opcode -> (C, operand types, result type)."""
     found = {}
     compares = ['eqz', 'eq', 'ne', 'lt_s', 'lt_u', 'gt_s', 'gt_u', 'le_s', 'le_u', 'ge_s', 'ge_u']
     others = ['clz', 'ctz', 'popcnt', 'add', 'sub', 'mul', 'div_s', 'div_u', 'rem_s', 'rem_u', 'and', 'or', 'xor',

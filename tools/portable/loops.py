@@ -24,7 +24,7 @@ class Comparison(NamedTuple):
 
 
 def is_straight(it):
-    """The loop that begins here ends in a branch to its beginning, and has no other branch and no call."""
+    """Returns whether the loop that begins here ends in a branch to its beginning, and has no other branch and no call."""
     ahead = Octets(it.octets, it.place)
     while True:
         op = ahead.octet()
@@ -51,11 +51,11 @@ class Loop:
                 self.steps[place.base] = places[index].distance - place.distance
 
     def name_of(self, base):
-        """What is added to the number in a local to come to this base, and the local."""
+        """Returns what is added to the number in a local to come to this base, and the local."""
         return next((('v%d' % index, place.distance) for index, place in enumerate(self.places) if place.base == base), None)
 
     def turns(self, condition):
-        """How many turns there are, in C, where the loop goes on as long as this holds; nothing if that is not known."""
+        """Returns how many turns there are, in C, if the loop goes on as long as this holds; nothing if that is not known."""
         if not isinstance(condition, Comparison) or condition.is_same:
             return None
         for moved, end in ((condition.one, condition.other), (condition.other, condition.one)):
@@ -71,7 +71,7 @@ class Loop:
         return next(place for place in self.places if place.base == base)
 
     def text_of(self, place):
-        """A number that no turn changes."""
+        """Returns a number that no turn changes."""
         if place.base == NOTHING:
             return 'UINT64_C(%d)' % (place.distance % 2 ** 64)
         same = [index for index, it in enumerate(self.places) if it == place and index not in self.assigned]

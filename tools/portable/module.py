@@ -39,7 +39,7 @@ class Octets:
 
 
 def c_name(name):
-    """A name of the module as one of C: without paths and marks."""
+    """Returns a name of the module as one of C: without paths and marks."""
     name = name.replace('rattle::export fio2070_', 'proved_')
     return re.sub(r'\W+', '_', re.sub(r'<#\w+>', '', name)).strip('_')
 
@@ -116,7 +116,7 @@ class Module:
         self.data = (address, it.take(it.number()))
 
     def name_of(self, index):
-        """The name of a function in C. An export has its own, behind `enter_`."""
+        """Returns the name of a function in C. An export has its own, behind `enter_`."""
         if index not in self.c_names:
             name = c_name(self.names.get(index, 'function'))
             if name.startswith('fio2070_'):

@@ -1,7 +1,7 @@
 //! Modules that are made.
 use crate::answers::Answer;
 use fio_message::{Frame, Memory};
-use fio_module::{Limits, Module};
+use fio_module::{Limits, MOST_WAITING, Module};
 use std::alloc::Global;
 
 /// A module with an identification.
@@ -11,7 +11,7 @@ pub(crate) fn new(alloc: Global) -> Answer {
 
 /// Like the one above, with other limits.
 pub(crate) fn with_limits(alloc: Global) -> Answer {
-    let Some(limits) = Limits::new(1, 8192) else {
+    let Some(limits) = Limits::new(1, MOST_WAITING) else {
         return Answer::Wrong;
     };
     made(Module::with_limits(alloc, 2, limits))

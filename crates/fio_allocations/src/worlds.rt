@@ -3,7 +3,7 @@ use crate::answers::Answer;
 use crate::samples::Sample;
 use fio_cpu::Heard;
 use fio_message::{Command, Memory};
-use fio_module::{Limits, Module};
+use fio_module::{Limits, MOST_WAITING, Module};
 use fio_world::{Event, Outcome, RunError, Script, World, WorldError, read_script};
 use std::alloc::Global;
 
@@ -14,7 +14,7 @@ pub(crate) fn new(alloc: Global) -> Answer {
 
 /// Like the one above, with other limits.
 pub(crate) fn with_limits(alloc: Global) -> Answer {
-    let Some(limits) = Limits::new(1, 8192) else {
+    let Some(limits) = Limits::new(1, MOST_WAITING) else {
         return Answer::Wrong;
     };
     made(World::with_limits(alloc, 2, 255, limits))

@@ -8,17 +8,21 @@ end_within-if true len blocks block before within = rw last_end-append within
 end_within-if false len blocks block before within = before
 
 -- the newest block ends within the transition log
-pub blocks_end_within : BlocksEndWithin
-blocks_end_within settings [] = omega arith
-blocks_end_within settings (Commanded (Poll number) ∷ life) =
-    let before = blocks_end_within settings life in
+pub newest_end_within : (settings : Settings) (life : Life) → newest_end settings life ≤ length (log_of life)
+newest_end_within settings [] = omega arith
+newest_end_within settings (Commanded (Poll number) ∷ life) =
+    let before = newest_end_within settings life in
     end_within-if (is_new (newest_poll life) number) (length (log_of life)) (blocks_of settings life)
     (next_block settings life) before
     (end-within (newest_end settings life) (length (log_of life)) settings.waiting settings.per_block before)
-blocks_end_within settings (Scanned raw ∷ life) =
-    let before = blocks_end_within settings life in
+newest_end_within settings (Scanned raw ∷ life) =
+    let before = newest_end_within settings life in
     omega (arith, length-append (log_of life) (transitions_below 64 raw life))
-blocks_end_within settings (other ∷ life) = blocks_end_within settings life
+newest_end_within settings (other ∷ life) = newest_end_within settings life
+
+-- the law of it
+pub blocks_end_within : BlocksEndWithin
+blocks_end_within = newest_end_within
 
 -- a part of a log is a part of a longer one
 part-longer : (log more : List Transition) (per_block : ℕ) (block : MadeBlock)
@@ -64,7 +68,7 @@ pub next_is_part : (settings : Settings) (life : Life)
     → IsPartOf (log_of life) settings.per_block (next_block settings life)
 next_is_part settings life =
     let log = log_of life in
-    let within = blocks_end_within settings life in
+    let within = newest_end_within settings life in
     let start = start_after settings log (newest_end settings life) in
     let count = count_from settings log start in
     let size : start + count - start ≡ count = omega arith in
@@ -106,4 +110,4 @@ pub blocks_without_more_take_all : (settings : Settings) (life : Life) → (next
     → (next_block settings life).end ≡ length (log_of life)
 blocks_without_more_take_all settings life fits =
     takes_rest (newest_end settings life) (length (log_of life)) settings.waiting settings.per_block
-    (blocks_end_within settings life) fits
+    (newest_end_within settings life) fits

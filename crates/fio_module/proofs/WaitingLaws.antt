@@ -1,7 +1,7 @@
 -- What waits gains each new transition, and gives its first to a new poll.
 use Rattle.fio_module.proofs.Names.{◌≡◌, ℕ, suc, inl, inr, ◌+◌, ◌-◌, ◌≤◌, Bool, List, [], ◌∷◌, ◌++◌, length, take, drop, refl, ap, sym, ◌∙◌, arith, append_assoc, append-nil, length-append, if◌then◌else◌, fold, take-append-drop, drop-drop, drop-append-le, length-drop, leb_tells, Poll, Settings, Scanned, Commanded, Transition, log_of, transitions_below, blocks_of, newest_end, next_block, start_after, count_from, with_waiting, ScansAddWaiting, NewPollsTakeWaiting, OthersLeaveWaiting}
 use Rattle.fio_module.proofs.Ends.{last_end-append, end-later}
-use Rattle.fio_module.proofs.BlockLaws.{blocks_end_within}
+use Rattle.fio_module.proofs.BlockLaws.{newest_end_within}
 
 -- one more transition in the log
 add_one : (settings : Settings) (log : List Transition) (before : ℕ) (transition : Transition) → before ≤ length log
@@ -40,7 +40,7 @@ add_all settings before log (transition ∷ more) within =
 pub scans_add_waiting : ScansAddWaiting
 scans_add_waiting settings life raw =
     add_all settings (newest_end settings life) (log_of life) (transitions_below 64 raw life)
-    (blocks_end_within settings life)
+    (newest_end_within settings life)
 
 -- a new poll takes the first of what waits
 pub new_polls_take_waiting : NewPollsTakeWaiting

@@ -13,7 +13,7 @@ use std::marker::Model;
 const ENDING: usize = 64;
 
 /// Room for the line of an entry. All of it is copied: a constant length needs no call to `memcpy`.
-pub const ENTRY_OCTETS: usize = 64;
+pub(crate) const ENTRY_OCTETS: usize = 64;
 
 /// Room for an ending, which has at most 29 octets.
 const ENDING_ROOM: usize = 32;
@@ -25,7 +25,7 @@ pub(crate) const STATE_OCTETS: usize = ENDING_ROOM;
 /// ending of a line, ` stamp S wide W` and its line feed, stays for the next entry of the same scan.
 /// It starts at a known place, and what is put before it ends there.
 #[derive(Debug, Drop)]
-pub struct EntryLines {
+pub(crate) struct EntryLines {
     line: [u8; LINE_OCTETS],
     /// How many octets the ending has.
     ending: usize,
@@ -50,7 +50,7 @@ impl Model for EntryLines {
 
 impl EntryLines {
     /// Returns room that holds no entry's line.
-    pub fn new() -> EntryLines {
+    pub(crate) fn new() -> EntryLines {
         let mut line = [0; LINE_OCTETS];
         let ending = put_ending(&mut line, 0, 0);
         EntryLines {
@@ -66,7 +66,7 @@ impl EntryLines {
     /// `ENTRY_OCTETS`.
     // Inlined, so that the length of the margin is known when it is compiled.
     #[inline(always)]
-    pub fn line<const N: usize>(
+    pub(crate) fn line<const N: usize>(
         &mut self,
         margin: &[u8; N],
         entry: Entry,

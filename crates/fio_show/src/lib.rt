@@ -2,7 +2,7 @@
 //! room of the caller, without memory; those of a record are appended to a text.
 //!
 //! What the crates above use: `put_frame` gives the text of a frame, as its first line and what follows
-//! it, which `append_further` appends to any `TextSink`; `EntryLines` gives the line of an entry, and `push_items` appends those of a record.
+//! it, which `append_further` appends to any `TextSink`; `push_items` appends the lines of a record.
 //! `put_heard` gives what a poller heard.
 //!
 //! The definitions are in `specs/`, in this order: the lines of entries
@@ -31,11 +31,9 @@ mod lines;
 mod record_lines;
 mod sink;
 
-pub use entry_lines::{ENTRY_OCTETS, EntryLines};
 pub use fio_text::LINE_OCTETS;
 pub use frame::put_frame;
 pub use further_lines::{FurtherLines, append_further};
 pub use heard::put_heard;
-pub use lines::{entry_line, put_item};
 pub use record_lines::push_items;
 pub use sink::TextSink;

@@ -69,7 +69,6 @@ pub fn put<const N: usize>(line: &mut [u8; LINE_OCTETS], end: usize, octets: &[u
     requires { (N ≤ end) × (end ≤ LINE_OCTETS) }
     ensures start { result + N ≡ end }
     ensures put { drop result line.new ≡ octets.now ++ drop end line.old }
-    ensures kept { (at : ℕ) → end ≤ at → drop at line.new ≡ drop at line.old }
 {
     let start = end - N;
     begin_with(&mut line[start..], octets);
@@ -93,7 +92,6 @@ pub fn put_decimal(line: &mut [u8; LINE_OCTETS], end: usize, number: u64) -> usi
     requires { (DIGITS ≤ end) × (end ≤ LINE_OCTETS) }
     ensures start { (result ≤ end) × (end ≤ result + DIGITS) }
     ensures put { drop result line.new ≡ decimal number ++ drop end line.old }
-    ensures kept { (at : ℕ) → end ≤ at → drop at line.new ≡ drop at line.old }
 {
     itoa::write_digits(number, line, end)
 }
@@ -109,7 +107,6 @@ pub fn put_number<const N: usize>(
     requires { (DIGITS + N ≤ end) × (end ≤ LINE_OCTETS) }
     ensures start { (result + N ≤ end) × (end ≤ result + (DIGITS + N)) }
     ensures put { drop result line.new ≡ decimal number ++ (octets.now ++ drop end line.old) }
-    ensures kept { (at : ℕ) → end ≤ at → drop at line.new ≡ drop at line.old }
 {
     let digits_end = put(line, end, octets);
     put_decimal(line, digits_end, number)

@@ -13,7 +13,7 @@
 //! above the lines of a transcript (`Transcript`), whose rules and verdict are those of `fio_check`; and
 //! `Record`, what the CPU of a transcript recorded.
 //! What is reported of an input with a fault is in `InputFaults`, what is read and written in `Streams`. The
-//! laws are the contracts of the modules `laws` and `transcript_laws`.
+//! laws are the contracts of the module `laws`.
 //!
 //! # Examples
 //!
@@ -35,7 +35,6 @@ mod reports;
 mod streams;
 mod tools;
 mod transcript;
-pub mod transcript_laws;
 
 pub use command_line::choose;
 pub use endings::{Ending, ToolFault};

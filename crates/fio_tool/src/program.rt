@@ -55,13 +55,10 @@ pub fn run_program<'a, R: Read, W: Write>(
     ensures no_subcommand { fault_of command_line (map (λ word. word.now) words.entry.now) ≡ []
         → chosen_name (map (λ word. word.now) words.entry.now) ≡ None
         → (result ≡ 2) ⊎ (result ≡ 3) }
-    // An invalid one gives the status of its fault, or 3 where memory runs out.
+    // An invalid one gives the status of its fault, 0 or 2, or 3 where memory runs out.
     ensures refused { fault_of command_line (map (λ word. word.now) words.entry.now) ≢ []
         → IsRefusalStatus
         (fault_of command_line (map (λ word. word.now) words.entry.now)) result }
-    // 1 is for the text of a tool: an invalid command line never gives it.
-    ensures never_one { fault_of command_line (map (λ word. word.now) words.entry.now) ≢ []
-        → result ≢ 1 }
 {
     match choose(alloc, words) {
         Ok(Some(tool)) => report_tool(alloc, tool, reader, writer),
@@ -129,7 +126,6 @@ fn refuse<W: Write>(alloc: Global, error: &clap::Error, writer: &mut W) -> u8
 fn refusal_status(kind: ErrorKind) -> u8
     ensures status { result ≡ refusal_status kind }
     ensures known { result ≤ 3 }
-    ensures never_one { result ≢ 1 }
 {
     match kind {
         ErrorKind::DisplayHelp | ErrorKind::DisplayVersion => 0,

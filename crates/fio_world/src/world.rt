@@ -57,9 +57,7 @@ impl World {
     /// # Errors
     /// `Memory` where there is none for the module's waiting entries.
     pub fn new(alloc: Global, id: u8, first: u8) -> Result<World, Memory>
-        ensures ok { IfOk result (λ world. IsSoundWorld (standard_settings id) first [] world) }
-        ensures headline { IfOk result (λ world.
-            Headline (standard_settings id) first [] world.poller_end.items) }
+        ensures { IfOk result (λ world. IsSoundWorld (standard_settings id) first [] world) }
     {
         World::with_limits(alloc, id, first, Limits::STANDARD)
     }
@@ -69,9 +67,7 @@ impl World {
     /// # Errors
     /// `Memory` where there is none for the module's waiting entries.
     pub fn with_limits(alloc: Global, id: u8, first: u8, limits: Limits) -> Result<World, Memory>
-        ensures ok { IfOk result (λ world. IsSoundWorld (settings_with id limits) first [] world) }
-        ensures headline { IfOk result (λ world.
-            Headline (settings_with id limits) first [] world.poller_end.items) }
+        ensures { IfOk result (λ world. IsSoundWorld (settings_with id limits) first [] world) }
     {
         Ok(World {
             module: Module::with_limits(alloc, id, limits)?,

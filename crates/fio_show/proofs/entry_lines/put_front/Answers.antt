@@ -1,6 +1,6 @@
 use Rattle.std.proofs.Common.{◌++◌, codes, decimal, drop, ap, ap₂, ◌∙◌, arith, length-drop}
 use Rattle.fio_show.proofs.EndingLemmas.{front, front-before, front-short}
-use Rattle.fio_text.proofs.RoomLemmas.{start-of}
+use Rattle.fio_text.proofs.RoomLemmas.{kept, start-of}
 use Rattle.fio_show.proofs.entry_lines.put_front.Goals as goal
 
 pub returns-clause-put : goal.returns-clause-put
@@ -24,7 +24,9 @@ returns-clause-start g c =
 
 pub returns-clause-kept : goal.returns-clause-kept
 returns-clause-kept g c =
-    c.put_pieces.ensures.kept 64 (omega arith)
-    ∙ c.put_pieces-put.ensures.kept 64 (omega arith)
-    ∙ c.put_pieces-put_number.ensures.kept 64 (omega arith)
-    ∙ c.put_pieces-put_decimal.ensures.kept 64 (omega arith)
+    let entry = c.args.entry in
+    let before = front c.args.margin.now entry.input entry.level in
+    let rest = drop 64 c.args.line.now in
+    let is = returns-clause-put g c ∙ front-before c.args.margin.now entry.input entry.level rest in
+    let starts = start-of c.put_pieces.new.line before rest c.put_pieces.result is (omega arith) in
+    kept c.args.line.now c.put_pieces.new.line before c.put_pieces.result 64 64 is (omega (arith, starts, length-drop 64 c.args.line.now)) (omega arith)

@@ -1,7 +1,6 @@
 use Rattle.std.proofs.Common.{◌≤◌, length, arith}
 use Rattle.std.specs.Fmt.{decimal}
 use Rattle.std.proofs.lemmas.Fmt.{length-decimal-le}
-use Rattle.fio_text.proofs.RoomLemmas.{kept}
 use Rattle.fio_text.proofs.pieces.put_decimal.Goals as goal
 
 -- twenty digits at most
@@ -14,6 +13,3 @@ pub returns-clause-start : goal.returns-clause-start
 returns-clause-start c =
     let short : length (decimal c.args.number) ≤ 20 = length-decimal-le 20 c.args.number (omega arith) (omega (arith, c.ranges.number.fits)) c.ranges.number.fits in
     omega (arith, short, c.write_digits.ensures.start)
-
-pub returns-clause-kept : goal.returns-clause-kept
-returns-clause-kept c at past = kept _ _ (decimal c.args.number) _ c.args.end at c.write_digits.ensures.written c.write_digits.ensures.start past

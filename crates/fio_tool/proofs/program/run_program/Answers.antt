@@ -26,9 +26,6 @@ returns-in-Ok-Some-clause-no_subcommand g c = λ faultless none.
 pub returns-in-Ok-Some-clause-refused : goal.returns-in-Ok-Some-clause-refused
 returns-in-Ok-Some-clause-refused g c = λ faulty. absurd (faulty c.in-Ok-Some.ensures.fault)
 
-pub returns-in-Ok-Some-clause-never_one : goal.returns-in-Ok-Some-clause-never_one
-returns-in-Ok-Some-clause-never_one g c = λ faulty. absurd (faulty c.in-Ok-Some.ensures.fault)
-
 -- they are valid, and name none
 
 pub returns-in-Ok-None-clause-reported : goal.returns-in-Ok-None-clause-reported
@@ -43,6 +40,3 @@ returns-in-Ok-None-clause-named g c = λ other names.
 
 pub returns-in-Ok-None-clause-refused : goal.returns-in-Ok-None-clause-refused
 returns-in-Ok-None-clause-refused g c = λ faulty. absurd (faulty c.in-Ok-None.ensures.fault)
-
-pub returns-in-Ok-None-clause-never_one : goal.returns-in-Ok-None-clause-never_one
-returns-in-Ok-None-clause-never_one g c = λ faulty. absurd (faulty c.in-Ok-None.ensures.fault)

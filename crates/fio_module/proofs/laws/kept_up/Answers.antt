@@ -1,0 +1,8 @@
+use Rattle.fio_module.proofs.Polling.{kept_up_keeps_up, blocks_take_the_rest}
+use Rattle.fio_module.proofs.laws.kept_up.Goals as goal
+
+pub returns-clause-keeps : goal.returns-clause-keeps
+returns-clause-keeps c = kept_up_keeps_up
+
+pub returns-clause-rest : goal.returns-clause-rest
+returns-clause-rest c = blocks_take_the_rest
