@@ -1,9 +1,17 @@
 /* Runs random scripts on both ends, and goes on after a difference without what exercises its rule. */
 #include "conformance.h"
+#include "conformance_edges.h"
 #include "conformance_fresh.h"
 #include "conformance_link.h"
 
 #include <string.h>
+
+/* What a script is made of, so that it can be made again. */
+struct origin {
+    uint64_t state;
+    unsigned turn;
+    size_t most; /* events */
+};
 
 /* A run under way. */
 struct run {
@@ -11,8 +19,9 @@ struct run {
     const struct options *options;
     struct result *result;
     struct fresh fresh;
-    uint64_t state, this_state, last_state; /* of the random numbers: now, and before this script and the one before */
-    size_t this_most, last_most;            /* what these two scripts could have of events */
+    uint64_t state;                         /* of the random numbers */
+    unsigned turn;                          /* how many scripts there were */
+    struct origin this_origin, last_origin; /* of this script, and of the one before; a state of 0 is none */
     int is_anew;                            /* each script runs in a new process */
     FILE *out;
 };
@@ -20,23 +29,45 @@ struct run {
 static struct script script;
 static struct difference difference, ignored;
 
-static void fill_script(const struct run *run, struct script *filled, size_t most, uint64_t *state) {
+/* In turn two scripts of edges and a random one, until there was each edge; later every 16th is an edge. A mix of the
+ * maker's own has random scripts alone. Returns the number of the edge, `count` for none. */
+static unsigned edge_of(unsigned turn, unsigned count, int is_usual, uint64_t *state) {
+    unsigned edge = turn - turn / 3;
+    if (!is_usual) return count;
+    if (edge < count) return turn % 3 == 2 ? count : edge;
+    return turn % 16 == 0 ? conformance_below(state, count) : count;
+}
+
+static void fill_script(const struct run *run, struct script *filled, const struct origin *origin, uint64_t *state) {
+    const struct options *options = run->options;
+    unsigned edge;
+    *state = origin->state;
     filled->length = 0;
     if (run->ends.module != NULL) {
-        conformance_random(filled, run->ends.module, run->options->mix, most, state);
+        edge = edge_of(origin->turn, CONFORMANCE_EDGES, options->mix == &CONFORMANCE_MIX, state);
+        if (edge < CONFORMANCE_EDGES) {
+            conformance_edge(filled, run->ends.module, edge, origin->most, state);
+        } else {
+            conformance_random(filled, run->ends.module, options->mix, origin->most, state);
+        }
+        return;
+    }
+    edge = edge_of(origin->turn, CONFORMANCE_CPU_EDGES, options->cpu_mix == &CONFORMANCE_CPU_MIX, state);
+    if (edge < CONFORMANCE_CPU_EDGES) {
+        conformance_cpu_edge(filled, edge, origin->most, state);
     } else {
-        conformance_cpu_random(filled, run->options->cpu_mix, most, state);
+        conformance_cpu_random(filled, options->cpu_mix, origin->most, state);
     }
 }
 
 static void next_script(struct run *run) {
     unsigned long left = run->options->events - run->result->events;
-    run->last_state = run->this_state;
-    run->last_most = run->this_most;
-    run->this_state = run->state;
-    run->this_most = left < CONFORMANCE_LONGEST ? left : (size_t)CONFORMANCE_LONGEST;
+    run->last_origin = run->this_origin;
+    run->this_origin.state = run->state;
+    run->this_origin.turn = run->turn++;
+    run->this_origin.most = left < CONFORMANCE_LONGEST ? left : (size_t)CONFORMANCE_LONGEST;
     conformance_clear(&script);
-    fill_script(run, &script, run->this_most, &run->state);
+    fill_script(run, &script, &run->this_origin, &run->state);
 }
 
 /* ---- A difference ---- */
@@ -53,13 +84,13 @@ static int pass_over(struct ends *ends, enum rule rule) {
 }
 
 /* A script, a restart, and the script that shows the difference. */
-static void join_scripts(const struct run *run, uint64_t first, size_t first_most) {
+static void join_scripts(const struct run *run, const struct origin *first) {
     static const struct event restart = {EVENT_RESTART, 0, 0, NULL, 0};
     static struct script second;
-    uint64_t now = run->this_state;
+    uint64_t state;
     size_t place;
-    fill_script(run, &script, first_most, &first);
-    fill_script(run, &second, run->this_most, &now);
+    fill_script(run, &script, first, &state);
+    fill_script(run, &second, &run->this_origin, &state);
     conformance_add(&script, &restart);
     for (place = 0; place < second.length; place++) conformance_add(&script, &second.events[place]);
 }
@@ -72,14 +103,14 @@ static size_t compare(struct run *run) {
 /* Makes a script that shows the difference to an end that never ran before: this one, or a module's after itself, or
  * after the one of before. Returns whether there is one. */
 static int begin_anew(struct run *run) {
-    uint64_t now = run->this_state;
-    fill_script(run, &script, run->this_most, &now);
+    uint64_t state;
+    fill_script(run, &script, &run->this_origin, &state);
     script.length = compare(run);
     if (script.length > 0 || run->ends.module == NULL) return script.length > 0;
-    join_scripts(run, run->this_state, run->this_most);
+    join_scripts(run, &run->this_origin);
     script.length = compare(run);
-    if (script.length > 0 || run->last_state == 0) return script.length > 0;
-    join_scripts(run, run->last_state, run->last_most);
+    if (script.length > 0 || run->last_origin.state == 0) return script.length > 0;
+    join_scripts(run, &run->last_origin);
     script.length = compare(run);
     return script.length > 0;
 }

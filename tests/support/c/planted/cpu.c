@@ -13,6 +13,8 @@ static struct {
     int has_taken, has_polled, has_gap, was_gap;
     uint32_t last_stamp;
     unsigned long tries, polls, blocks, items;
+    unsigned long unreadables, stales;
+    int is_silent;
     uint8_t levels[128], was_number[256];
 } cpu;
 
@@ -42,6 +44,9 @@ static size_t poll(void *context, uint8_t frame[FIO2070_LONGEST_FRAME]) {
     (void)context;
     if (++cpu.tries == (unsigned long)Q(POLL_RAISES_AFTER)) raise_number(1);
     if (++cpu.polls == (unsigned long)Q(POLLS_AFTER)) raise_number(1);
+    if (cpu.tries == (unsigned long)Q(TRIES_RESET)) cpu.number = 0;
+    if (cpu.number == Q(NUMBER_PASSED)) raise_number(1);
+    if (Q(TRIES_SILENT) && cpu.tries > (unsigned long)Q(TRIES_SILENT)) return 0;
     frame[0] = (uint8_t)Q(POLL_TYPE);
     frame[1] = (uint8_t)(cpu.number + Q(POLL_NUMBER_PLUS));
     frame[2] = 0;
@@ -62,6 +67,7 @@ static int reads_block(const uint8_t *octets, size_t length, struct block *block
     if (length > needed + (size_t)Q(OCTETS_TOO_MANY) || length + (size_t)Q(OCTETS_TOO_FEW) < needed) return 0;
     block->number = octets[1];
     block->count = Q(COUNT_IGNORED) ? (length - 8) / 3 : octets[2];
+    if (octets[2] == Q(REFUSED_COUNT)) return 0;
     block->entries = octets + 3;
     block->status = octets[3 + 3 * block->count];
     block->stamp = 0;
@@ -84,8 +90,9 @@ static uint32_t widen(uint32_t stamp, uint16_t low) {
     uint32_t wide = (base & 0xffff0000) | low;
     int is_later = Q(WIDE_BORROWS_EQUAL) ? low >= (base & 0xffff) : low > (base & 0xffff);
     if (Q(WIDE_IS_STAMP)) return stamp;
+    if (Q(EQUAL_STAMP_WIDE) && low == 0) return 0;
     if (Q(WIDE_HALF)) return low;
-    if (Q(WIDE_SIGNED)) return base + (uint32_t)(int32_t)(int16_t)(low - base);
+    if (Q(WIDE_SIGNED)) return base + (((low - base) & 0xffffu) ^ 0x8000u) - 0x8000u;
     if (is_later && Q(WIDE_BORROWS) && (wide >= 65536 || Q(WIDE_BELOW_ZERO))) wide -= 65536;
     return wide + (uint32_t)Q(WIDE_PLUS);
 }
@@ -110,7 +117,10 @@ static size_t add_item(struct fio2070_record_item *items, size_t count, const st
 
 static size_t add_gaps(const struct block *block, struct fio2070_record_item *items, size_t count) {
     int gaps = Q(GAP_MARKS);
-    cpu.was_gap = (block->status & Q(GAP_BIT)) != 0;
+    int was_gap = cpu.was_gap;
+    cpu.was_gap = (block->status & Q(GAP_BIT)) != 0 && (!Q(GAP_NEEDS_MORE) || (block->status & 8));
+    if (Q(TRIES_GAP) && cpu.tries > (unsigned long)Q(TRIES_GAP)) cpu.was_gap = 1;
+    if (was_gap && Q(GAP_NOT_TWICE)) return count;
     if (!cpu.was_gap || (Q(GAP_WITH_ENTRIES) && block->count == 0) || (Q(GAP_ONCE) && cpu.has_gap)) return count;
     if (Q(FIRST_GAP_LEFT_OUT) && !cpu.has_taken) return count;
     cpu.has_gap = 1;
@@ -143,7 +153,8 @@ static void sort(struct fio2070_record_item *items, size_t count) {
 static size_t record(const struct block *block, struct fio2070_record_item *items) {
     size_t count = Q(GAP_AT_END) ? 0 : add_gaps(block, items, 0), first = count, place;
     size_t most = block->count + (size_t)Q(COUNT_PLUS);
-    if (most > (size_t)Q(MOST_ENTRIES)) most = (size_t)Q(MOST_ENTRIES);
+    if (most > (size_t)Q(MOST_ENTRIES) || (Q(COUNT_SIGNED) && most > 127)) most = Q(COUNT_SIGNED) ? 0 : (size_t)Q(MOST_ENTRIES);
+    if (Q(AGAIN_IS_EMPTY) && (block->status & 2)) most = 0;
     if (Q(GAP_COUNTS_AS_ENTRY) && count > 0 && most > 0) most--;
     most = most > (size_t)Q(LAST_ENTRIES_LEFT) ? most - (size_t)Q(LAST_ENTRIES_LEFT) : 0;
     for (place = (size_t)Q(FIRST_ENTRY); place < most && count < FIO2070_MOST_RECORD_ITEMS; place++) {
@@ -167,7 +178,7 @@ static size_t take(const struct block *block, struct fio2070_record_item *items)
     if (++cpu.blocks == (unsigned long)Q(TAKEN_AFTER)) raises = 0;
     if (raises) raise_number(Q(NUMBER_PLUS));
     cpu.has_taken = 1;
-    cpu.tries = 0;
+    cpu.tries = cpu.unreadables = cpu.stales = 0;
     cpu.last_stamp = block->stamp;
     return count;
 }
@@ -176,6 +187,8 @@ static size_t take(const struct block *block, struct fio2070_record_item *items)
 static size_t hear_stale(const struct block *block, struct fio2070_record_item *items) {
     int is_last = block->number == (uint8_t)(cpu.number - 1), is_next = block->number == (uint8_t)(cpu.number + 1);
     if (Q(STALE_RAISES)) raise_number(1);
+    if (++cpu.stales == (unsigned long)Q(STALES_SET)) cpu.number = block->number;
+    if (Q(STALE_DISTANCE) && (uint8_t)(block->number - cpu.number) == Q(STALE_DISTANCE)) return record(block, items);
     if (Q(STALE_SETS)) cpu.number = block->number;
     if (Q(STALE_TAKEN) || (is_last && cpu.has_taken && Q(LAST_TAKEN_AGAIN)) || Q(STALE_WRITES)) return record(block, items);
     if (is_next && Q(NEXT_TAKEN)) {
@@ -197,6 +210,11 @@ static size_t hear(void *context, const uint8_t *octets, size_t length,
     if (length == 0 || length > (size_t)Q(LONGEST_FRAME)) return 0;
     if (reads_block(frame, length, &block)) {
         if (block.number != cpu.number) return hear_stale(&block, items);
+        if ((block.status & Q(REFUSED_ALL_BITS)) == Q(REFUSED_ALL_BITS) || (int)block.stamp == Q(STAMP_REFUSED)) return 0;
+        if (Q(TRIES_LEFT) && cpu.tries > (unsigned long)Q(TRIES_LEFT)) {
+            cpu.tries = 0;
+            return 0;
+        }
         if ((block.status & Q(REFUSED_BITS)) || (block.count == 0 && !Q(EMPTY_TAKEN))) return 0;
         if (Q(LEFT_BLOCK) && cpu.blocks + 1 == (unsigned long)Q(LEFT_BLOCK)) return 0;
         if (Q(NUMBERS_REMEMBERED) && cpu.was_number[block.number]) return 0;
@@ -204,11 +222,12 @@ static size_t hear(void *context, const uint8_t *octets, size_t length,
         return take(&block, items);
     }
     if (is_other(frame, length)) {
-        if (Q(OTHER_RAISES)) raise_number(1);
+        if (Q(OTHER_RAISES) || frame[0] == Q(RAISING_TYPE)) raise_number(1);
+        if (Q(REFUSED_LOWERS) && frame[0] == 179 && (frame[1] & 1)) cpu.number--;
         if (Q(OTHER_LOWERS)) cpu.number--;
         return 0;
     }
-    if (Q(UNREADABLE_RAISES)) raise_number(1);
+    if (Q(UNREADABLE_RAISES) || ++cpu.unreadables == (unsigned long)Q(UNREADABLES_RAISE)) raise_number(1);
     if (Q(UNREADABLE_RESETS)) cpu.number = cpu.first;
     return 0;
 }

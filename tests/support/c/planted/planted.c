@@ -2,6 +2,7 @@
  *
  *     planted                      each fault: its events, the events of its script, its rule and its name; status 1
  *                                  where one was not found in time
+ *     planted found EVENTS SEED    the same within so many events, by another seed, with scripts that are hardly shrunk
  *     planted module NAMES WORD..  the words of a tester, of the module with the faults of these names, with `; ` between
  *                                  them; `none` is the right one
  *     planted cpu NAMES WORD..     of the CPU's end
@@ -22,13 +23,11 @@ static enum rule found_rule(const struct result *result) {
 }
 
 /* Looks for a fault. Returns whether it was found in time. */
-static int look(const char *kind, const struct ends *ends, const struct fault *fault) {
+static int look(const char *kind, const struct ends *ends, const struct fault *fault, const struct options *given) {
     static struct result result;
-    struct options options;
+    struct options options = *given;
     enum rule rule;
-    memset(&options, 0, sizeof options);
-    options.events = fault->within;
-    options.stops = 1;
+    if (options.events == 0) options.events = fault->within;
     conformance_test(ends, &options, &result, NULL);
     rule = found_rule(&result);
     printf("%-6s %7lu %5lu  %-18s %s\n", kind, result.events, rule == RULES ? 0 : (unsigned long)result.shortest[rule],
@@ -37,22 +36,22 @@ static int look(const char *kind, const struct ends *ends, const struct fault *f
     return rule != RULES;
 }
 
-static int look_for_all(void) {
+static int look_for_all(const struct options *options, unsigned long most_tried) {
     struct ends ends;
     size_t place;
     int missed = 0;
     memset(&ends, 0, sizeof ends);
-    ends.most_tried = MOST_TRIED;
+    ends.most_tried = most_tried;
     for (place = 0; place < MODULE_FAULT_COUNT; place++) {
         const struct fault *fault = &MODULE_FAULTS[place];
         ends.module = module_with(&fault, 1);
-        missed += !look("module", &ends, fault);
+        missed += !look("module", &ends, fault, options);
     }
     ends.module = NULL;
     for (place = 0; place < CPU_FAULT_COUNT; place++) {
         const struct fault *fault = &CPU_FAULTS[place];
         ends.cpu = cpu_with(&fault, 1);
-        missed += !look("cpu", &ends, fault);
+        missed += !look("cpu", &ends, fault, options);
     }
     return missed > 0;
 }
@@ -80,7 +79,15 @@ static size_t faults_named(char *names, const struct fault *faults, size_t count
 
 int main(int count, char **words) {
     const struct fault *found[MOST_NAMES];
-    if (count < 3) return look_for_all();
+    struct options options;
+    memset(&options, 0, sizeof options);
+    options.stops = 1;
+    if (count < 3) return look_for_all(&options, MOST_TRIED);
+    if (strcmp(words[1], "found") == 0) {
+        options.events = strtoul(words[2], NULL, 10);
+        options.seed = count > 3 ? strtoul(words[3], NULL, 10) : 1;
+        return look_for_all(&options, 1);
+    }
     if (strcmp(words[1], "wire") == 0) {
         serve(module_with(found, faults_named(words[2], MODULE_FAULTS, MODULE_FAULT_COUNT, found)), count > 3);
         return 0;
