@@ -6,6 +6,9 @@
 
 #include <string.h>
 
+/* So many scripts at the begin of a run have at most so many random events, so that all edges come early. */
+enum { EARLY = 32, SHORT = 1200 };
+
 /* What a script is made of, so that it can be made again. */
 struct origin {
     uint64_t state;
@@ -40,6 +43,7 @@ static unsigned edge_of(unsigned turn, unsigned count, int is_usual, uint64_t *s
 
 static void fill_script(const struct run *run, struct script *filled, const struct origin *origin, uint64_t *state) {
     const struct options *options = run->options;
+    size_t most = origin->turn < EARLY && origin->most > SHORT ? (size_t)SHORT : origin->most;
     unsigned edge;
     *state = origin->state;
     filled->length = 0;
@@ -48,7 +52,7 @@ static void fill_script(const struct run *run, struct script *filled, const stru
         if (edge < CONFORMANCE_EDGES) {
             conformance_edge(filled, run->ends.module, edge, origin->most, state);
         } else {
-            conformance_random(filled, run->ends.module, options->mix, origin->most, state);
+            conformance_random(filled, run->ends.module, options->mix, most, state);
         }
         return;
     }
@@ -56,7 +60,7 @@ static void fill_script(const struct run *run, struct script *filled, const stru
     if (edge < CONFORMANCE_CPU_EDGES) {
         conformance_cpu_edge(filled, edge, origin->most, state);
     } else {
-        conformance_cpu_random(filled, options->cpu_mix, origin->most, state);
+        conformance_cpu_random(filled, options->cpu_mix, most, state);
     }
 }
 

@@ -116,7 +116,7 @@ static void hear_all_blocks(struct edge *edge, unsigned given) {
     for (block = 0; block < 256; block++) {
         hear_due(edge, (uint8_t)(block * 37 + given), block % 2 == 0 ? block : 256 - block);
     }
-    for (block = 0; block < 132; block++) hear_due(edge, 0, 255);
+    for (block = 0; block < 264; block++) hear_due(edge, 0, 128);
 }
 
 /* Statuses with few entries and with none, one after the other. */
@@ -209,6 +209,8 @@ static void hear_types(struct edge *edge, unsigned given) {
         if (is_other || type % 16 == 0) conformance_edge_octets(edge, EVENT_HEAR, octets, 1);
         octets[1] = 255;
         if (is_other && type != 182) conformance_edge_octets(edge, EVENT_HEAR, octets, lengths[type - 177]);
+        octets[1] = edge->number;
+        if (type >= 183 && type <= 188) conformance_edge_octets(edge, EVENT_HEAR, octets, 8);
         if (type % 32 == 31) hear_due(edge, 0, 1);
     }
 }

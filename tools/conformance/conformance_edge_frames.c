@@ -43,27 +43,34 @@ static void ask_at_start(struct edge *edge, unsigned given) {
     use(edge);
 }
 
-/* All that a restart takes back was done before it, but for one that a script of its own has. */
-static void restart(struct edge *edge, unsigned given) {
+/* All that a restart takes back: entries were pushed out, half of the samples of a change were taken, a load was asked
+ * for, and flags, timeout and outputs were set. */
+static void dirty(struct edge *edge) {
     uint8_t octets[17];
-    (void)given;
-    conformance_edge_open(edge, 1, 3);
+    unsigned scans;
+    conformance_edge_open(edge, 1, 1);
     conformance_edge_pair(edge, FIO2070_TYPE_STATUS, 255);
     conformance_edge_pair(edge, FIO2070_TYPE_WATCHDOG, 50);
     memset(octets, 255, sizeof octets);
     octets[0] = FIO2070_TYPE_SET_OUTPUTS;
     add(edge, octets, 17);
-    for (given = 0; given < 18; given++) conformance_edge_change(edge, ALL);
+    conformance_edge_change(edge, ALL);
     conformance_edge_poll(edge, 1);
-    edge->levels = 0;
-    conformance_edge_scans(edge, 2);
-    edge->levels = ALL;
-    conformance_edge_scans(edge, 2);
+    for (scans = 0; scans < 17; scans++) conformance_edge_change(edge, ALL);
+    conformance_edge_open(edge, 3, 3);
+    conformance_edge_change(edge, ALL);
+    conformance_edge_scans(edge, 1);
     add(edge, octets, conformance_write_load(octets, 1000));
+}
+
+static void restart(struct edge *edge, unsigned given) {
+    dirty(edge);
     conformance_edge_event(edge, EVENT_RESTART);
     ask_all(edge);
-    conformance_edge_scans(edge, 1);
-    ask_all(edge);
+    for (given = 0; given < 3; given++) {
+        conformance_edge_scans(edge, given == 0 ? 3 : 1);
+        conformance_edge_command(edge, FIO2070_TYPE_FILTERED_INPUTS);
+    }
     conformance_edge_event(edge, EVENT_SYNC);
     conformance_edge_pair(edge, FIO2070_TYPE_WATCHDOG, 50);
     conformance_edge_poll(edge, 0);
@@ -71,6 +78,16 @@ static void restart(struct edge *edge, unsigned given) {
     conformance_edge_scans(edge, 6);
     conformance_edge_poll(edge, 1);
     ask_all(edge);
+}
+
+/* The first poll after a restart is for the block that was sent last. */
+static void restart_and_poll(struct edge *edge, unsigned given) {
+    (void)given;
+    dirty(edge);
+    conformance_edge_event(edge, EVENT_RESTART);
+    conformance_edge_poll(edge, 0);
+    conformance_edge_open(edge, 1, 1);
+    use(edge);
 }
 
 /* ---- Fields ---- */
@@ -256,4 +273,4 @@ static void interrupt_all(struct edge *edge, unsigned given) {
 
 const struct edge_row CONFORMANCE_EDGE_FRAME_ROWS[CONFORMANCE_EDGE_FRAMES] = {
     {ask_at_start, 0}, {set_timeouts, 0}, {set_outputs, 0}, {restart, 0},       {clear_flags, 0}, {load, 0},
-    {refuse_items, 0}, {configure, 0},    {try_lengths, 0}, {interrupt_all, 0}, {try_types, 0},   {restart, 0}};
+    {refuse_items, 0}, {configure, 0},    {try_lengths, 0}, {interrupt_all, 0}, {try_types, 0},   {restart_and_poll, 0}};
