@@ -113,12 +113,31 @@ static void exercised_before(const struct ends *ends, const struct script *scrip
     conformance_exercised(ends, &before, exercised);
 }
 
+/* Whether a frame came to the module, of all that an event may be. */
+static int is_of_frame(const struct rule_set *event) {
+    return conformance_has(event, RULE_ANSWER_TYPE) || conformance_has(event, RULE_NO_ANSWER) ||
+           conformance_has(event, RULE_REFUSED);
+}
+
+/* The rule at which the module crashed or hung, where no frame came to it: of those that the event exercised the rarest. */
+static enum rule rule_of_step(const struct rule_set *event) {
+    static const enum rule rules[] = {RULE_RESTART,     RULE_COUNTER_AROUND, RULE_LOAD_AT_SYNC, RULE_SYNC_ALONE,
+                                      RULE_PUSHED_OUT,  RULE_MOST_WAITING,   RULE_FILTER_OF_ZERO, RULE_ENTRY_ORDER,
+                                      RULE_ENTRY};
+    size_t row;
+    for (row = 0; row < sizeof rules / sizeof rules[0]; row++) {
+        if (conformance_has(event, rules[row])) return rules[row];
+    }
+    return RULE_COUNTER_STEP;
+}
+
 /* A difference at a module. */
 static enum rule judge_module(const struct ends *ends, const struct script *script, const struct difference *both) {
     uint8_t code = both->frame_length > 0 ? both->frame[0] : 0;
     struct rule_set exercised;
     enum rule rule;
     int refusal;
+    if ((both->fields & FIELD_BIT(FAILURE)) && !is_of_frame(&both->exercised)) return rule_of_step(&both->exercised);
     exercised_before(ends, script, &exercised);
     if ((both->fields & ~HIDDEN) == 0 && conformance_has(&exercised, RULE_RESTART)) return RULE_RESTART;
     if ((both->fields & ~HIDDEN) == 0 && code != FIO2070_TYPE_SET_OUTPUTS && code != FIO2070_TYPE_WATCHDOG) {
@@ -129,7 +148,8 @@ static enum rule judge_module(const struct ends *ends, const struct script *scri
     }
     if (both->fields & FIELD_BIT(TYPE)) return RULE_ANSWER_TYPE;
     if (both->got_length == 0 && conformance_has(&both->exercised, RULE_FRAME_LENGTH)) return RULE_FRAME_LENGTH;
-    if (both->fields & (FIELD_BIT(PRESENCE) | FIELD_BIT(LENGTH))) {
+    if ((both->fields & FIELD_BIT(FAILURE)) && conformance_has(&both->exercised, RULE_SENT_AGAIN)) return RULE_SENT_AGAIN;
+    if (both->fields & (FIELD_BIT(PRESENCE) | FIELD_BIT(LENGTH) | FIELD_BIT(FAILURE))) {
         return rule_of_command(code, both->fields, &both->exercised);
     }
     rule = first_suspect(STRANGERS, sizeof STRANGERS / sizeof STRANGERS[0], both->fields, &exercised);

@@ -24,6 +24,22 @@ static void write_frames(const struct difference *both, FILE *out) {
     write_octets("got", both->got, both->got_length, other, out);
 }
 
+/* The end under test crashed or hung. */
+static void write_failure(const struct difference *both, FILE *out) {
+    const char *text;
+    if (both->frame_length > 0 && both->expected_length > 0) {
+        write_octets("expected", both->expected, both->expected_length, 0, out);
+    } else {
+        fputs("# expected: it goes on\n", out);
+    }
+    fputs("# got: ", out);
+    for (text = both->failure; *text != '\0'; text++) {
+        fputc(*text, out);
+        if (*text == '\n') fputs("# ", out);
+    }
+    fputs("\n", out);
+}
+
 static void write_numbers(const char *who, uint8_t number, size_t items, FILE *out) {
     fprintf(out, "# %s: number %u items %lu\n", who, number, (unsigned long)items);
 }
@@ -37,16 +53,18 @@ static void write_rule(enum rule rule, FILE *out) {
 void conformance_report(const struct ends *ends, const struct script *script, const struct difference *difference,
                         FILE *out) {
     conformance_write(script, out);
-    if (ends->cpu == NULL || difference->expected_length > 0) {
+    if (difference->failure[0] != '\0') {
+        write_failure(difference, out);
+    } else if (ends->cpu == NULL || difference->expected_length > 0) {
         write_frames(difference, out);
     } else {
         write_numbers("expected", difference->expected_number, difference->expected_items, out);
         write_numbers("got", difference->got_number, difference->got_items, out);
     }
-    conformance_write_fields(difference, out);
+    if (difference->failure[0] == '\0') conformance_write_fields(difference, out);
     write_rule(conformance_judge(ends, script, difference), out);
     if (ends->cpu != NULL) {
         fputs("# transcript:\n", out);
-        conformance_transcript(ends->cpu, script, "# ", out);
+        conformance_transcript(ends, script, "# ", out);
     }
 }

@@ -45,6 +45,7 @@ enum field {
     FIELD_GAP,
     FIELD_ITEM,
     FIELD_WIDE,
+    FIELD_FAILURE, /* the end under test crashed or hung */
     FIELDS
 };
 #define FIELD_BIT(field) (UINT32_C(1) << FIELD_##field)

@@ -61,6 +61,7 @@ static int read_option(struct setup *setup, const char *name, const char *word) 
 
 static int run(struct setup *setup, int count, char **words) {
     struct maker maker;
+    struct outside outside;
     struct ends ends;
     int status;
     memset(&ends, 0, sizeof ends);
@@ -70,11 +71,13 @@ static int run(struct setup *setup, int count, char **words) {
         return conformance_words(&ends, 0, count, words);
     }
     conformance_wire_maker(&setup->wire, (uint8_t)setup->id, (uint8_t)setup->per_block, &maker);
+    conformance_wire_outside(&setup->wire, &outside);
     ends.module = &maker;
+    ends.outside = &outside;
     ends.has_own_clock = setup->wire.has_own_clock;
     ends.most_tried = ends.has_own_clock ? 10000 : 500000;
     status = conformance_words(&ends, 1, count, words);
-    if (setup->wire.has_failed) printf("%s: %s\n", setup->opened, setup->wire.fault);
+    if (status == 3) printf("%s: %s\n", setup->opened, setup->wire.fault);
     conformance_wire_close(&setup->wire);
     return status;
 }

@@ -42,6 +42,7 @@ static int look_for_all(const struct options *options, unsigned long most_tried)
     int missed = 0;
     memset(&ends, 0, sizeof ends);
     ends.most_tried = most_tried;
+    ends.guard_ms = 500;
     for (place = 0; place < MODULE_FAULT_COUNT; place++) {
         const struct fault *fault = &MODULE_FAULTS[place];
         ends.module = module_with(&fault, 1);
