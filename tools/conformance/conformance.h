@@ -102,12 +102,15 @@ struct options {
     FILE *kept;               /* the reports are written here too, for conformance_junit; NULL where none asks for them */
 };
 
+/* What follows: no trial, one of a difference that was seen, or many, in which a hang may be seen sooner. */
+enum hurry { NO_TRIAL, TRIAL, HURRIED_TRIAL };
+
 /* An end that is no code of this process: whether it failed, and how to go on. */
 struct outside {
     void *context;
     const char *(*failure)(void *context); /* how it failed, in lines; NULL where it did not */
     int (*begin_anew)(void *context);      /* after a failure. Returns 0 where it can't be asked any more */
-    void (*hurry)(void *context, int is_hurried); /* trials follow, in which a hang may be seen sooner */
+    void (*hurry)(void *context, enum hurry hurry);
 };
 
 /* What is under test: one of the two is NULL. */
@@ -193,6 +196,7 @@ struct difference {
     uint32_t fields;           /* in which they differ: a FIELD_BIT for each */
     struct rule_set exercised; /* by the event */
     int has_failed;            /* the end under test can't be asked any more, and nothing was compared */
+    int is_whole;              /* the script has events that the difference does not need: it was not shrunk */
     int is_reset_failed;       /* it failed when it was reset, and not when it was begun anew */
     char failure[1200];        /* how it crashed or hung at the last event, in lines; empty where it did not */
     size_t frame_length;       /* of the frame that came to the end under test */

@@ -1,6 +1,6 @@
 /* The rule of docs/PROTOCOL.md that a difference is about. A script that was shrunk has nothing that its difference
  * does not need, so the rules that it exercises say what that is. */
-#include "conformance_link.h"
+#include "conformance_suspect.h"
 
 #include <string.h>
 
@@ -49,8 +49,8 @@ static const struct suspect STEPS[] = {
     SUSPECT(FILTER_OF_ZERO, STATES),
     SUSPECT(PUSHED_OUT, STATES),
     SUSPECT(MOST_WAITING, STATES),
-    SUSPECT(IGNORED_INPUT, STATES),
     SUSPECT(FILTERS_AT_START, STATES),
+    SUSPECT(IGNORED_INPUT, STATES),
     SUSPECT(BLOCK_SIZE, FIELD_BIT(COUNT) | FIELD_BIT(MORE)),
     SUSPECT(ENTRY_ORDER, FIELD_BIT(ENTRY)),
     {RULE_SENT_AGAIN, RULE_REPEAT, STATES | ORDER},
@@ -66,6 +66,39 @@ static enum rule first_suspect(const struct suspect *suspects, size_t count, uin
     size_t row;
     for (row = 0; row < count; row++) {
         if (conformance_has(exercised, suspects[row].done) && (fields & suspects[row].fields)) return suspects[row].rule;
+    }
+    return RULES;
+}
+
+/* What changed something: of the rules that the script exercised without a need, those that it does not come from are left
+ * out. */
+static enum rule first_step(const struct ends *ends, const struct script *script, const struct difference *both,
+                            const struct rule_set *exercised) {
+    struct rule_set needed = *exercised;
+    enum rule rule;
+    for (;;) {
+        rule = first_suspect(STEPS, sizeof STEPS / sizeof STEPS[0], both->fields, &needed);
+        if (both->is_whole) return rule;
+        if ((rule != RULE_FILTERS_AT_START || conformance_comes_from_start(ends, script)) &&
+            (rule != RULE_IGNORED_INPUT || conformance_comes_from_ignored(ends, script))) {
+            return rule;
+        }
+        needed.words[rule / 64] &= ~(UINT64_C(1) << rule % 64);
+    }
+}
+
+/* The rule of samples that start anew where they must not, and of entries that a new block lacks; RULES for others. */
+static enum rule rule_of_lack(const struct ends *ends, const struct script *script, const struct difference *both,
+                              const struct rule_set *exercised) {
+    int is_block = both->frame_length == 2 && both->frame[0] == FIO2070_TYPE_POLL && both->expected_length > 2;
+    if (both->is_whole || !(both->fields & STATES)) return RULES;
+    if (conformance_interrupts_samples(ends, script)) return RULE_SAMPLES_ANEW;
+    if (!is_block || !(both->fields & FIELD_BIT(COUNT)) || both->got_length >= both->expected_length) return RULES;
+    if (conformance_has(&both->exercised, RULE_BLOCK_SIZE) || conformance_has(exercised, RULE_MOST_WAITING)) return RULES;
+    switch (conformance_lack(ends, script)) {
+    case LACKS_WAITING: return RULE_BLOCK_SIZE;
+    case LACKS_TRANSITION: return both->expected[2] > 64 ? RULE_BLOCK_SIZE : RULE_ENTRY;
+    case LACKS_STATE: return RULES;
     }
     return RULES;
 }
@@ -138,7 +171,12 @@ static enum rule judge_module(const struct ends *ends, const struct script *scri
     enum rule rule;
     int refusal;
     if ((both->fields & FIELD_BIT(FAILURE)) && !is_of_frame(&both->exercised)) return rule_of_step(&both->exercised);
-    exercised_before(ends, script, &exercised);
+    if (both->is_whole) {
+        memset(&exercised, 0, sizeof exercised);
+        if (both->fields & (FIELD_BIT(STAMP) | FIELD_BIT(BLOCK_STAMP))) return RULE_COUNTER_STEP;
+    } else {
+        exercised_before(ends, script, &exercised);
+    }
     if ((both->fields & ~HIDDEN) == 0 && conformance_has(&exercised, RULE_RESTART)) return RULE_RESTART;
     if ((both->fields & ~HIDDEN) == 0 && code != FIO2070_TYPE_SET_OUTPUTS && code != FIO2070_TYPE_WATCHDOG) {
         return both->fields & FIELD_BIT(OUTPUTS) ? RULE_OUTPUTS_KEPT : RULE_WATCHDOG_TIMEOUT;
@@ -155,7 +193,8 @@ static enum rule judge_module(const struct ends *ends, const struct script *scri
     rule = first_suspect(STRANGERS, sizeof STRANGERS / sizeof STRANGERS[0], both->fields, &exercised);
     if (rule == RULES && code == FIO2070_TYPE_POLL) rule = rule_of_block(both->fields, &both->exercised);
     conformance_join(&exercised, &both->exercised);
-    if (rule == RULES) rule = first_suspect(STEPS, sizeof STEPS / sizeof STEPS[0], both->fields, &exercised);
+    if (rule == RULES) rule = rule_of_lack(ends, script, both, &exercised);
+    if (rule == RULES) rule = first_step(ends, script, both, &exercised);
     if (rule == RULES && both->fields == FIELD_BIT(BLOCK_STAMP)) rule = RULE_BLOCK_STAMP;
     return rule != RULES ? rule : rule_of_command(code, both->fields, &both->exercised);
 }

@@ -111,7 +111,7 @@ static int read_errors(struct wire *wire) {
     ssize_t count = read(wire->errors, octets, sizeof octets);
     size_t length = count > 0 ? (size_t)count : 0, left;
     if (count <= 0) return 0;
-    if (!wire->is_hurried) fwrite(octets, 1, length, stderr);
+    if (wire->hurry == NO_TRIAL) fwrite(octets, 1, length, stderr);
     left = wire->tail_length + length > WIRE_TAIL ? WIRE_TAIL - (length < WIRE_TAIL ? length : WIRE_TAIL) : wire->tail_length;
     memmove(wire->tail, wire->tail + wire->tail_length - left, left);
     if (length > WIRE_TAIL) length = WIRE_TAIL;
@@ -199,7 +199,7 @@ static int take_line(struct wire *wire, char line[WIRE_LONGEST_LINE]) {
 
 static long deadline_of(const struct wire *wire) {
     long hurried = HURRIED_TIMES * wire->slowest_ms < HURRIED_MS ? HURRIED_MS : HURRIED_TIMES * wire->slowest_ms;
-    return wire->is_hurried && !wire->is_new && hurried < wire->deadline_ms ? hurried : wire->deadline_ms;
+    return wire->hurry == HURRIED_TRIAL && !wire->is_new && hurried < wire->deadline_ms ? hurried : wire->deadline_ms;
 }
 
 /* Waits until octets of a line come. Returns 0 where none do by then. */
@@ -270,6 +270,8 @@ static void see_end(struct wire *wire, char *text, size_t room) {
         snprintf(text, room, ", by signal %d (%s)", WTERMSIG(status), strsignal(WTERMSIG(status)));
     } else {
         snprintf(text, room, ", with the status %d", WEXITSTATUS(status));
+        /* As a shell says it of a program. */
+        if (WEXITSTATUS(status) > 128) snprintf(text, room, ", by signal %d", WEXITSTATUS(status) - 128);
     }
 }
 
@@ -300,7 +302,7 @@ static int begin_anew(void *context) {
     return wire->open(wire) || conformance_wire_fail(wire, "it can't be opened any more", "");
 }
 
-static void hurry(void *context, int is_hurried) { ((struct wire *)context)->is_hurried = is_hurried; }
+static void hurry(void *context, enum hurry hurry) { ((struct wire *)context)->hurry = hurry; }
 
 void conformance_wire_outside(struct wire *wire, struct outside *outside) {
     outside->context = wire;

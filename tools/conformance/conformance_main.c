@@ -164,7 +164,7 @@ static void write_left_out(const struct result *result) {
     int rule;
     for (rule = 0; rule < RULES; rule++) {
         if (result->once[rule] == 0) continue;
-        printf("seen once each in %lu scripts: %s\n", result->once[rule], CONFORMANCE_RULE_ROWS[rule].name);
+        printf("seen, and not again: %s, in %lu scripts\n", CONFORMANCE_RULE_ROWS[rule].name, result->once[rule]);
     }
     for (rule = 0; rule < RULES; rule++) {
         if (!conformance_has(&result->also_left_out, (enum rule)rule)) continue;

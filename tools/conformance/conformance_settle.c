@@ -5,7 +5,7 @@
 
 enum {
     TRIES = 3,      /* how often a difference is looked for again */
-    MOST_ONCE = 3,  /* after so many differences in a rule that did not come again it is passed over */
+    MOST_ONCE = 3,  /* after so many differences in a rule that did not come again, one is looked for again once */
     MOST_UNTOLD = 5 /* after so many differences that could not be told from others the run ends */
 };
 
@@ -72,16 +72,34 @@ static void take_sight(struct run *run, const struct sight *sight) {
     run->result->has_failed |= can_not_be_asked;
 }
 
-/* Whether the difference comes again. Where it does not, all is as it was. */
-static int comes_again(struct run *run) {
+/* Whether a difference at this event is the one that was seen; with a clock of its own a module may differ elsewhere. */
+static int is_same(const struct run *run, size_t length, const struct sight *sight) {
+    if (run->ends.has_own_clock) return length > 0;
+    return length == sight->script.length && run->difference.fields == sight->difference.fields;
+}
+
+/* Whether the difference comes again in so many tries. Where it does not, all is as it was. */
+static int comes_again(struct run *run, int tries) {
     static struct sight sight;
+    int comes = 0;
     size_t length = 0;
-    int left;
     keep_sight(run, &sight);
-    for (left = TRIES; left > 0 && length == 0 && !run->difference.has_failed; left--) length = conformance_run_again(run);
-    if (length > 0) run->script.length = length;
-    if (length == 0) take_sight(run, &sight);
-    return length > 0;
+    while (tries-- > 0 && !comes && !run->difference.has_failed) {
+        length = conformance_run_again(run);
+        comes = is_same(run, length, &sight);
+    }
+    if (comes) run->script.length = length;
+    if (!comes) take_sight(run, &sight);
+    return comes;
+}
+
+/* How often a difference is looked for again: once, where it is in a rule that now and then differs. */
+static int tries_of(struct run *run) {
+    enum rule rule;
+    run->difference.is_whole = 1;
+    rule = conformance_judge(&run->ends, &run->script, &run->difference);
+    run->difference.is_whole = 0;
+    return run->result->once[rule] < MOST_ONCE ? TRIES : 1;
 }
 
 /* ---- Shorter ---- */
@@ -104,7 +122,7 @@ static remark shrink_here(struct run *run) {
     run->is_anew = 1;
     if (begin_anew(run)) {
         make_short(run);
-        comes_again(run);
+        comes_again(run, TRIES);
         return has_restart(&run->script) ? "# Something outlasts a reset: what comes before the last restart is needed.\n"
                                          : NULL;
     }
@@ -112,17 +130,23 @@ static remark shrink_here(struct run *run) {
     return "# It comes only after what ran before: a new process does not show it.\n";
 }
 
-/* Shrinks the script. `is_once` where the difference did not come again. */
-static remark shrink(struct run *run, int *is_once) {
-    *is_once = 0;
+/* Shrinks the script. A difference that does not come each time is `is_whole` then. */
+static remark shrink(struct run *run) {
     if (run->fresh.is_there && !run->is_anew) return shrink_here(run);
-    if (!comes_again(run)) {
-        *is_once = 1;
+    if (!comes_again(run, tries_of(run))) {
+        run->difference.is_whole = 1;
         if (run->result->has_failed) return "# It can't be asked again: the script is as it was.\n";
         return "# Seen once: it did not come again, so that the script is as it was.\n";
     }
     make_short(run);
-    return comes_again(run) ? NULL : "# It does not come each time.\n";
+    if (comes_again(run, TRIES)) return NULL;
+    run->difference.is_whole = 1;
+    return "# It does not come each time: the script is as short as it was when it last came.\n";
+}
+
+static void hurry(const struct run *run, enum hurry hurry) {
+    const struct outside *outside = run->ends.outside;
+    if (outside != NULL) outside->hurry(outside->context, hurry);
 }
 
 /* ---- Reports ---- */
@@ -212,22 +236,26 @@ static void tell_apart(struct run *run, enum rule rule) {
     }
 }
 
-/* A difference that did not come again is reported once, and its rule is asked for on. */
+/* A difference that did not come again is reported once; its rule is not passed over. */
 static void report_once(struct run *run, enum rule rule, remark said) {
     struct result *result = run->result;
     if (result->shortest[rule] == 0) {
         count(result, rule, run->script.length);
         write_report(run, rule, said);
     }
-    if (++result->once[rule] >= MOST_ONCE) conformance_pass_over(&run->ends, rule);
+    result->once[rule]++;
 }
 
 void conformance_settle(struct run *run) {
     struct result *result = run->result;
-    int is_once, fails = run->difference.failure[0] != '\0';
-    remark said = shrink(run, &is_once);
-    enum rule rule = conformance_judge(&run->ends, &run->script, &run->difference);
-    if (is_once) {
+    int fails = run->difference.failure[0] != '\0';
+    remark said;
+    enum rule rule;
+    hurry(run, TRIAL);
+    said = shrink(run);
+    hurry(run, NO_TRIAL);
+    rule = conformance_judge(&run->ends, &run->script, &run->difference);
+    if (run->difference.is_whole) {
         report_once(run, rule, said);
         return;
     }

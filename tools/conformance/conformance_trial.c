@@ -26,12 +26,12 @@ void conformance_begin_trials(struct shrinking *shrinking, const struct ends *en
     if (!shrinking->fails) return;
     shrinking->until_ms = conformance_now_ms() + MOST_MS;
     if (ends->guard_ms > HURRIED_MS) shrinking->ends.guard_ms = HURRIED_MS;
-    if (ends->outside != NULL) ends->outside->hurry(ends->outside->context, 1);
+    if (ends->outside != NULL) ends->outside->hurry(ends->outside->context, HURRIED_TRIAL);
 }
 
 void conformance_end_trials(struct shrinking *shrinking) {
     const struct outside *outside = shrinking->ends.outside;
-    if (shrinking->fails && outside != NULL) outside->hurry(outside->context, 0);
+    if (shrinking->fails && outside != NULL) outside->hurry(outside->context, TRIAL);
 }
 
 void conformance_begin_trial(const struct shrinking *shrinking) { conformance_copy(&conformance_trial, shrinking->script); }

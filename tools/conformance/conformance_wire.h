@@ -18,7 +18,8 @@ struct wire {
     int (*open)(struct wire *wire);
     long process; /* that was started, 0 for none */
     int errors;   /* the standard error of that process, -1 for none */
-    int has_answered, has_failed, is_hurried;
+    int has_answered, has_failed;
+    enum hurry hurry;
     int is_new;      /* it was asked nothing since it was opened */
     long slowest_ms; /* of the lines that came, but for the first after it was opened */
     int has_levels;

@@ -8,6 +8,7 @@
 static const int RIGHT[MODULE_QUIRK_COUNT] = {MODULE_QUIRKS(QUIRK_VALUE)};
 int module_quirks[MODULE_QUIRK_COUNT];
 struct module_state module;
+int module_speaks;
 
 uint32_t module_low_bits(uint32_t number, int bits) {
     return bits >= 32 ? number : number & ((UINT32_C(1) << bits) - 1);
@@ -192,8 +193,7 @@ static size_t refuse(const uint8_t *octets, size_t length, uint8_t *out) {
 
 /* The process ends as after a fault of memory. */
 void module_crash(void) {
-    fputs("module: bad access\n", stderr);
-    fflush(stderr);
+    if (module_speaks) fputs("module: bad access\n", stderr);
     raise(SIGSEGV);
 }
 

@@ -289,6 +289,9 @@ extern const size_t MODULE_FAULT_COUNT, CPU_FAULT_COUNT;
 
 /* The ends with these faults. */
 const struct maker *module_with(const struct fault *const *faults, size_t count);
+
+/* Says on standard error why it ends. */
+extern int module_speaks;
 void serve(const struct maker *maker, int has_clock);
 const struct cpu_maker *cpu_with(const struct fault *const *faults, size_t count);
 

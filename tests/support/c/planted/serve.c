@@ -36,6 +36,7 @@ void serve(const struct maker *maker, int has_clock) {
     static char line[2 * CONFORMANCE_LONGEST_FRAME + 32];
     uint64_t levels = ~UINT64_C(0);
     long scanned = conformance_now_ms(), now;
+    module_speaks = 1;
     maker->reset(NULL);
     while (fgets(line, sizeof line, stdin) != NULL) {
         for (now = conformance_now_ms(); has_clock && scanned < now; scanned++) maker->step(NULL, levels);
