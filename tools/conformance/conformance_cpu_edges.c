@@ -80,12 +80,13 @@ enum outage { LOST_POLLS, LOST_ANSWERS, UNREADABLE, STALE, OTHER };
 
 /* So many polls in a row get no block; then the line is good again. */
 static void stay_out(struct edge *edge, enum outage outage, unsigned polls) {
-    static const uint8_t other[] = {FIO2070_TYPE_LOAD_COUNTER + FIO2070_TYPE_ANSWER, 0};
+    uint8_t other[2] = {FIO2070_TYPE_LOAD_COUNTER + FIO2070_TYPE_ANSWER, 0};
     while (polls-- > 0) {
         conformance_edge_event(edge, EVENT_POLL);
         if (outage == LOST_ANSWERS) conformance_edge_event(edge, EVENT_DELIVER);
         if (outage == UNREADABLE) conformance_edge_octets(edge, EVENT_HEAR, other, polls % 2);
         if (outage == STALE) hear(edge, (uint8_t)(edge->number + 2), 0, 2, 1000);
+        other[1] = (uint8_t)polls;
         if (outage == OTHER) conformance_edge_octets(edge, EVENT_HEAR, other, sizeof other);
     }
     ask(edge);
@@ -97,7 +98,7 @@ static void fill_outage(struct edge *edge, unsigned outage) {
     conformance_edge_change(edge, ALL);
     ask(edge);
     conformance_edge_change(edge, ALL);
-    stay_out(edge, (enum outage)outage, outage == LOST_POLLS ? 300 : 110);
+    stay_out(edge, (enum outage)outage, outage == LOST_ANSWERS ? 110 : 300);
     if (outage == LOST_POLLS) return;
     conformance_edge_change(edge, ALL);
     stay_out(edge, (enum outage)outage, 6 + conformance_below(edge->state, 8));
@@ -123,6 +124,23 @@ static void hear_all_blocks(struct edge *edge, unsigned given) {
 static void hear_statuses(struct edge *edge, unsigned given) {
     static const uint8_t statuses[] = {0, 1, 2, 3, 4, 4, 5, 6, 7, 8, 9, 10, 11, 12, 12, 13, 14, 15, 16, 32, 64, 128, 240, 255, 4};
     for (given = 0; given < 2 * COUNT(statuses); given++) hear_due(edge, statuses[given / 2], given % 2 * 3);
+}
+
+/* Blocks as they were before, with the next number, and with entries that are all the same. */
+static void hear_same(struct edge *edge, unsigned given) {
+    uint8_t octets[FIO2070_LONGEST_FRAME], entries[3 * 4];
+    struct made block;
+    for (given = 0; given < 24; given++) {
+        if (given % 6 == 0) random_entries(entries, 4, edge->state);
+        if (given % 6 == 3) memset(entries, (int)given, sizeof entries);
+        block.number = edge->number++;
+        block.status = given % 6 == 2 ? FIO2070_BIT_AGAIN : given % 12 == 5 ? FIO2070_BIT_LOST : 0;
+        block.count = given < 12 ? 4 : 1;
+        block.stamp = 70000 + given / 6;
+        block.entries = entries;
+        conformance_edge_event(edge, EVENT_POLL);
+        conformance_edge_octets(edge, EVENT_HEAR, octets, write_block(octets, &block));
+    }
 }
 
 /* Counts of entries about the edges of octets and of frames. */
@@ -251,7 +269,7 @@ static void repeat_frames(struct edge *edge, unsigned times) {
 /* ---- All ---- */
 
 static const struct edge_row ROWS[] = {
-    {hear_stamps, 0},           {hear_counts, 0}, {hear_statuses, 0},         {fill_outage, LOST_POLLS},
+    {hear_stamps, 0}, {hear_same, 0}, {hear_counts, 0}, {hear_statuses, 0},         {fill_outage, LOST_POLLS},
     {hear_lengths, 0},          {begin_out, 33},  {lose_answers, 33},         {fill_outage, UNREADABLE},
     {fill_outage, STALE},       {hear_types, 0},  {send_commands, 0},         {fill_outage, OTHER},
     {fill_outage, LOST_ANSWERS}, {hear_strangers, 0}, {repeat_frames, 300},   {hear_all_blocks, 0},
@@ -266,7 +284,7 @@ void conformance_cpu_edge(struct script *script, unsigned number, size_t most, u
     edge.most = most < CONFORMANCE_LONGEST ? most : (size_t)CONFORMANCE_LONGEST;
     edge.state = state;
     edge.levels = ALL;
-    edge.number = (uint8_t)(number % 2 == 0 ? 250 + conformance_below(state, 6) : conformance_below(state, 256));
+    edge.number = conformance_block_number(state);
     script->id = 2;
     script->per_block = FIO2070_MOST_ENTRIES;
     script->number = edge.number;

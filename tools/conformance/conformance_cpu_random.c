@@ -194,8 +194,7 @@ static void begin(struct growth *growth, struct script *script, const struct cpu
     memset(&none, 0, sizeof none);
     script->id = 2;
     script->per_block = FIO2070_MOST_ENTRIES;
-    script->number =
-        (uint8_t)(conformance_below(state, 2) == 0 ? 250 + conformance_below(state, 6) : conformance_below(state, 256));
+    script->number = conformance_block_number(state);
     growth->script = script;
     growth->course.levels = growth->course.moving = ~(uint64_t)0;
     growth->is_orderly = conformance_below(state, 1000) < mix->orderly;

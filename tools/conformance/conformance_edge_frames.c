@@ -229,6 +229,27 @@ static void try_types(struct edge *edge, unsigned given) {
     ask_all(edge);
 }
 
+/* Each command often, and refused frames and LINESYNC more often than an octet counts to. */
+static void repeat_all(struct edge *edge, unsigned given) {
+    uint8_t octets[17], type;
+    memset(octets, 0, sizeof octets);
+    conformance_edge_open(edge, 1, 1);
+    for (type = FIO2070_TYPE_STATUS; type <= FIO2070_TYPE_IDENTIFY; type++) {
+        octets[0] = type;
+        for (given = 0; given < 33; given++) add(edge, octets, right_length(type));
+    }
+    use(edge);
+    for (given = 0; given < 260; given++) add(edge, octets, given % 4 == 0 ? 0 : 2);
+    use(edge);
+    for (given = 0; given < 70; given++) conformance_edge_event(edge, EVENT_SYNC);
+    load(edge, 0);
+    for (given = 0; given < 12; given++) {
+        conformance_edge_open(edge, (uint8_t)(1 + given % 2), (uint8_t)(1 + given % 2));
+        conformance_edge_change(edge, ALL);
+        conformance_edge_poll(edge, 1);
+    }
+}
+
 /* ---- Between samples and entries ---- */
 
 enum { INTERRUPTIONS = 28 };
@@ -273,4 +294,5 @@ static void interrupt_all(struct edge *edge, unsigned given) {
 
 const struct edge_row CONFORMANCE_EDGE_FRAME_ROWS[CONFORMANCE_EDGE_FRAMES] = {
     {ask_at_start, 0}, {set_timeouts, 0}, {set_outputs, 0}, {restart, 0},       {clear_flags, 0}, {load, 0},
-    {refuse_items, 0}, {configure, 0},    {try_lengths, 0}, {interrupt_all, 0}, {try_types, 0},   {restart_and_poll, 0}};
+    {refuse_items, 0}, {configure, 0},    {try_lengths, 0}, {interrupt_all, 0}, {try_types, 0},   {restart_and_poll, 0},
+    {repeat_all, 0}};

@@ -63,6 +63,11 @@ size_t conformance_write_load(uint8_t *octets, uint32_t number) {
     return 5;
 }
 
+uint8_t conformance_block_number(uint64_t *state) {
+    if (conformance_below(state, 2) == 0) return (uint8_t)conformance_below(state, 256);
+    return (uint8_t)(254 + conformance_below(state, 4));
+}
+
 unsigned conformance_run_length(uint64_t *state) {
     static const unsigned counted[] = {10, 11, 16, 17, 20, 21, 32, 33, 50, 51, 64, 65, 100, 101, 128, 129, 255, 256, 257, 300};
     if (conformance_below(state, 4) == 0) return 10 + conformance_below(state, 291);
@@ -192,7 +197,7 @@ void conformance_edge(struct script *script, const struct maker *maker, unsigned
     edge.most = most < CONFORMANCE_LONGEST ? most : (size_t)CONFORMANCE_LONGEST;
     edge.state = state;
     edge.levels = ALL;
-    edge.number = (uint8_t)conformance_below(state, 256);
+    edge.number = conformance_block_number(state);
     script->id = maker->id;
     script->per_block = maker->per_block;
     row = number < CONFORMANCE_EDGE_FRAMES ? &CONFORMANCE_EDGE_FRAME_ROWS[number] : &ROWS[number - CONFORMANCE_EDGE_FRAMES];

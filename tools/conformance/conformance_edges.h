@@ -11,6 +11,9 @@ extern const unsigned CONFORMANCE_EDGES, CONFORMANCE_CPU_EDGES;
 void conformance_edge(struct script *script, const struct maker *maker, unsigned number, size_t most, uint64_t *state);
 void conformance_cpu_edge(struct script *script, unsigned number, size_t most, uint64_t *state);
 
+/* A number of a block: often one about 0. */
+uint8_t conformance_block_number(uint64_t *state);
+
 /* How many times in a row something happens, 10 to 300: mostly a number that programs count up to. */
 unsigned conformance_run_length(uint64_t *state);
 
@@ -31,7 +34,7 @@ struct edge_row {
 };
 
 /* Those of frames that come to a module; they are the shorter ones. */
-enum { CONFORMANCE_EDGE_FRAMES = 12 };
+enum { CONFORMANCE_EDGE_FRAMES = 13 };
 extern const struct edge_row CONFORMANCE_EDGE_FRAME_ROWS[CONFORMANCE_EDGE_FRAMES];
 
 void conformance_edge_event(struct edge *edge, enum event_kind kind);

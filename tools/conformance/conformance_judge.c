@@ -196,6 +196,10 @@ static enum rule judge_module(const struct ends *ends, const struct script *scri
     if (rule == RULES) rule = rule_of_lack(ends, script, both, &exercised);
     if (rule == RULES) rule = first_step(ends, script, both, &exercised);
     if (rule == RULES && both->fields == FIELD_BIT(BLOCK_STAMP)) rule = RULE_BLOCK_STAMP;
+    if (rule == RULES && both->fields == FIELD_BIT(INPUTS) && code == FIO2070_TYPE_FILTERED_INPUTS && !both->is_whole &&
+        conformance_comes_from_start(ends, script)) {
+        rule = RULE_FILTERS_AT_START;
+    }
     return rule != RULES ? rule : rule_of_command(code, both->fields, &both->exercised);
 }
 
@@ -239,9 +243,22 @@ static enum rule rule_of_items(const struct difference *both) {
     return conformance_has(&both->exercised, RULE_WIDE_AROUND) ? RULE_WIDE_AROUND : RULE_WIDE_TIME;
 }
 
+/* The rule at which the CPU's end crashed or hung. */
+static enum rule rule_of_failure(const struct rule_set *event) {
+    static const enum rule rules[] = {RULE_UNREADABLE,  RULE_OTHER_ANSWER, RULE_TAKEN_ONCE,      RULE_STALE,
+                                      RULE_EMPTY_BLOCK, RULE_GAP_MARK,     RULE_BLOCK_LENGTH,    RULE_UNNAMED_BITS,
+                                      RULE_HIGH_INPUT,  RULE_TAKEN_WHOLE,  RULE_SAME_UNTIL_TAKEN};
+    size_t row;
+    for (row = 0; row < sizeof rules / sizeof rules[0]; row++) {
+        if (conformance_has(event, rules[row])) return rules[row];
+    }
+    return RULE_POLL_NUMBER;
+}
+
 static enum rule judge_cpu(const struct ends *ends, const struct script *script, const struct difference *both) {
     static const enum rule heard[] = {RULE_UNREADABLE, RULE_OTHER_ANSWER, RULE_TAKEN_ONCE, RULE_STALE};
     size_t row;
+    if (both->fields & FIELD_BIT(FAILURE)) return rule_of_failure(&both->exercised);
     if (both->fields & FIELD_BIT(POLL)) {
         return conformance_has(&both->exercised, RULE_SAME_UNTIL_TAKEN) ? RULE_SAME_UNTIL_TAKEN : RULE_POLL_NUMBER;
     }

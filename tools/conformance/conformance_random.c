@@ -141,7 +141,7 @@ void conformance_random(struct script *script, const struct maker *maker, const 
     struct mix themed;
     size_t length, silence, first;
     course.theme = random_theme(mix, state);
-    course.number = conformance_below(state, 256);
+    course.number = conformance_block_number(state);
     course.levels = ~(uint64_t)0;
     course.moving = conformance_moving(course.theme, state);
     themed = mix_of(mix, course.theme);

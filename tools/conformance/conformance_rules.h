@@ -66,7 +66,7 @@ enum field {
     RULE(AT_MODULE, COUNTER_AROUND, "counter-around", OWN, 0, "Counter", \
          "A scan first steps the counter by one, from 4,294,967,295 to 0") \
     RULE(AT_MODULE, LOAD_AT_SYNC, "load-at-sync", TEES, 0, "Counter", \
-         "Command 50 asks for a load. It happens when LINESYNC next goes from 0 to 1") \
+         "Command 50 asks for a load: when LINESYNC next goes from 0 to 1, the counter is set to that number.") \
     RULE(AT_MODULE, LOAD_ANSWER, "load-answer", OWN, FIELD_BIT(STATUS) | FIELD_BIT(PRESENCE), "Counter", \
          "The answer 178 goes out when the command is received, with S = 0.") \
     RULE(AT_MODULE, LATER_LOAD, "later-load", OWN, 0, "Counter", \

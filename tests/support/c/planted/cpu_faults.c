@@ -1,10 +1,9 @@
 /* The planted faults of a CPU's end, from the sentences of docs/PROTOCOL.md. */
 #include "quirks.h"
 
-#define FAULT(name, quirk, value) {name, CPU_##quirk, value, 100000}
-#define RARE(name, quirk, value) {name, CPU_##quirk, value, 1000000}
+#define FAULT(name, quirk, value) {name, CPU_##quirk, value}
 
-const struct fault CPU_FAULTS[] = {
+static const struct fault FAULTS[] = {
     /* Number */
     FAULT("polls have the type 53", POLL_TYPE, 53),
     FAULT("polls have the type of an answer", POLL_TYPE, 182),
@@ -172,8 +171,24 @@ const struct fault CPU_FAULTS[] = {
     FAULT("there is one gap mark at most", GAP_ONCE, 1),
     FAULT("the first block has no gap mark", FIRST_GAP_LEFT_OUT, 1),
     FAULT("a gap mark takes the place of the last entry", GAP_COUNTS_AS_ENTRY, 1),
+    /* It ends, or hangs */
+    FAULT("the CPU ends at an empty frame", CRASH_WHEN_EMPTY, 1),
+    FAULT("the CPU ends at frames of over 773 octets", CRASH_FROM_LENGTH, 774),
+    FAULT("the CPU ends at the 120th poll for a block", CRASH_AT_TRY, 120),
+    FAULT("the CPU hangs at 256 items", HANG_AT_ITEMS, 256),
     /* The record */
     FAULT("the record ends at 1,000 items", RECORD_ROOM, 1000),
-    RARE("the record ends at 30,000 items", RECORD_ROOM, 30000)};
+    FAULT("the record ends at 30,000 items", RECORD_ROOM, 30000),
+    FAULT("an entry like the one before is left out", EQUAL_LEFT, 1),
+    FAULT("a block like the one before is left out", SAME_BLOCK_LEFT, 1),
+    FAULT("entries are sorted by stamp", SORTED_BY_STAMP, 1),
+    FAULT("the flag P starts the numbers anew", FLAGS_RESET, 1),
+    FAULT("the answer after an unreadable one is left", UNREADABLE_LEAVES_NEXT, 1),
+    FAULT("the answer after a stale one is left", STALE_LEAVES_NEXT, 1),
+    FAULT("after five polls for a block its first entry is left out", OUTAGE_FIRST_ENTRY, 5),
+    FAULT("after 40 polls for a block its first entry is left out", OUTAGE_FIRST_ENTRY, 40),
+    FAULT("the first entry of a block with E is left out", AGAIN_FIRST_ENTRY, 1),
+    FAULT("wide times have 31 bits", WIDE_MOST_BITS, 31),
+    FAULT("an identification is the next number", IDENTITY_SETS, 1)};
 
-const size_t CPU_FAULT_COUNT = sizeof CPU_FAULTS / sizeof CPU_FAULTS[0];
+const struct fault_list CPU_FAULTS = {FAULTS, sizeof FAULTS / sizeof FAULTS[0]};

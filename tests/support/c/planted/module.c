@@ -1,14 +1,12 @@
 /* A module written from docs/PROTOCOL.md, with its quirks: its start, its scans and the frames that it takes. */
 #include "module.h"
 
-#include <signal.h>
 #include <string.h>
 
 #define QUIRK_VALUE(name, right) right,
 static const int RIGHT[MODULE_QUIRK_COUNT] = {MODULE_QUIRKS(QUIRK_VALUE)};
 int module_quirks[MODULE_QUIRK_COUNT];
 struct module_state module;
-int module_speaks;
 
 uint32_t module_low_bits(uint32_t number, int bits) {
     return bits >= 32 ? number : number & ((UINT32_C(1) << bits) - 1);
@@ -57,7 +55,7 @@ static void reset(void *context) {
     module.was_lost = 0;
     module.before = module.raw;
     module.scans = module.polls = module.blocks = module.entries = module.repeats = module.silent = 0;
-    module.identified = 0;
+    module.identified = module.syncs = module.loads = module.refused = module.configurations = 0;
     module.has_outputs = 0;
     memset(module.was_number, 0, sizeof module.was_number);
 }
@@ -76,14 +74,16 @@ void module_add_entry(unsigned input, unsigned state) {
     entry.state = (uint8_t)(state ^ (unsigned)Q(STATE_TURNED));
     entry.stamp = (uint16_t)(stamp >> Q(STAMP_SHIFT));
     if (++module.entries == (unsigned long)Q(DROPPED_ENTRY) || entry.stamp == Q(STAMP_LEFT)) return;
-    if (module.count >= (size_t)Q(CRASH_ON_ENTRIES)) module_crash();
+    if (module.count >= (size_t)Q(CRASH_ON_ENTRIES)) crash();
     if (module.count + (Q(KEPT_WAITS) ? module.in_block : 0) >= (size_t)Q(MOST_WAITING)) {
         module.is_lost = 1;
+        if (Q(OVERFLOW_SETS_FLAG)) module.flags |= 32;
         if (Q(NEWEST_PUSHED_OUT)) return;
         if (Q(ALL_PUSHED_OUT)) module.count = 1;
         if (module.count > 0) push_out(0);
     }
     if (module.count < ROOM) module.waiting[module.count++] = entry;
+    if (Q(LOST_AT_FULL) && module.count == 1024) module.is_lost = 1;
 }
 
 /* How many samples change a state, with the filter as it is configured. */
@@ -106,6 +106,8 @@ static int sample(unsigned input, uint64_t levels) {
         if (Q(SAMPLES_COUNT_DOWN) && module.run[input] > 0) module.run[input]--;
         return 0;
     }
+    if (Q(FILTERS_ARE_LEAST) && module.trailing[input] < module.leading[input]) is_leading = 0;
+    if (Q(FILTERS_ARE_LEAST) && module.leading[input] < module.trailing[input]) is_leading = 1;
     needed = is_leading ? samples_of(module.leading[input], Q(LEADING_PLUS))
                         : samples_of(module.trailing[input], Q(TRAILING_PLUS));
     if (++module.run[input] < needed) return 0;
@@ -134,6 +136,15 @@ static void count_up(void) {
     }
 }
 
+/* The levels that are sampled, where many change. */
+static uint64_t with_mask(uint64_t levels) {
+    uint64_t left;
+    int changed = 0;
+    for (left = levels ^ module.before; left != 0; left &= left - 1) changed++;
+    if (Q(SCAN_MASK_BITS) == 64 || changed <= 33) return levels;
+    return (levels & 0xffffffff) | (module.before & ~UINT64_C(0xffffffff));
+}
+
 static void stay_silent(void) {
     if (++module.silent == (unsigned long)Q(SILENCE_DROPS)) module.count = 0;
     if (module.silent != (unsigned long)Q(SILENCE_FORGETS)) return;
@@ -147,6 +158,7 @@ static void step(void *context, uint64_t inputs) {
     if (!Q(STEPS_AFTER_SAMPLING)) count_up();
     module.before = module.raw;
     module.raw = inputs;
+    inputs = with_mask(inputs);
     if (module.scans == 0 || module.scans != (unsigned long)Q(SCAN_WITHOUT_SAMPLES)) scan_inputs(inputs);
     if (Q(STEPS_AFTER_SAMPLING)) count_up();
 }
@@ -154,6 +166,8 @@ static void step(void *context, uint64_t inputs) {
 void module_drop_samples(void) { memset(module.run, 0, sizeof module.run); }
 
 void module_line_sync(void) {
+    if (++module.syncs > (unsigned long)Q(SYNCS_MOST)) return;
+    if (module.is_asked && ++module.loads > (unsigned long)Q(LOADS_MOST)) module.is_asked = 0;
     if (module.is_asked && Q(LOAD_IS_DONE)) module.counter = module_low_bits(module.load, Q(LOAD_BITS)) + (uint32_t)Q(LOAD_PLUS);
     if (!module.is_asked && Q(SYNC_CLEARS_COUNTER)) module.counter = 0;
     if (Q(SYNC_STEPS)) module.counter++;
@@ -180,6 +194,7 @@ static int length_of(const uint8_t *octets, size_t length) {
 /* Octets that spell no command. */
 static size_t refuse(const uint8_t *octets, size_t length, uint8_t *out) {
     if (module.errors < 255) module.errors++;
+    module.refused++;
     if (Q(REFUSED_CLEARS_LOAD)) module.is_asked = 0;
     if (length == 0 && Q(EMPTY_IS_STATUS)) {
         out[0] = 177;
@@ -191,23 +206,12 @@ static size_t refuse(const uint8_t *octets, size_t length, uint8_t *out) {
     return Q(UNKNOWN_ANSWERED) ? 1 : 0;
 }
 
-/* The process ends as after a fault of memory. */
-void module_crash(void) {
-    if (module_speaks) fputs("module: bad access\n", stderr);
-    raise(SIGSEGV);
-}
-
-void module_hang(void) {
-    volatile int is_held = 1;
-    while (is_held) continue;
-}
-
 /* Frames on which a module ends, or goes on for ever. */
 static void fail_at(const uint8_t *octets, size_t length) {
     int type = length > 0 ? octets[0] : -1, count = length > 1 && type == FIO2070_TYPE_CONFIGURE_INPUTS ? octets[1] : -1;
-    if (length >= (size_t)Q(CRASH_FROM_LENGTH) || (length == 0 && Q(CRASH_WHEN_EMPTY))) module_crash();
-    if (type == Q(CRASH_AT_TYPE) || (count == Q(CRASH_AT_ITEMS) && count >= 0)) module_crash();
-    if ((type == Q(HANG_AT_TYPE) && type >= 0) || (count == Q(HANG_AT_ITEMS) && count >= 0)) module_hang();
+    if (length >= (size_t)Q(CRASH_FROM_LENGTH) || (length == 0 && Q(CRASH_WHEN_EMPTY))) crash();
+    if (type == Q(CRASH_AT_TYPE) || (count == Q(CRASH_AT_ITEMS) && count >= 0)) crash();
+    if ((type == Q(HANG_AT_TYPE) && type >= 0) || (count == Q(HANG_AT_ITEMS) && count >= 0)) hang();
 }
 
 static size_t exchange(void *context, const uint8_t *octets, size_t length, uint8_t answer[FIO2070_LONGEST_FRAME]) {
@@ -225,6 +229,7 @@ static size_t exchange(void *context, const uint8_t *octets, size_t length, uint
     if (needed > 0 && (given > needed + Q(OCTETS_TOO_MANY) || given + Q(OCTETS_TOO_FEW) < needed)) {
         return refuse(frame, length, answer);
     }
+    if (module.refused >= (unsigned long)Q(REFUSED_MOST)) return 0;
     return module_command(frame, answer);
 }
 

@@ -31,7 +31,8 @@ extern struct module_state {
     size_t in_block;
     uint8_t kept[FIO2070_LONGEST_FRAME];
     size_t kept_length;
-    unsigned long scans, polls, blocks, entries, repeats, silent, identified;
+    unsigned long scans, polls, blocks, entries, repeats, silent, identified, syncs, loads, refused, configurations;
+    uint32_t polled;
 } module;
 
 uint32_t module_low_bits(uint32_t number, int bits);
@@ -45,9 +46,5 @@ size_t module_put_stamp(uint8_t *out, uint32_t stamp);
 /* The answer to a poll, and to a command. */
 size_t module_poll(uint8_t number, uint8_t *out);
 size_t module_command(const uint8_t *octets, uint8_t *out);
-
-/* Does not return: the process ends, or goes on for ever. */
-void module_crash(void);
-void module_hang(void);
 
 #endif

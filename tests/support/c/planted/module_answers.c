@@ -19,7 +19,7 @@ static size_t answer_status(const uint8_t *octets, uint8_t *out) {
     out[1] = Q(CLEAR_AFTER) ? before : module.flags;
     out[2] = (uint8_t)(Q(ERRORS) + (Q(ERRORS_COUNTED) ? module.errors : 0));
     out[3] = 0;
-    return 4 + module_put_stamp(out + 4, module.counter);
+    return 4 + module_put_stamp(out + 4, Q(STATUS_STAMP_LATE) ? module.polled : module.counter);
 }
 
 static size_t answer_load(const uint8_t *octets, uint8_t *out) {
@@ -81,6 +81,7 @@ static size_t answer_configuration(const uint8_t *octets, uint8_t *out) {
     int is_refused = absent < count || (int)count > Q(MOST_ITEMS);
     out[1] = (uint8_t)(absent < count ? Q(ABSENT_STATUS) : count == 0 ? Q(NO_ITEMS_STATUS) : Q(ITEMS_STATUS));
     if ((int)count > Q(MOST_ITEMS)) out[1] = 1;
+    if (++module.configurations == (unsigned long)Q(CONFIGURATION_LEFT)) return 2;
     if (!is_refused) apply_items(octets, count);
     if (is_refused && Q(ABSENT_APPLIES) == 1) apply_items(octets, absent);
     if (is_refused && Q(ABSENT_APPLIES) >= 2) apply_items(octets, count);
@@ -107,6 +108,10 @@ static int is_left(const uint8_t *levels) {
 static size_t answer_outputs(const uint8_t *octets, uint8_t *out) {
     if ((!Q(OUTPUTS_SET_ONCE) || !module.has_outputs) && !is_left(octets + 1)) memcpy(module.outputs, octets + 1, (size_t)Q(OUTPUTS_KEPT));
     module.has_outputs = 1;
+    if (Q(CONTROLS_FIRST)) {
+        memcpy(module.outputs, octets + 9, 8);
+        memcpy(module.outputs + 8, octets + 1, 8);
+    }
     out[1] = (uint8_t)Q(OUTPUTS_FIRST);
     module_put_stamp(out + 2, Q(OUTPUTS_STAMPED) ? module.counter : 0);
     return 1 + (size_t)Q(OUTPUTS_LENGTH);
@@ -136,7 +141,7 @@ size_t module_command(const uint8_t *octets, uint8_t *out) {
     case FIO2070_TYPE_STATUS: return answer_status(octets, out);
     case FIO2070_TYPE_LOAD_COUNTER: return answer_load(octets, out);
     case FIO2070_TYPE_CONFIGURE_INPUTS: return answer_configuration(octets, out);
-    case FIO2070_TYPE_RAW_INPUTS: return answer_inputs(Q(RAW_IS_FILTERED) ? module.filtered : module.raw, out);
+    case FIO2070_TYPE_RAW_INPUTS: return answer_inputs(Q(RAW_IS_FILTERED) ? module.filtered : Q(RAW_IS_LATE) ? module.before : module.raw, out);
     case FIO2070_TYPE_FILTERED_INPUTS: return answer_inputs(Q(FILTERED_IS_RAW) ? module.raw : module.filtered | (Q(IGNORED_SHOWN) ? module.ignored : 0), out);
     case FIO2070_TYPE_POLL: return module_poll(octets[1], out);
     case FIO2070_TYPE_SET_OUTPUTS: return answer_outputs(octets, out);

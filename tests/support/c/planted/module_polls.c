@@ -67,6 +67,7 @@ static size_t repeat_block(uint8_t *out) {
     if (Q(REPEAT_MASK) == 255) *status &= 0xfe;
     if (Q(AGAIN_SET) && !(Q(AGAIN_ONCE) && module.is_repeated) && (int)module.repeats <= Q(AGAIN_MOST)) *status |= 2;
     if (Q(REPEAT_CLEARS_LOST)) module.is_lost = 0;
+    if (Q(REPEAT_KEEPS_LOST) && (*status & 4)) module.is_lost = 1;
     if (Q(REPEAT_MORE_IS_NEW)) *status = (uint8_t)((*status & ~8) | (module.count > 0 ? 8 : 0));
     if (Q(REPEAT_STAMP_IS_NEW)) module_put_stamp(status + 1, module.counter);
     module.is_repeated = 1;
@@ -85,6 +86,7 @@ static size_t new_block(uint8_t number, uint8_t *out) {
     if (Q(STRAY_EMPTIES) && module.has_polled && number != (uint8_t)(module.number + 1)) module.count = 0;
     status = status_of(number, waited);
     take_entries();
+    module.polled = module.counter;
     module.kept_length = write_block(number, status, module.kept);
     memcpy(out, module.kept, module.kept_length);
     module.blocks++;
@@ -104,7 +106,7 @@ size_t module_poll(uint8_t number, uint8_t *out) {
     if (is_stray && Q(STRAY_GIVES_OLD)) is_again = 1;
     module.repeats = is_again ? module.repeats + 1 : 0;
     if ((int)module.repeats > Q(MOST_REPEATS)) is_again = 0;
-    if (module.repeats == (unsigned long)Q(CRASH_AT_REPEAT)) module_crash();
+    if (module.repeats == (unsigned long)Q(CRASH_AT_REPEAT)) crash();
     length = is_again ? repeat_block(out) : new_block(number, out);
     if (!is_stray || Q(STRAY_IS_CURRENT)) module.number = number;
     module.has_polled = 1;
