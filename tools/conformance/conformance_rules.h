@@ -140,7 +140,7 @@ enum field {
     RULE(AT_MODULE, OUTPUTS_KEPT, "outputs-kept", OWN, FIELD_BIT(OUTPUTS), "Other commands", \
          "the data and control octets are kept, all 0 at the start.") \
     RULE(AT_MODULE, OUTPUTS_ANSWER, "outputs-answer", OWN, FIELD_BIT(BODY) | FIELD_BIT(PRESENCE), "Other commands", \
-         "183 has the octet 0 and the stamp, five octets.") \
+         "The body of 183 is the octet 0 and then the stamp: a frame of six octets.") \
     RULE(AT_MODULE, WATCHDOG_TIMEOUT, "watchdog-timeout", TEES, FIELD_BIT(TIMEOUT), "Other commands", \
          "the timeout is set, where less than 10 ms counts as 10 and more than 100 ms as 100.") \
     RULE(AT_MODULE, WATCHDOG_BEFORE, "watchdog-before", TEES, FIELD_BIT(STATUS), "Other commands", \

@@ -203,12 +203,22 @@ static int is_told_by(struct run *run, enum rule rule) {
     return length == 0 && !ignored.has_failed;
 }
 
+/* Rules without whose events there is hardly anything left to compare. */
+static void put_needed(struct rule_set *rules) {
+    static const enum rule needed[] = {RULE_FIRST_POLL,  RULE_NEW_BLOCK,   RULE_BLOCK_STAMP, RULE_BLOCK_NUMBER,
+                                       RULE_ANSWER_TYPE, RULE_COUNTER_STEP, RULE_COUNTER_AT_START, RULE_ITEMS_APPLY,
+                                       RULE_ITEM_SETS,   RULE_POLL_NUMBER, RULE_NUMBER_RISES, RULE_TAKEN_WHOLE};
+    size_t row;
+    for (row = 0; row < sizeof needed / sizeof needed[0]; row++) conformance_put(rules, needed[row]);
+}
+
 /* Of the rules without whose events the script shows nothing, the one that the fewest events of the run exercised;
  * RULES where there is none. */
 static enum rule other_rule(struct run *run) {
     struct rule_set exercised, tried = run->ends.left_out;
     enum rule rarest;
     int rule;
+    put_needed(&tried);
     conformance_exercised(&run->ends, &run->script, &exercised);
     do {
         rarest = RULES;
@@ -221,12 +231,14 @@ static enum rule other_rule(struct run *run) {
     return rarest;
 }
 
-/* A rule is passed over already, and a difference is in it again. The run goes on without another rule that the script
- * needs, and a while without. */
+/* A rule is passed over already, and a difference is in it again: it is reported once more. The run goes on without another
+ * rule that the script needs; where there is none, as it is. */
 static void tell_apart(struct run *run, enum rule rule) {
-    enum rule other;
-    write_report(run, rule, "# This rule is passed over already: it may be the same fault as above, or another one.\n");
-    other = other_rule(run);
+    enum rule other = other_rule(run);
+    if (!conformance_has(&run->again, rule)) {
+        write_report(run, rule, "# This rule is passed over already: it may be the same fault as above, or another one.\n");
+    }
+    conformance_put(&run->again, rule);
     if (other != RULES) {
         conformance_put(&run->ends.left_out, other);
         conformance_put(&run->result->also_left_out, other);

@@ -82,6 +82,19 @@ static int run(struct setup *setup, int count, char **words) {
     return status;
 }
 
+/* No WIRE was opened: says at which word. */
+static int refuse(int count, char **words, int place, int taken) {
+    int is_help = count == 2 && strcmp(words[1], "--help") == 0;
+    if (!is_help && place < count && taken == 0) {
+        printf("%s before WIRE is no option: those of the tester come after it, see --help\n", words[place]);
+    } else if (!is_help && place < count) {
+        printf("%s has no word after it, see --help\n", words[place]);
+    } else {
+        fputs(HELP, stdout);
+    }
+    return is_help ? 0 : 2;
+}
+
 int main(int count, char **words) {
     static struct setup setup;
     int place = 1, taken = 1;
@@ -93,10 +106,7 @@ int main(int count, char **words) {
         taken = read_option(&setup, words[place], words[place + 1]);
         place += taken;
     }
-    if (setup.opened == NULL) {
-        fputs(HELP, stdout);
-        return count == 2 && strcmp(words[1], "--help") == 0 ? 0 : 2;
-    }
+    if (setup.opened == NULL) return refuse(count, words, place, taken);
     if (!setup.is_open || setup.id < 0 || setup.id > 255 || setup.per_block < 1 || setup.per_block > 255) {
         printf(setup.is_open ? "a number is out of its range\n" : "can't open %s\n", setup.opened);
         return 2;
