@@ -53,7 +53,7 @@ static void answer(const struct fresh *fresh, const struct ends *given, const st
 
 /* In the process that waits. */
 static void wait_for_scripts(const struct fresh *fresh, const struct ends *ends) {
-    static const struct difference nothing;
+    static struct difference nothing; /* all 0 */
     static const size_t no_event = 0;
     struct request request;
     while (reads(fresh->to, &request, sizeof request)) {

@@ -109,12 +109,12 @@ int conformance_wire_socket(struct wire *wire, const char *address) { return beg
 static int read_errors(struct wire *wire) {
     char octets[1024];
     ssize_t count = read(wire->errors, octets, sizeof octets);
-    size_t length = count > 0 ? (size_t)count : 0, left;
+    size_t length = 0, left = wire->tail_length;
     if (count <= 0) return 0;
-    if (wire->hurry == NO_TRIAL) fwrite(octets, 1, length, stderr);
-    left = wire->tail_length + length > WIRE_TAIL ? WIRE_TAIL - (length < WIRE_TAIL ? length : WIRE_TAIL) : wire->tail_length;
+    if (wire->hurry == NO_TRIAL) fwrite(octets, 1, (size_t)count, stderr);
+    length = count < WIRE_TAIL ? (size_t)count : (size_t)WIRE_TAIL;
+    if (left > WIRE_TAIL - length) left = WIRE_TAIL - length;
     memmove(wire->tail, wire->tail + wire->tail_length - left, left);
-    if (length > WIRE_TAIL) length = WIRE_TAIL;
     memcpy(wire->tail + left, octets + (size_t)count - length, length);
     wire->tail_length = left + length;
     return 1;
@@ -198,7 +198,8 @@ static int take_line(struct wire *wire, char line[WIRE_LONGEST_LINE]) {
 }
 
 static long deadline_of(const struct wire *wire) {
-    long hurried = HURRIED_TIMES * wire->slowest_ms < HURRIED_MS ? HURRIED_MS : HURRIED_TIMES * wire->slowest_ms;
+    long hurried = HURRIED_TIMES * wire->slowest_ms;
+    if (hurried < HURRIED_MS) hurried = HURRIED_MS;
     return wire->hurry == HURRIED_TRIAL && !wire->is_new && hurried < wire->deadline_ms ? hurried : wire->deadline_ms;
 }
 

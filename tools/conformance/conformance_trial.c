@@ -21,7 +21,7 @@ void conformance_begin_trials(struct shrinking *shrinking, const struct ends *en
     shrinking->fresh = fresh;
     shrinking->script = script;
     shrinking->difference = difference;
-    shrinking->most = ends->most_tried > 0 ? ends->most_tried : MOST_TRIED;
+    shrinking->most = ends->most_tried > 0 ? ends->most_tried : (unsigned long)MOST_TRIED;
     shrinking->fails = difference->failure[0] != '\0';
     if (!shrinking->fails) return;
     shrinking->until_ms = conformance_now_ms() + MOST_MS;
