@@ -153,7 +153,7 @@ def script_of(report):
 def is_long(name):
     """Whether a fault comes only after many events: its name has a number above 12, or says so."""
     numbers = [int(number.replace(',', '')) for number in re.findall(r'\d[\d,]*', name)]
-    return any(number > 12 for number in numbers) or re.search('filter|came round|57 entries', name)
+    return any(number > 12 for number in numbers) or re.search('filter|came round|57 entries|overflow', name)
 
 
 def planted_faults(check, program):

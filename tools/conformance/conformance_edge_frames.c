@@ -246,6 +246,7 @@ static void repeat_all(struct edge *edge, unsigned given) {
     for (given = 0; given < 12; given++) {
         conformance_edge_open(edge, (uint8_t)(1 + given % 2), (uint8_t)(1 + given % 2));
         conformance_edge_change(edge, ALL);
+        conformance_edge_scans(edge, 1);
         conformance_edge_poll(edge, 1);
     }
 }
