@@ -102,6 +102,17 @@ struct options {
     FILE *kept;               /* the reports are written here too, for conformance_junit; NULL where none asks for them */
 };
 
+/* What follows: no trial, one of a difference that was seen, or many, in which a hang may be seen sooner. */
+enum hurry { NO_TRIAL, TRIAL, HURRIED_TRIAL };
+
+/* An end that is no code of this process: whether it failed, and how to go on. */
+struct outside {
+    void *context;
+    const char *(*failure)(void *context); /* how it failed, in lines; NULL where it did not */
+    int (*begin_anew)(void *context);      /* after a failure. Returns 0 where it can't be asked any more */
+    void (*hurry)(void *context, enum hurry hurry);
+};
+
 /* What is under test: one of the two is NULL. */
 struct ends {
     const struct maker *module;
@@ -110,6 +121,8 @@ struct ends {
     struct rule_set left_out; /* rules whose events are not done */
     int has_own_clock;        /* the module samples by a clock of its own: what depends on it is judged by bounds */
     unsigned long most_tried; /* events of trials that shrink a script; 0 for 20,000,000 */
+    const struct outside *outside; /* NULL for an end that is code of this process */
+    int guard_ms; /* calls of this process that crash, or go on for so long, are caught; 0: they are not */
 };
 
 /* What a run found. */
@@ -118,9 +131,13 @@ struct result {
     unsigned long found[RULES];             /* the event of the run at which a difference in it came, from 1 */
     size_t shortest[RULES];                 /* how many events its script has; 0 where none was found */
     long begins[RULES], ends[RULES];        /* where its report stands in `kept` */
-    unsigned differences;
-    int has_failed; /* a call returned CONFORMANCE_FAILED */
-    int is_lost;    /* a difference could not be told from those before, and the run ended */
+    unsigned long once[RULES];              /* scripts with a difference in it that did not come again */
+    struct rule_set reported;               /* rules with a difference that came again */
+    struct rule_set also_left_out;          /* since a difference could not be told from those before */
+    unsigned differences, reports;
+    int has_failed; /* the end under test can't be asked any more, and the run ended */
+    int is_lost;    /* differences in the rule `lost` could not be told from those before, and the run ended */
+    enum rule lost;
 };
 
 /* Runs random scripts, writes each rule in which a difference is found with its script, and goes on without what
@@ -178,7 +195,10 @@ struct script {
 struct difference {
     uint32_t fields;           /* in which they differ: a FIELD_BIT for each */
     struct rule_set exercised; /* by the event */
-    int has_failed;            /* a call returned CONFORMANCE_FAILED, and nothing was compared */
+    int has_failed;            /* the end under test can't be asked any more, and nothing was compared */
+    int is_whole;              /* the script has events that the difference does not need: it was not shrunk */
+    int is_reset_failed;       /* it failed when it was reset, and not when it was begun anew */
+    char failure[1200];        /* how it crashed or hung at the last event, in lines; empty where it did not */
     size_t frame_length;       /* of the frame that came to the end under test */
     uint8_t frame[CONFORMANCE_LONGEST_FRAME];
     size_t expected_length, got_length; /* of the answers, or of the polls; 0 where the CPU's end heard a frame */
@@ -211,9 +231,10 @@ void conformance_cpu_random(struct script *script, const struct cpu_mix *mix, si
 size_t conformance_compare(const struct ends *ends, const struct script *script, struct difference *difference);
 
 /* Leaves out of a script what its difference does not need; where `fresh` is not NULL, what it does not need in a new
- * process. */
+ * process. The difference is then that of the last trial that showed one. */
 struct fresh;
-void conformance_shrink(const struct ends *ends, struct fresh *fresh, struct script *script);
+void conformance_shrink(const struct ends *ends, struct fresh *fresh, struct script *script,
+                        struct difference *difference);
 
 /* The rule that the difference at the end of a script is about. */
 enum rule conformance_judge(const struct ends *ends, const struct script *script, const struct difference *difference);
@@ -230,7 +251,7 @@ unsigned long conformance_read(struct script *script, FILE *in);
 
 /* Writes the frames of a script as the CPU's end under test logs them, in the format of `fio2070 check`,
  * each line after `head`. The last line is its next poll. */
-void conformance_transcript(const struct cpu_maker *maker, const struct script *script, const char *head, FILE *out);
+void conformance_transcript(const struct ends *ends, const struct script *script, const char *head, FILE *out);
 
 /* Writes a script, the difference at its last event, field by field, and the rule that it is about; of a CPU's
  * end the transcript too. */

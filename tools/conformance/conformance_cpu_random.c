@@ -1,6 +1,6 @@
 /* Random scripts of a CPU's end, on a bus that loses, repeats and delays frames. */
+#include "conformance_edges.h"
 #include "conformance_link.h"
-#include "conformance_octets.h"
 
 #include <string.h>
 
@@ -56,11 +56,20 @@ static void add_scans(struct growth *growth, unsigned count, enum theme theme) {
     }
 }
 
+/* A command beside the polls: a configuration, also one that is refused, one that reports all inputs again, or another. */
+static size_t random_command(uint8_t *octets, uint64_t *state) {
+    switch (conformance_below(state, 4)) {
+    case 0: return conformance_configuration(octets, state);
+    case 1: return conformance_open(octets, OVERFLOWING, state);
+    default: return conformance_command(octets, state);
+    }
+}
+
 /* A command of the controller, and its answer, if there is one; loads of the counter happen at once. */
 static void add_command(struct growth *growth, const struct cpu_mix *mix) {
     uint8_t octets[CONFORMANCE_LONGEST_FRAME];
     unsigned long answered = growth->link.answered;
-    add_frame(growth, EVENT_COMMAND, octets, conformance_command(octets, growth->state));
+    add_frame(growth, EVENT_COMMAND, octets, random_command(octets, growth->state));
     add(growth, EVENT_DELIVER, 0);
     if (growth->link.answered > answered && conformance_below(growth->state, 1000) >= mix->lost_answers) {
         add(growth, EVENT_ANSWER, 0);
@@ -170,14 +179,22 @@ static void add_poll(struct growth *growth, const struct cpu_mix *mix, enum them
     add_answers(growth, mix, disorder);
 }
 
+/* No poll is answered for a while: it does not come to the module, or its answer does not come back. */
+static void stay_out(struct growth *growth) {
+    unsigned left = conformance_run_length(growth->state), kind = conformance_below(growth->state, 2);
+    for (; left > 0; left--) {
+        add(growth, EVENT_POLL, 0);
+        if (kind == 0) add(growth, EVENT_DELIVER, 0);
+    }
+}
+
 static void begin(struct growth *growth, struct script *script, const struct cpu_mix *mix, uint64_t *state) {
     struct ends none;
     uint8_t octets[CONFORMANCE_LONGEST_FRAME];
     memset(&none, 0, sizeof none);
     script->id = 2;
     script->per_block = FIO2070_MOST_ENTRIES;
-    script->number =
-        (uint8_t)(conformance_below(state, 2) == 0 ? 250 + conformance_below(state, 6) : conformance_below(state, 256));
+    script->number = conformance_block_number(state);
     growth->script = script;
     growth->course.levels = growth->course.moving = ~(uint64_t)0;
     growth->is_orderly = conformance_below(state, 1000) < mix->orderly;
@@ -195,6 +212,7 @@ void conformance_cpu_random(struct script *script, const struct cpu_mix *mix, si
     begin(&growth, script, mix, state);
     while (script->length < growth.most) {
         if (conformance_below(state, 1000) < mix->others) add_command(&growth, mix);
+        if (conformance_below(state, 1000) == 0) stay_out(&growth);
         add_poll(&growth, mix, theme);
     }
 }

@@ -10,6 +10,7 @@
 /* What is asked for, beside the script. */
 struct request {
     struct rule_set masked, left_out;
+    int guard_ms;
 };
 
 /* Whether all octets were written, or read. A pipe may take, or give, a part. */
@@ -43,6 +44,7 @@ static void answer(const struct fresh *fresh, const struct ends *given, const st
     size_t event = 0;
     ends.masked = request->masked;
     ends.left_out = request->left_out;
+    ends.guard_ms = request->guard_ms;
     rewind(fresh->text);
     if (conformance_read(&script, fresh->text) == 0) event = conformance_compare(&ends, &script, &difference);
     if (!writes(fresh->from, &event, sizeof event) || !writes(fresh->from, &difference, sizeof difference)) _exit(1);
@@ -51,12 +53,18 @@ static void answer(const struct fresh *fresh, const struct ends *given, const st
 
 /* In the process that waits. */
 static void wait_for_scripts(const struct fresh *fresh, const struct ends *ends) {
+    static struct difference nothing; /* all 0 */
+    static const size_t no_event = 0;
     struct request request;
     while (reads(fresh->to, &request, sizeof request)) {
         pid_t process = fork();
+        int status = 0;
         if (process == 0) answer(fresh, ends, &request);
         if (process < 0) _exit(1);
-        waitpid(process, NULL, 0);
+        waitpid(process, &status, 0);
+        /* It ended without an answer. */
+        if (status != 0 && (!writes(fresh->from, &no_event, sizeof no_event) || !writes(fresh->from, &nothing, sizeof nothing)))
+            _exit(1);
     }
     _exit(0);
 }
@@ -103,6 +111,7 @@ size_t conformance_fresh_compare(struct fresh *fresh, const struct ends *ends, c
     memset(&request, 0, sizeof request);
     request.masked = ends->masked;
     request.left_out = ends->left_out;
+    request.guard_ms = ends->guard_ms;
     if (!writes(fresh->to, &request, sizeof request) || !reads(fresh->from, &event, sizeof event) ||
         !reads(fresh->from, difference, sizeof *difference)) {
         fresh->is_there = 0;

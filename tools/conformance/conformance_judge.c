@@ -1,6 +1,6 @@
 /* The rule of docs/PROTOCOL.md that a difference is about. A script that was shrunk has nothing that its difference
  * does not need, so the rules that it exercises say what that is. */
-#include "conformance_link.h"
+#include "conformance_suspect.h"
 
 #include <string.h>
 
@@ -49,8 +49,8 @@ static const struct suspect STEPS[] = {
     SUSPECT(FILTER_OF_ZERO, STATES),
     SUSPECT(PUSHED_OUT, STATES),
     SUSPECT(MOST_WAITING, STATES),
-    SUSPECT(IGNORED_INPUT, STATES),
     SUSPECT(FILTERS_AT_START, STATES),
+    SUSPECT(IGNORED_INPUT, STATES),
     SUSPECT(BLOCK_SIZE, FIELD_BIT(COUNT) | FIELD_BIT(MORE)),
     SUSPECT(ENTRY_ORDER, FIELD_BIT(ENTRY)),
     {RULE_SENT_AGAIN, RULE_REPEAT, STATES | ORDER},
@@ -66,6 +66,39 @@ static enum rule first_suspect(const struct suspect *suspects, size_t count, uin
     size_t row;
     for (row = 0; row < count; row++) {
         if (conformance_has(exercised, suspects[row].done) && (fields & suspects[row].fields)) return suspects[row].rule;
+    }
+    return RULES;
+}
+
+/* What changed something: of the rules that the script exercised without a need, those that it does not come from are left
+ * out. */
+static enum rule first_step(const struct ends *ends, const struct script *script, const struct difference *both,
+                            const struct rule_set *exercised) {
+    struct rule_set needed = *exercised;
+    enum rule rule;
+    for (;;) {
+        rule = first_suspect(STEPS, sizeof STEPS / sizeof STEPS[0], both->fields, &needed);
+        if (both->is_whole) return rule;
+        if ((rule != RULE_FILTERS_AT_START || conformance_comes_from_start(ends, script)) &&
+            (rule != RULE_IGNORED_INPUT || conformance_comes_from_ignored(ends, script))) {
+            return rule;
+        }
+        needed.words[rule / 64] &= ~(UINT64_C(1) << rule % 64);
+    }
+}
+
+/* The rule of samples that start anew where they must not, and of entries that a new block lacks; RULES for others. */
+static enum rule rule_of_lack(const struct ends *ends, const struct script *script, const struct difference *both,
+                              const struct rule_set *exercised) {
+    int is_block = both->frame_length == 2 && both->frame[0] == FIO2070_TYPE_POLL && both->expected_length > 2;
+    if (both->is_whole || !(both->fields & STATES)) return RULES;
+    if (conformance_interrupts_samples(ends, script)) return RULE_SAMPLES_ANEW;
+    if (!is_block || !(both->fields & FIELD_BIT(COUNT)) || both->got_length >= both->expected_length) return RULES;
+    if (conformance_has(&both->exercised, RULE_BLOCK_SIZE) || conformance_has(exercised, RULE_MOST_WAITING)) return RULES;
+    switch (conformance_lack(ends, script)) {
+    case LACKS_WAITING: return RULE_BLOCK_SIZE;
+    case LACKS_TRANSITION: return both->expected[2] > 64 ? RULE_BLOCK_SIZE : RULE_ENTRY;
+    case LACKS_STATE: return RULES;
     }
     return RULES;
 }
@@ -113,13 +146,37 @@ static void exercised_before(const struct ends *ends, const struct script *scrip
     conformance_exercised(ends, &before, exercised);
 }
 
+/* Whether a frame came to the module, of all that an event may be. */
+static int is_of_frame(const struct rule_set *event) {
+    return conformance_has(event, RULE_ANSWER_TYPE) || conformance_has(event, RULE_NO_ANSWER) ||
+           conformance_has(event, RULE_REFUSED);
+}
+
+/* The rule at which the module crashed or hung, where no frame came to it: of those that the event exercised the rarest. */
+static enum rule rule_of_step(const struct rule_set *event) {
+    static const enum rule rules[] = {RULE_RESTART,     RULE_COUNTER_AROUND, RULE_LOAD_AT_SYNC, RULE_SYNC_ALONE,
+                                      RULE_PUSHED_OUT,  RULE_MOST_WAITING,   RULE_FILTER_OF_ZERO, RULE_ENTRY_ORDER,
+                                      RULE_ENTRY};
+    size_t row;
+    for (row = 0; row < sizeof rules / sizeof rules[0]; row++) {
+        if (conformance_has(event, rules[row])) return rules[row];
+    }
+    return RULE_COUNTER_STEP;
+}
+
 /* A difference at a module. */
 static enum rule judge_module(const struct ends *ends, const struct script *script, const struct difference *both) {
     uint8_t code = both->frame_length > 0 ? both->frame[0] : 0;
     struct rule_set exercised;
     enum rule rule;
     int refusal;
-    exercised_before(ends, script, &exercised);
+    if ((both->fields & FIELD_BIT(FAILURE)) && !is_of_frame(&both->exercised)) return rule_of_step(&both->exercised);
+    if (both->is_whole) {
+        memset(&exercised, 0, sizeof exercised);
+        if (both->fields & (FIELD_BIT(STAMP) | FIELD_BIT(BLOCK_STAMP))) return RULE_COUNTER_STEP;
+    } else {
+        exercised_before(ends, script, &exercised);
+    }
     if ((both->fields & ~HIDDEN) == 0 && conformance_has(&exercised, RULE_RESTART)) return RULE_RESTART;
     if ((both->fields & ~HIDDEN) == 0 && code != FIO2070_TYPE_SET_OUTPUTS && code != FIO2070_TYPE_WATCHDOG) {
         return both->fields & FIELD_BIT(OUTPUTS) ? RULE_OUTPUTS_KEPT : RULE_WATCHDOG_TIMEOUT;
@@ -129,14 +186,20 @@ static enum rule judge_module(const struct ends *ends, const struct script *scri
     }
     if (both->fields & FIELD_BIT(TYPE)) return RULE_ANSWER_TYPE;
     if (both->got_length == 0 && conformance_has(&both->exercised, RULE_FRAME_LENGTH)) return RULE_FRAME_LENGTH;
-    if (both->fields & (FIELD_BIT(PRESENCE) | FIELD_BIT(LENGTH))) {
+    if ((both->fields & FIELD_BIT(FAILURE)) && conformance_has(&both->exercised, RULE_SENT_AGAIN)) return RULE_SENT_AGAIN;
+    if (both->fields & (FIELD_BIT(PRESENCE) | FIELD_BIT(LENGTH) | FIELD_BIT(FAILURE))) {
         return rule_of_command(code, both->fields, &both->exercised);
     }
     rule = first_suspect(STRANGERS, sizeof STRANGERS / sizeof STRANGERS[0], both->fields, &exercised);
     if (rule == RULES && code == FIO2070_TYPE_POLL) rule = rule_of_block(both->fields, &both->exercised);
     conformance_join(&exercised, &both->exercised);
-    if (rule == RULES) rule = first_suspect(STEPS, sizeof STEPS / sizeof STEPS[0], both->fields, &exercised);
+    if (rule == RULES) rule = rule_of_lack(ends, script, both, &exercised);
+    if (rule == RULES) rule = first_step(ends, script, both, &exercised);
     if (rule == RULES && both->fields == FIELD_BIT(BLOCK_STAMP)) rule = RULE_BLOCK_STAMP;
+    if (rule == RULES && both->fields == FIELD_BIT(INPUTS) && code == FIO2070_TYPE_FILTERED_INPUTS && !both->is_whole &&
+        conformance_comes_from_start(ends, script)) {
+        rule = RULE_FILTERS_AT_START;
+    }
     return rule != RULES ? rule : rule_of_command(code, both->fields, &both->exercised);
 }
 
@@ -180,9 +243,22 @@ static enum rule rule_of_items(const struct difference *both) {
     return conformance_has(&both->exercised, RULE_WIDE_AROUND) ? RULE_WIDE_AROUND : RULE_WIDE_TIME;
 }
 
+/* The rule at which the CPU's end crashed or hung. */
+static enum rule rule_of_failure(const struct rule_set *event) {
+    static const enum rule rules[] = {RULE_UNREADABLE,  RULE_OTHER_ANSWER, RULE_TAKEN_ONCE,      RULE_STALE,
+                                      RULE_EMPTY_BLOCK, RULE_GAP_MARK,     RULE_BLOCK_LENGTH,    RULE_UNNAMED_BITS,
+                                      RULE_HIGH_INPUT,  RULE_TAKEN_WHOLE,  RULE_SAME_UNTIL_TAKEN};
+    size_t row;
+    for (row = 0; row < sizeof rules / sizeof rules[0]; row++) {
+        if (conformance_has(event, rules[row])) return rules[row];
+    }
+    return RULE_POLL_NUMBER;
+}
+
 static enum rule judge_cpu(const struct ends *ends, const struct script *script, const struct difference *both) {
     static const enum rule heard[] = {RULE_UNREADABLE, RULE_OTHER_ANSWER, RULE_TAKEN_ONCE, RULE_STALE};
     size_t row;
+    if (both->fields & FIELD_BIT(FAILURE)) return rule_of_failure(&both->exercised);
     if (both->fields & FIELD_BIT(POLL)) {
         return conformance_has(&both->exercised, RULE_SAME_UNTIL_TAKEN) ? RULE_SAME_UNTIL_TAKEN : RULE_POLL_NUMBER;
     }

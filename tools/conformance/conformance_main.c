@@ -20,6 +20,9 @@ static const char HELP[] =
     "The status is 0 where there is no difference, 1 where there is one, 2 where the words or the script are faulty,\n"
     "3 where the end under test can't be asked any more.\n";
 
+/* A call of this process that does not return in one to two seconds hangs. */
+enum { GUARD_MS = 1000 };
+
 /* The words as they were read. */
 struct words {
     struct options options;
@@ -129,13 +132,15 @@ static void write_rules(enum rule_end end) {
     }
 }
 
-/* Writes what was not exercised. Returns how many rules and cases that are. */
-static unsigned write_missing(const struct result *result, enum rule_end end, const struct rule_set *excepted) {
+/* Writes what was not exercised: rules, and cases where they are asked for. Returns how many that are. */
+static unsigned write_missing(const struct result *result, enum rule_end end, const struct rule_set *excepted,
+                              int has_cases) {
     unsigned missing = 0;
     int rule;
     for (rule = 0; rule < RULES; rule++) {
         if (CONFORMANCE_RULE_ROWS[rule].end != end || result->exercised[rule] > 0) continue;
         if (conformance_has(excepted, (enum rule)rule) || result->shortest[rule] > 0) continue;
+        if (CONFORMANCE_RULE_ROWS[rule].source == CASE && !has_cases) continue;
         printf("not exercised: %s\n", CONFORMANCE_RULE_ROWS[rule].name);
         missing++;
     }
@@ -154,6 +159,21 @@ static int write_junit(const char *name, const struct result *result, enum rule_
     return fclose(file) == 0;
 }
 
+/* Writes what was seen now and then, and what was not asked to the end. */
+static void write_left_out(const struct result *result) {
+    int rule;
+    for (rule = 0; rule < RULES; rule++) {
+        if (result->once[rule] == 0) continue;
+        printf("seen, and not again: %s, in %lu scripts\n", CONFORMANCE_RULE_ROWS[rule].name, result->once[rule]);
+    }
+    for (rule = 0; rule < RULES; rule++) {
+        if (!conformance_has(&result->also_left_out, (enum rule)rule)) continue;
+        printf("left out too, to go on after a difference: %s\n", CONFORMANCE_RULE_ROWS[rule].name);
+    }
+    if (!result->is_lost) return;
+    printf("the run ended: differences in %s could not be told from those above\n", CONFORMANCE_RULE_ROWS[result->lost].name);
+}
+
 static int run(const struct ends *ends, struct words *words) {
     static struct result result;
     const struct rule_set *excepted = &words->options.excepted;
@@ -163,8 +183,10 @@ static int run(const struct ends *ends, struct words *words) {
     if (words->shows_coverage) conformance_coverage(&result, end_of(ends), excepted, stdout);
     if (words->junit != NULL && !write_junit(words->junit, &result, end_of(ends), &words->options)) return 2;
     if (result.has_failed) return fail();
-    missing = words->options.stops && result.differences > 0 ? 0 : write_missing(&result, end_of(ends), excepted);
-    if (result.is_lost) puts("the run ended: the last difference could not be told from those above");
+    missing = words->options.stops && result.differences > 0
+                  ? 0
+                  : write_missing(&result, end_of(ends), excepted, words->shows_coverage);
+    write_left_out(&result);
     if (result.differences == 0) printf("no difference in %lu events\n", result.events);
     if (result.differences > 0) printf("rules that differ: %u in %lu events\n", result.differences, result.events);
     return result.differences > 0 || (words->shows_coverage && missing > 0);
@@ -188,6 +210,7 @@ int conformance_main(const struct maker *maker, int count, char **words) {
     struct ends ends;
     memset(&ends, 0, sizeof ends);
     ends.module = maker;
+    ends.guard_ms = GUARD_MS;
     return conformance_words(&ends, 0, count, words);
 }
 
@@ -195,5 +218,6 @@ int conformance_cpu_main(const struct cpu_maker *maker, int count, char **words)
     struct ends ends;
     memset(&ends, 0, sizeof ends);
     ends.cpu = maker;
+    ends.guard_ms = GUARD_MS;
     return conformance_words(&ends, 0, count, words);
 }

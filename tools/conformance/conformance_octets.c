@@ -109,11 +109,13 @@ size_t conformance_configuration(uint8_t *octets, uint64_t *state) {
     return 2 + 3 * (size_t)count;
 }
 
-/* A load of the counter near the ends of 16, 24, 31 and 32 bits. */
+/* A load of the counter near the ends of 16, 24, 31 and 32 bits, or at them. */
 static size_t random_load(uint8_t *octets, uint64_t *state) {
-    static const uint32_t ends[] = {0, 65536, 4294967295u, 16777216, 2147483648u};
-    uint32_t load = conformance_below(state, 8) == 0 ? (uint32_t)conformance_next(state)
-                                                     : ends[conformance_below(state, 5)] - conformance_below(state, 64);
+    static const uint32_t ends[] = {0, 65536, 4294967295u, 16777216, 2147483648u, 1, 65535, 16777215, 2147483647};
+    uint32_t load = (uint32_t)conformance_next(state);
+    unsigned kind = conformance_below(state, 8);
+    if (kind > 3) load = ends[conformance_below(state, 5)] - conformance_below(state, 64);
+    if (kind > 0 && kind <= 3) load = ends[conformance_below(state, sizeof ends / sizeof ends[0])];
     return fio2070_encode_load_counter(load, octets, CONFORMANCE_LONGEST_FRAME);
 }
 
@@ -154,6 +156,13 @@ static size_t random_timeout(uint8_t *octets, uint64_t *state) {
     return fio2070_encode_watchdog(timeout, octets, CONFORMANCE_LONGEST_FRAME);
 }
 
+/* Levels and controls, each of any bits, all 0 or all 1. */
+static void fill_outputs(uint8_t outputs[16], uint64_t *state) {
+    fill(outputs, 16, state);
+    if (conformance_below(state, 3) == 0) memset(outputs, conformance_below(state, 2) == 0 ? 0 : 255, 8);
+    if (conformance_below(state, 3) == 0) memset(outputs + 8, conformance_below(state, 2) == 0 ? 0 : 255, 8);
+}
+
 size_t conformance_command(uint8_t *octets, uint64_t *state) {
     uint8_t outputs[16];
     switch (conformance_below(state, 10)) {
@@ -164,7 +173,7 @@ size_t conformance_command(uint8_t *octets, uint64_t *state) {
     case 4:
     case 5: return fio2070_encode_filtered_inputs(octets, CONFORMANCE_LONGEST_FRAME);
     case 6:
-        fill(outputs, sizeof outputs, state);
+        fill_outputs(outputs, state);
         return fio2070_encode_set_outputs(outputs, outputs + 8, octets, CONFORMANCE_LONGEST_FRAME);
     case 7: return random_timeout(octets, state);
     case 8: return fio2070_encode_identify(octets, CONFORMANCE_LONGEST_FRAME);

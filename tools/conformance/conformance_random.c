@@ -1,5 +1,5 @@
 /* Random scripts of a module whose CPU polls, loses answers, configures and errs. */
-#include "conformance_octets.h"
+#include "conformance_edges.h"
 
 #include <string.h>
 
@@ -109,6 +109,13 @@ static void begin(struct script *script, enum theme theme, uint64_t *state) {
     }
 }
 
+/* The poll before comes again and again, as where all answers are lost. */
+static void repeat_poll(struct script *script, const struct course *course, uint64_t *state) {
+    uint8_t octets[2];
+    unsigned left;
+    for (left = conformance_run_length(state); left > 0; left--) add_frame(script, octets, write_poll(octets, course->number));
+}
+
 static void add_scan(struct script *script, struct course *course, uint64_t *state) {
     struct event event;
     memset(&event, 0, sizeof event);
@@ -134,7 +141,7 @@ void conformance_random(struct script *script, const struct maker *maker, const 
     struct mix themed;
     size_t length, silence, first;
     course.theme = random_theme(mix, state);
-    course.number = conformance_below(state, 256);
+    course.number = conformance_block_number(state);
     course.levels = ~(uint64_t)0;
     course.moving = conformance_moving(course.theme, state);
     themed = mix_of(mix, course.theme);
@@ -151,9 +158,11 @@ void conformance_random(struct script *script, const struct maker *maker, const 
             add_scan(script, &course, state);
             continue;
         }
+        if (conformance_below(state, 2000) == 0) repeat_poll(script, &course, state);
         memset(&event, 0, sizeof event);
         event.octets = octets;
         random_event(&event, octets, &themed, &course, state);
         conformance_add(script, &event);
     }
+    if (script->length > most) script->length = most;
 }

@@ -5,23 +5,42 @@
 
 enum { SHOWN = 48 /* octets of an answer */ };
 
-/* Octets, whole where they are few, else from shortly before the first that is not the same. */
-static void write_octets(const char *who, const uint8_t *octets, size_t length, size_t other, FILE *out) {
+/* Octets, whole where they are few, else from shortly before the first that is not the same; then what is said of them. */
+static void write_octets(const char *who, const uint8_t *octets, size_t length, size_t other, const char *said,
+                         FILE *out) {
     size_t first = length > SHOWN && other > 8 ? other - 8 : 0, place;
     if (length > SHOWN && first > length - SHOWN) first = length - SHOWN;
     fprintf(out, "# %s: ", who);
     if (length == 0) fputs("none", out);
     if (length > SHOWN) fprintf(out, "%lu octets, from octet %lu on ", (unsigned long)length, (unsigned long)first);
     for (place = first; place < length && place < first + SHOWN; place++) fprintf(out, "%02x", octets[place]);
-    fputs("\n", out);
+    fprintf(out, "%s\n", said);
 }
 
 static void write_frames(const struct difference *both, FILE *out) {
     size_t other = 0;
+    int is_equal;
     while (other < both->expected_length && other < both->got_length && both->expected[other] == both->got[other])
         other++;
-    if (both->observed[0] == '\0') write_octets("expected", both->expected, both->expected_length, other, out);
-    write_octets("got", both->got, both->got_length, other, out);
+    is_equal = both->expected_length == both->got_length && other == both->got_length;
+    if (both->observed[0] == '\0') write_octets("expected", both->expected, both->expected_length, other, "", out);
+    write_octets("got", both->got, both->got_length, other, is_equal ? ", the same octets: see the field" : "", out);
+}
+
+/* The end under test crashed or hung. */
+static void write_failure(const struct difference *both, FILE *out) {
+    const char *text;
+    if (both->frame_length > 0 && both->expected_length > 0) {
+        write_octets("expected", both->expected, both->expected_length, 0, "", out);
+    } else {
+        fputs("# expected: it goes on\n", out);
+    }
+    fputs("# got: ", out);
+    for (text = both->failure; *text != '\0'; text++) {
+        fputc(*text, out);
+        if (*text == '\n') fputs("# ", out);
+    }
+    fputs("\n", out);
 }
 
 static void write_numbers(const char *who, uint8_t number, size_t items, FILE *out) {
@@ -37,16 +56,18 @@ static void write_rule(enum rule rule, FILE *out) {
 void conformance_report(const struct ends *ends, const struct script *script, const struct difference *difference,
                         FILE *out) {
     conformance_write(script, out);
-    if (ends->cpu == NULL || difference->expected_length > 0) {
+    if (difference->failure[0] != '\0') {
+        write_failure(difference, out);
+    } else if (ends->cpu == NULL || difference->expected_length > 0) {
         write_frames(difference, out);
     } else {
         write_numbers("expected", difference->expected_number, difference->expected_items, out);
         write_numbers("got", difference->got_number, difference->got_items, out);
     }
-    conformance_write_fields(difference, out);
+    if (difference->failure[0] == '\0') conformance_write_fields(difference, out);
     write_rule(conformance_judge(ends, script, difference), out);
     if (ends->cpu != NULL) {
         fputs("# transcript:\n", out);
-        conformance_transcript(ends->cpu, script, "# ", out);
+        conformance_transcript(ends, script, "# ", out);
     }
 }

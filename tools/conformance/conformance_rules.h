@@ -45,6 +45,7 @@ enum field {
     FIELD_GAP,
     FIELD_ITEM,
     FIELD_WIDE,
+    FIELD_FAILURE, /* the end under test crashed or hung */
     FIELDS
 };
 #define FIELD_BIT(field) (UINT32_C(1) << FIELD_##field)
@@ -65,7 +66,7 @@ enum field {
     RULE(AT_MODULE, COUNTER_AROUND, "counter-around", OWN, 0, "Counter", \
          "A scan first steps the counter by one, from 4,294,967,295 to 0") \
     RULE(AT_MODULE, LOAD_AT_SYNC, "load-at-sync", TEES, 0, "Counter", \
-         "Command 50 asks for a load. It happens when LINESYNC next goes from 0 to 1") \
+         "Command 50 asks for a load: when LINESYNC next goes from 0 to 1, the counter is set to that number.") \
     RULE(AT_MODULE, LOAD_ANSWER, "load-answer", OWN, FIELD_BIT(STATUS) | FIELD_BIT(PRESENCE), "Counter", \
          "The answer 178 goes out when the command is received, with S = 0.") \
     RULE(AT_MODULE, LATER_LOAD, "later-load", OWN, 0, "Counter", \
@@ -139,7 +140,7 @@ enum field {
     RULE(AT_MODULE, OUTPUTS_KEPT, "outputs-kept", OWN, FIELD_BIT(OUTPUTS), "Other commands", \
          "the data and control octets are kept, all 0 at the start.") \
     RULE(AT_MODULE, OUTPUTS_ANSWER, "outputs-answer", OWN, FIELD_BIT(BODY) | FIELD_BIT(PRESENCE), "Other commands", \
-         "183 has the octet 0 and the stamp, five octets.") \
+         "The body of 183 is the octet 0 and then the stamp: a frame of six octets.") \
     RULE(AT_MODULE, WATCHDOG_TIMEOUT, "watchdog-timeout", TEES, FIELD_BIT(TIMEOUT), "Other commands", \
          "the timeout is set, where less than 10 ms counts as 10 and more than 100 ms as 100.") \
     RULE(AT_MODULE, WATCHDOG_BEFORE, "watchdog-before", TEES, FIELD_BIT(STATUS), "Other commands", \

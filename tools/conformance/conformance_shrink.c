@@ -1,46 +1,11 @@
 /* Leaves out of a script what its difference does not need: events, items and entries, changes of inputs, and the size
  * of its numbers. */
-#include "conformance_fresh.h"
-#include "conformance_link.h"
+#include "conformance_trial.h"
 
 #include <string.h>
 
-/* After so many events of trials a script is short enough. */
-enum { MOST_TRIED = 20000000 };
-
 /* A script of so many events is worth another look. */
 enum { LONG = 40 };
-
-/* A script that is shrunk, and the one that is tried in its place. */
-struct shrinking {
-    const struct ends *ends;
-    struct fresh *fresh;
-    struct script *script;
-    unsigned long tried, most; /* events of trials */
-};
-
-static struct script trial;
-
-static void begin_trial(const struct shrinking *shrinking) { conformance_copy(&trial, shrinking->script); }
-
-/* Takes the trial in the place of the script where it shows a difference. */
-static int take_trial(struct shrinking *shrinking) {
-    static struct difference difference;
-    size_t length;
-    difference.has_failed = 0;
-    if (shrinking->tried > shrinking->most) return 0;
-    if (shrinking->fresh != NULL) {
-        length = conformance_fresh_compare(shrinking->fresh, shrinking->ends, &trial, &difference);
-    } else {
-        length = conformance_compare(shrinking->ends, &trial, &difference);
-    }
-    shrinking->tried += length > 0 ? length : trial.length;
-    if (difference.has_failed) shrinking->tried += shrinking->most;
-    if (length == 0 || difference.has_failed) return 0;
-    trial.length = length;
-    conformance_copy(shrinking->script, &trial);
-    return 1;
-}
 
 /* ---- Events ---- */
 
@@ -51,13 +16,13 @@ static int begin_at(struct shrinking *shrinking, size_t first) {
     struct ends none;
     size_t place;
     memset(&none, 0, sizeof none);
-    begin_trial(shrinking);
-    conformance_link_start(&link, &none, &trial);
-    for (place = 0; place < first; place++) conformance_link_step(&link, &trial.events[place], &ignored);
-    trial.number = link.cpu.number;
-    trial.length -= first;
-    memmove(trial.events, trial.events + first, trial.length * sizeof trial.events[0]);
-    return take_trial(shrinking);
+    conformance_begin_trial(shrinking);
+    conformance_link_start(&link, &none, &conformance_trial);
+    for (place = 0; place < first; place++) conformance_link_step(&link, &conformance_trial.events[place], &ignored);
+    conformance_trial.number = link.cpu.number;
+    conformance_trial.length -= first;
+    memmove(conformance_trial.events, conformance_trial.events + first, conformance_trial.length * sizeof conformance_trial.events[0]);
+    return conformance_take_trial(shrinking);
 }
 
 /* Leaves out the first events of a CPU's script. Returns 1 where some could be. */
@@ -75,11 +40,11 @@ static int drop_events(struct shrinking *shrinking) {
     int dropped = 0;
     for (run = shrinking->script->length / 2 + 1; run > 0; run /= 2) {
         for (first = 0; first + run <= shrinking->script->length;) {
-            begin_trial(shrinking);
-            memmove(&trial.events[first], &trial.events[first + run],
-                    (trial.length - first - run) * sizeof trial.events[0]);
-            trial.length -= run;
-            if (take_trial(shrinking)) {
+            conformance_begin_trial(shrinking);
+            memmove(&conformance_trial.events[first], &conformance_trial.events[first + run],
+                    (conformance_trial.length - first - run) * sizeof conformance_trial.events[0]);
+            conformance_trial.length -= run;
+            if (conformance_take_trial(shrinking)) {
                 dropped = 1;
             } else {
                 first += run;
@@ -100,9 +65,9 @@ static int change_all_inputs(struct shrinking *shrinking) {
         if (shrinking->script->events[place].kind != EVENT_SCAN) continue;
         levels = ~levels;
         if (shrinking->script->events[place].inputs == levels) continue;
-        begin_trial(shrinking);
-        trial.events[place].inputs = levels;
-        changed |= take_trial(shrinking);
+        conformance_begin_trial(shrinking);
+        conformance_trial.events[place].inputs = levels;
+        changed |= conformance_take_trial(shrinking);
         if (place < shrinking->script->length) levels = shrinking->script->events[place].inputs;
     }
     return changed;
@@ -117,9 +82,9 @@ static void calm_scans(struct shrinking *shrinking) {
         for (width = 64; width > 0; width /= 2) {
             for (first = 0; first < 64 && place < shrinking->script->length; first += width) {
                 uint64_t mask = (width == 64 ? ~(uint64_t)0 : ((uint64_t)1 << width) - 1) << first;
-                begin_trial(shrinking);
-                trial.events[place].inputs |= mask;
-                if (trial.events[place].inputs != shrinking->script->events[place].inputs) take_trial(shrinking);
+                conformance_begin_trial(shrinking);
+                conformance_trial.events[place].inputs |= mask;
+                if (conformance_trial.events[place].inputs != shrinking->script->events[place].inputs) conformance_take_trial(shrinking);
             }
         }
     }
@@ -129,11 +94,11 @@ static void calm_scans(struct shrinking *shrinking) {
 
 /* Gives an event of the trial other octets. */
 static void set_octets(size_t place, const uint8_t *octets, size_t length) {
-    struct event event = trial.events[place];
+    struct event event = conformance_trial.events[place];
     event.octets = octets;
     event.length = length;
-    if (conformance_add(&trial, &event) == NULL) return;
-    trial.events[place] = trial.events[--trial.length];
+    if (conformance_add(&conformance_trial, &event) == NULL) return;
+    conformance_trial.events[place] = conformance_trial.events[--conformance_trial.length];
 }
 
 /* Where the count stands in the octets of an event: the items of a configuration, or the entries of a block, follow it.
@@ -149,13 +114,13 @@ static int drop_run(struct shrinking *shrinking, size_t place, size_t at, size_t
     uint8_t octets[CONFORMANCE_LONGEST_FRAME];
     uint8_t *item = octets + at + 1 + 3 * first;
     size_t length;
-    begin_trial(shrinking);
-    length = trial.events[place].length - 3 * run;
-    memcpy(octets, trial.events[place].octets, trial.events[place].length);
+    conformance_begin_trial(shrinking);
+    length = conformance_trial.events[place].length - 3 * run;
+    memcpy(octets, conformance_trial.events[place].octets, conformance_trial.events[place].length);
     octets[at] = (uint8_t)(octets[at] - run);
     memmove(item, item + 3 * run, length - at - 1 - 3 * first);
     set_octets(place, octets, length);
-    return take_trial(shrinking);
+    return conformance_take_trial(shrinking);
 }
 
 /* Leaves out items or entries, in runs of half of them down to one. */
@@ -176,11 +141,11 @@ static void drop_items(struct shrinking *shrinking, size_t place) {
 /* Tries an octet of a frame with another value. Returns 1 where it could be. */
 static int try_octet(struct shrinking *shrinking, size_t place, size_t octet, uint8_t value) {
     uint8_t octets[CONFORMANCE_LONGEST_FRAME];
-    begin_trial(shrinking);
-    memcpy(octets, trial.events[place].octets, trial.events[place].length);
+    conformance_begin_trial(shrinking);
+    memcpy(octets, conformance_trial.events[place].octets, conformance_trial.events[place].length);
     octets[octet] = value;
-    set_octets(place, octets, trial.events[place].length);
-    return take_trial(shrinking);
+    set_octets(place, octets, conformance_trial.events[place].length);
+    return conformance_take_trial(shrinking);
 }
 
 /* Makes an octet of a frame as small as it may be, but no smaller than this. */
@@ -222,9 +187,9 @@ static void raise_load(struct shrinking *shrinking, size_t place) {
     static const uint8_t last[] = {FIO2070_TYPE_LOAD_COUNTER, 255, 255, 255, 255};
     const struct event *event = &shrinking->script->events[place];
     if (event->length != sizeof last || event->octets[0] != FIO2070_TYPE_LOAD_COUNTER) return;
-    begin_trial(shrinking);
+    conformance_begin_trial(shrinking);
     set_octets(place, last, sizeof last);
-    take_trial(shrinking);
+    conformance_take_trial(shrinking);
 }
 
 /* Cuts a body, and lowers the numbers of a frame. */
@@ -236,9 +201,9 @@ static void lower_frame(struct shrinking *shrinking, size_t place) {
         return;
     }
     for (length = 1; place < script->length && length < script->events[place].length; length *= 2) {
-        begin_trial(shrinking);
-        trial.events[place].length = length;
-        if (take_trial(shrinking)) break;
+        conformance_begin_trial(shrinking);
+        conformance_trial.events[place].length = length;
+        if (conformance_take_trial(shrinking)) break;
     }
     for (octet = 1; octet < 64 && place < script->length && octet < script->events[place].length; octet++) {
         lower_octet(shrinking, place, octet, 0);
@@ -250,9 +215,9 @@ static void shift_numbers(struct shrinking *shrinking, uint8_t shift) {
     uint8_t octets[CONFORMANCE_LONGEST_FRAME];
     size_t place;
     if (shift == 0) return;
-    begin_trial(shrinking);
-    for (place = 0; place < trial.length; place++) {
-        const struct event *event = &trial.events[place];
+    conformance_begin_trial(shrinking);
+    for (place = 0; place < conformance_trial.length; place++) {
+        const struct event *event = &conformance_trial.events[place];
         int is_poll = event->kind == EVENT_FRAME && event->length == 2 && event->octets[0] == FIO2070_TYPE_POLL;
         int is_block =
             event->kind == EVENT_HEAR && event->length > 1 && event->octets[0] == FIO2070_TYPE_POLL + FIO2070_TYPE_ANSWER;
@@ -261,14 +226,14 @@ static void shift_numbers(struct shrinking *shrinking, uint8_t shift) {
         octets[1] = (uint8_t)(octets[1] - shift);
         set_octets(place, octets, event->length);
     }
-    trial.number = (uint8_t)(trial.number - shift);
-    take_trial(shrinking);
+    conformance_trial.number = (uint8_t)(conformance_trial.number - shift);
+    conformance_take_trial(shrinking);
 }
 
 static uint8_t first_number(const struct shrinking *shrinking) {
     const struct script *script = shrinking->script;
     size_t place;
-    if (shrinking->ends->cpu != NULL) return script->number;
+    if (shrinking->ends.cpu != NULL) return script->number;
     for (place = 0; place < script->length; place++) {
         const struct event *event = &script->events[place];
         if (event->kind == EVENT_FRAME && event->length == 2 && event->octets[0] == FIO2070_TYPE_POLL) {
@@ -282,26 +247,34 @@ static int has_octets(const struct event *event) {
     return event->kind == EVENT_FRAME || event->kind == EVENT_COMMAND || event->kind == EVENT_HEAR;
 }
 
-void conformance_shrink(const struct ends *ends, struct fresh *fresh, struct script *script) {
-    struct shrinking shrinking = {ends, fresh, script, 0, MOST_TRIED};
+static void shrink(struct shrinking *shrinking) {
+    const struct script *script = shrinking->script;
     size_t place;
-    if (ends->most_tried > 0) shrinking.most = ends->most_tried;
-    while ((ends->cpu != NULL && begin_later(&shrinking)) || drop_events(&shrinking) || change_all_inputs(&shrinking)) {
+    while ((shrinking->ends.cpu != NULL && begin_later(shrinking)) || drop_events(shrinking) ||
+           change_all_inputs(shrinking)) {
     }
     for (place = 0; place < script->length; place++) {
-        if (has_octets(&script->events[place])) raise_load(&shrinking, place);
+        if (has_octets(&script->events[place])) raise_load(shrinking, place);
     }
-    drop_events(&shrinking);
-    for (place = 0; place < script->length; place++) drop_items(&shrinking, place);
-    calm_scans(&shrinking);
-    shift_numbers(&shrinking, first_number(&shrinking));
+    drop_events(shrinking);
+    for (place = 0; place < script->length; place++) drop_items(shrinking, place);
+    calm_scans(shrinking);
+    shift_numbers(shrinking, first_number(shrinking));
     for (place = 0; place < script->length; place++) {
-        if (has_octets(&script->events[place])) lower_frame(&shrinking, place);
+        if (has_octets(&script->events[place])) lower_frame(shrinking, place);
     }
-    drop_events(&shrinking);
+    drop_events(shrinking);
     if (script->length < LONG) return;
     /* With filters of 1 each scan may change all inputs. */
-    while (change_all_inputs(&shrinking) && drop_events(&shrinking)) {
+    while (change_all_inputs(shrinking) && drop_events(shrinking)) {
     }
-    calm_scans(&shrinking);
+    calm_scans(shrinking);
+}
+
+void conformance_shrink(const struct ends *ends, struct fresh *fresh, struct script *script,
+                        struct difference *difference) {
+    struct shrinking shrinking;
+    conformance_begin_trials(&shrinking, ends, fresh, script, difference);
+    shrink(&shrinking);
+    conformance_end_trials(&shrinking);
 }

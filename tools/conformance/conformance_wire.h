@@ -5,27 +5,51 @@
 
 #include "conformance.h"
 
+enum {
+    WIRE_LONGEST_LINE = 2 * CONFORMANCE_LONGEST_FRAME + 32,
+    WIRE_TAIL = 600 /* octets of standard error that are kept */
+};
+
 struct wire {
-    int file;        /* -1 where it could not be opened */
-    int deadline_ms; /* for each line that the module's side writes */
-    long process;    /* that was started, 0 for none */
-    int has_failed;
-    int has_own_clock; /* the levels are set where they change, and a step is a millisecond of waiting */
+    int file;           /* -1 where it could not be opened */
+    int deadline_ms;    /* for each line that the module's side writes */
+    int has_own_clock;  /* the levels are set where they change, and a step is a millisecond of waiting */
+    const char *target; /* as it was opened, and by what */
+    int (*open)(struct wire *wire);
+    long process; /* that was started, 0 for none */
+    int errors;   /* the standard error of that process, -1 for none */
+    int has_answered, has_failed;
+    enum hurry hurry;
+    int is_new;      /* it was asked nothing since it was opened */
+    long slowest_ms; /* of the lines that came, but for the first after it was opened */
     int has_levels;
     uint64_t levels;
-    char fault[80]; /* why */
-    size_t kept;    /* octets that came after the last line */
-    char octets[4096];
+    size_t kept, tail_length;      /* octets that came after the last line, and of standard error */
+    char fault[80];                /* why it failed */
+    char asked[WIRE_LONGEST_LINE]; /* the last line that it was asked */
+    char failure[1200];            /* both, and the last lines of standard error */
+    char octets[4096], tail[WIRE_TAIL];
 };
 
 /* Begins a command with its standard input and output, opens a serial adapter as it was set up, or connects to
- * HOST:PORT. Returns 0 where that failed. */
+ * HOST:PORT. Returns 0 where that failed. The words have to last. */
 int conformance_wire_command(struct wire *wire, const char *command);
 int conformance_wire_serial(struct wire *wire, const char *device);
 int conformance_wire_socket(struct wire *wire, const char *address);
+
+/* Closes it. A process that does not end by the deadline is killed. */
 void conformance_wire_close(struct wire *wire);
 
-/* The module over a wire, as a maker. */
+/* The module over a wire, as a maker, and how it fails. */
 void conformance_wire_maker(struct wire *wire, uint8_t id, uint8_t per_block, struct maker *maker);
+void conformance_wire_outside(struct wire *wire, struct outside *outside);
+
+/* ---- Between the two files of a wire ---- */
+
+/* Asks the module's side a line, and reads the one that it answers. Returns 0 where it failed. */
+int conformance_wire_ask(struct wire *wire, const char *line, char said[WIRE_LONGEST_LINE]);
+
+/* Notes why the module's side failed, first alone. Returns 0. */
+int conformance_wire_fail(struct wire *wire, const char *fault, const char *line);
 
 #endif

@@ -61,6 +61,7 @@ static int read_option(struct setup *setup, const char *name, const char *word) 
 
 static int run(struct setup *setup, int count, char **words) {
     struct maker maker;
+    struct outside outside;
     struct ends ends;
     int status;
     memset(&ends, 0, sizeof ends);
@@ -70,13 +71,28 @@ static int run(struct setup *setup, int count, char **words) {
         return conformance_words(&ends, 0, count, words);
     }
     conformance_wire_maker(&setup->wire, (uint8_t)setup->id, (uint8_t)setup->per_block, &maker);
+    conformance_wire_outside(&setup->wire, &outside);
     ends.module = &maker;
+    ends.outside = &outside;
     ends.has_own_clock = setup->wire.has_own_clock;
     ends.most_tried = ends.has_own_clock ? 10000 : 500000;
     status = conformance_words(&ends, 1, count, words);
-    if (setup->wire.has_failed) printf("%s: %s\n", setup->opened, setup->wire.fault);
+    if (status == 3) printf("%s: %s\n", setup->opened, setup->wire.fault);
     conformance_wire_close(&setup->wire);
     return status;
+}
+
+/* No WIRE was opened: says at which word. */
+static int refuse(int count, char **words, int place, int taken) {
+    int is_help = count == 2 && strcmp(words[1], "--help") == 0;
+    if (!is_help && place < count && taken == 0) {
+        printf("%s before WIRE is no option: those of the tester come after it, see --help\n", words[place]);
+    } else if (!is_help && place < count) {
+        printf("%s has no word after it, see --help\n", words[place]);
+    } else {
+        fputs(HELP, stdout);
+    }
+    return is_help ? 0 : 2;
 }
 
 int main(int count, char **words) {
@@ -90,10 +106,7 @@ int main(int count, char **words) {
         taken = read_option(&setup, words[place], words[place + 1]);
         place += taken;
     }
-    if (setup.opened == NULL) {
-        fputs(HELP, stdout);
-        return count == 2 && strcmp(words[1], "--help") == 0 ? 0 : 2;
-    }
+    if (setup.opened == NULL) return refuse(count, words, place, taken);
     if (!setup.is_open || setup.id < 0 || setup.id > 255 || setup.per_block < 1 || setup.per_block > 255) {
         printf(setup.is_open ? "a number is out of its range\n" : "can't open %s\n", setup.opened);
         return 2;

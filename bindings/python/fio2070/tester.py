@@ -158,7 +158,8 @@ def _raw_cpu(maker: CpuMaker, calls: _Calls) -> _CpuMaker:
 
 class _Ends(ctypes.Structure):
     _fields_ = [('module', POINTER(_Maker)), ('cpu', POINTER(_CpuMaker)), ('masked', c_uint64 * 2),
-                ('left_out', c_uint64 * 2), ('has_own_clock', c_int), ('most_tried', c_ulong)]
+                ('left_out', c_uint64 * 2), ('has_own_clock', c_int), ('most_tried', c_ulong),
+                ('outside', c_void_p), ('guard_ms', c_int)]
 
 
 class _Options(ctypes.Structure):

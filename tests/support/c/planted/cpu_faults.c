@@ -1,10 +1,9 @@
 /* The planted faults of a CPU's end, from the sentences of docs/PROTOCOL.md. */
 #include "quirks.h"
 
-#define FAULT(name, quirk, value) {name, CPU_##quirk, value, 100000}
-#define RARE(name, quirk, value) {name, CPU_##quirk, value, 1000000}
+#define FAULT(name, quirk, value) {name, CPU_##quirk, value}
 
-const struct fault CPU_FAULTS[] = {
+static const struct fault FAULTS[] = {
     /* Number */
     FAULT("polls have the type 53", POLL_TYPE, 53),
     FAULT("polls have the type of an answer", POLL_TYPE, 182),
@@ -16,6 +15,26 @@ const struct fault CPU_FAULTS[] = {
     FAULT("the second poll for a block raises the number", POLL_RAISES_AFTER, 2),
     FAULT("the third poll for a block raises the number", POLL_RAISES_AFTER, 3),
     FAULT("the fourth poll for a block raises the number", POLL_RAISES_AFTER, 4),
+    FAULT("the tenth poll for a block raises the number", POLL_RAISES_AFTER, 10),
+    FAULT("the 20th poll for a block raises the number", POLL_RAISES_AFTER, 20),
+    FAULT("the 32nd poll for a block raises the number", POLL_RAISES_AFTER, 32),
+    FAULT("the 64th poll for a block raises the number", POLL_RAISES_AFTER, 64),
+    FAULT("the 100th poll for a block raises the number", POLL_RAISES_AFTER, 100),
+    FAULT("the 256th poll for a block raises the number", POLL_RAISES_AFTER, 256),
+    FAULT("the 300th poll for a block raises the number", POLL_RAISES_AFTER, 300),
+    FAULT("after 10 polls for a block the number is 0", TRIES_RESET, 10),
+    FAULT("after 20 polls for a block the number is 0", TRIES_RESET, 20),
+    FAULT("after 100 polls for a block the number is 0", TRIES_RESET, 100),
+    FAULT("after 10 polls for a block there is a gap mark", TRIES_GAP, 10),
+    FAULT("after 50 polls for a block there is a gap mark", TRIES_GAP, 50),
+    FAULT("after 10 polls for a block there are none", TRIES_SILENT, 10),
+    FAULT("after 50 polls for a block there are none", TRIES_SILENT, 50),
+    FAULT("after 250 polls for a block there are none", TRIES_SILENT, 250),
+    FAULT("after 5 polls for a block an answer is left", TRIES_LEFT, 5),
+    FAULT("after 20 polls for a block an answer is left", TRIES_LEFT, 20),
+    FAULT("after 120 polls for a block an answer is left", TRIES_LEFT, 120),
+    FAULT("block 126 is not asked for", NUMBER_PASSED, 126),
+    FAULT("block 0 is not asked for", NUMBER_PASSED, 0),
     FAULT("the first number is 0", NUMBER_AT_START, 0),
     FAULT("the first number is 1", NUMBER_AT_START, 1),
     FAULT("the number rises by two", NUMBER_PLUS, 2),
@@ -43,6 +62,19 @@ const struct fault CPU_FAULTS[] = {
     FAULT("blocks with F are refused", REFUSED_BITS, 4),
     FAULT("blocks with C are refused", REFUSED_BITS, 8),
     FAULT("blocks with G are refused", REFUSED_BITS, 1),
+    FAULT("blocks with E and F are refused", REFUSED_ALL_BITS, 6),
+    FAULT("blocks with C, F and E are refused", REFUSED_ALL_BITS, 14),
+    FAULT("blocks with all bits are refused", REFUSED_ALL_BITS, 255),
+    FAULT("blocks with E have no entries", AGAIN_IS_EMPTY, 1),
+    FAULT("blocks of 1 entries are refused", REFUSED_COUNT, 1),
+    FAULT("blocks of 64 entries are refused", REFUSED_COUNT, 64),
+    FAULT("blocks of 128 entries are refused", REFUSED_COUNT, 128),
+    FAULT("blocks of 170 entries are refused", REFUSED_COUNT, 170),
+    FAULT("blocks of 254 entries are refused", REFUSED_COUNT, 254),
+    FAULT("counts from 128 on are 0", COUNT_SIGNED, 1),
+    FAULT("blocks with the stamp 0 are refused", STAMP_REFUSED, 0),
+    FAULT("blocks with the stamp 4,294,967,295 are refused", STAMP_REFUSED, -1),
+    FAULT("blocks with the stamp 65,536 are refused", STAMP_REFUSED, 65536),
     FAULT("blocks with bit 7 are refused", REFUSED_BITS, 128),
     FAULT("blocks with bit 4 are refused", REFUSED_BITS, 16),
     FAULT("blocks with a bit without a name are refused", REFUSED_BITS, 240),
@@ -52,15 +84,25 @@ const struct fault CPU_FAULTS[] = {
     FAULT("stale blocks set the number", STALE_SETS, 1),
     FAULT("the block taken last is recorded again", LAST_TAKEN_AGAIN, 1),
     FAULT("the next block is taken too", NEXT_TAKEN, 1),
+    FAULT("after three stale blocks the number is theirs", STALES_SET, 3),
+    FAULT("after ten stale blocks the number is theirs", STALES_SET, 10),
+    FAULT("blocks 128 ahead are recorded", STALE_DISTANCE, 128),
+    FAULT("blocks 40 ahead are recorded", STALE_DISTANCE, 40),
     FAULT("stale blocks are recorded as well", STALE_WRITES, 1),
     /* Other answers */
     FAULT("other answers raise the number", OTHER_RAISES, 1),
     FAULT("other answers lower the number", OTHER_LOWERS, 1),
+    FAULT("answers of type 179 raise the number", RAISING_TYPE, 179),
+    FAULT("answers of type 188 raise the number", RAISING_TYPE, 188),
+    FAULT("answers of type 186 raise the number", RAISING_TYPE, 186),
+    FAULT("a refused configuration lowers the number", REFUSED_LOWERS, 1),
     FAULT("answers of type 183 are taken as blocks", OTHER_TYPE_TAKEN, 1),
     FAULT("commands of type 54 are taken as blocks", COMMAND_TYPE_TAKEN, 1),
     /* Octets that spell no answer */
     FAULT("unreadable octets raise the number", UNREADABLE_RAISES, 1),
     FAULT("unreadable octets set the first number", UNREADABLE_RESETS, 1),
+    FAULT("ten unreadable frames raise the number", UNREADABLES_RAISE, 10),
+    FAULT("30 unreadable frames raise the number", UNREADABLES_RAISE, 30),
     FAULT("an octet too many is taken", OCTETS_TOO_MANY, 1),
     FAULT("two octets too many are taken", OCTETS_TOO_MANY, 2),
     FAULT("octets after the stamp are passed over", OCTETS_TOO_MANY, 1000),
@@ -112,6 +154,7 @@ const struct fault CPU_FAULTS[] = {
     FAULT("wide times are the nearest to the stamp", WIDE_SIGNED, 1),
     FAULT("wide times do not count back below 0", WIDE_BELOW_ZERO, 0),
     FAULT("wide times are the stamp", WIDE_IS_STAMP, 1),
+    FAULT("wide times of the stamp 0 are 0", EQUAL_STAMP_WIDE, 1),
     FAULT("wide times are one too high", WIDE_PLUS, 1),
     FAULT("wide times are by the stamp of the block before", STAMP_FROM_LAST_BLOCK, 1),
     /* Gap marks */
@@ -123,11 +166,29 @@ const struct fault CPU_FAULTS[] = {
     FAULT("gap marks come with C or F", GAP_BIT, 12),
     FAULT("gap marks come after the entries", GAP_AT_END, 1),
     FAULT("blocks without entries have no gap mark", GAP_WITH_ENTRIES, 1),
+    FAULT("two gap marks in a row are one", GAP_NOT_TWICE, 1),
+    FAULT("gap marks need C", GAP_NEEDS_MORE, 1),
     FAULT("there is one gap mark at most", GAP_ONCE, 1),
     FAULT("the first block has no gap mark", FIRST_GAP_LEFT_OUT, 1),
     FAULT("a gap mark takes the place of the last entry", GAP_COUNTS_AS_ENTRY, 1),
+    /* It ends, or hangs */
+    FAULT("the CPU ends at an empty frame", CRASH_WHEN_EMPTY, 1),
+    FAULT("the CPU ends at frames of over 773 octets", CRASH_FROM_LENGTH, 774),
+    FAULT("the CPU ends at the 120th poll for a block", CRASH_AT_TRY, 120),
+    FAULT("the CPU hangs at 256 items", HANG_AT_ITEMS, 256),
     /* The record */
     FAULT("the record ends at 1,000 items", RECORD_ROOM, 1000),
-    RARE("the record ends at 30,000 items", RECORD_ROOM, 30000)};
+    FAULT("the record ends at 30,000 items", RECORD_ROOM, 30000),
+    FAULT("an entry like the one before is left out", EQUAL_LEFT, 1),
+    FAULT("a block like the one before is left out", SAME_BLOCK_LEFT, 1),
+    FAULT("entries are sorted by stamp", SORTED_BY_STAMP, 1),
+    FAULT("the flag P starts the numbers anew", FLAGS_RESET, 1),
+    FAULT("the answer after an unreadable one is left", UNREADABLE_LEAVES_NEXT, 1),
+    FAULT("the answer after a stale one is left", STALE_LEAVES_NEXT, 1),
+    FAULT("after five polls for a block its first entry is left out", OUTAGE_FIRST_ENTRY, 5),
+    FAULT("after 40 polls for a block its first entry is left out", OUTAGE_FIRST_ENTRY, 40),
+    FAULT("the first entry of a block with E is left out", AGAIN_FIRST_ENTRY, 1),
+    FAULT("wide times have 31 bits", WIDE_MOST_BITS, 31),
+    FAULT("an identification is the next number", IDENTITY_SETS, 1)};
 
-const size_t CPU_FAULT_COUNT = sizeof CPU_FAULTS / sizeof CPU_FAULTS[0];
+const struct fault_list CPU_FAULTS = {FAULTS, sizeof FAULTS / sizeof FAULTS[0]};

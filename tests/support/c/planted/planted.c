@@ -2,6 +2,7 @@
  *
  *     planted                      each fault: its events, the events of its script, its rule and its name; status 1
  *                                  where one was not found in time
+ *     planted found EVENTS SEED    the same within so many events, by another seed, with scripts that are hardly shrunk
  *     planted module NAMES WORD..  the words of a tester, of the module with the faults of these names, with `; ` between
  *                                  them; `none` is the right one
  *     planted cpu NAMES WORD..     of the CPU's end
@@ -15,6 +16,9 @@
 /* A twentieth of the trials that a tester shrinks a script by is enough for most. */
 enum { MOST_NAMES = 8, MOST_TRIED = 1000000 };
 
+/* As many events as a run over a wire has. */
+enum { EVENTS = 20000 };
+
 static enum rule found_rule(const struct result *result) {
     int rule;
     for (rule = 0; rule < RULES && result->shortest[rule] == 0; rule++) continue;
@@ -22,13 +26,10 @@ static enum rule found_rule(const struct result *result) {
 }
 
 /* Looks for a fault. Returns whether it was found in time. */
-static int look(const char *kind, const struct ends *ends, const struct fault *fault) {
+static int look(const char *kind, const struct ends *ends, const struct fault *fault, const struct options *given) {
     static struct result result;
-    struct options options;
+    struct options options = *given;
     enum rule rule;
-    memset(&options, 0, sizeof options);
-    options.events = fault->within;
-    options.stops = 1;
     conformance_test(ends, &options, &result, NULL);
     rule = found_rule(&result);
     printf("%-6s %7lu %5lu  %-18s %s\n", kind, result.events, rule == RULES ? 0 : (unsigned long)result.shortest[rule],
@@ -37,42 +38,46 @@ static int look(const char *kind, const struct ends *ends, const struct fault *f
     return rule != RULES;
 }
 
-static int look_for_all(void) {
+/* The lists of faults of each end. */
+static const struct fault_list *const LISTS[] = {&MODULE_FAULTS, &MODULE_LINK_FAULTS, &CPU_FAULTS};
+enum { MODULE_LISTS = 2, ALL_LISTS = 3 };
+
+static int look_for_all(const struct options *options, unsigned long most_tried) {
     struct ends ends;
-    size_t place;
+    size_t list, place;
     int missed = 0;
     memset(&ends, 0, sizeof ends);
-    ends.most_tried = MOST_TRIED;
-    for (place = 0; place < MODULE_FAULT_COUNT; place++) {
-        const struct fault *fault = &MODULE_FAULTS[place];
-        ends.module = module_with(&fault, 1);
-        missed += !look("module", &ends, fault);
-    }
-    ends.module = NULL;
-    for (place = 0; place < CPU_FAULT_COUNT; place++) {
-        const struct fault *fault = &CPU_FAULTS[place];
-        ends.cpu = cpu_with(&fault, 1);
-        missed += !look("cpu", &ends, fault);
+    ends.most_tried = most_tried;
+    ends.guard_ms = 500;
+    for (list = 0; list < ALL_LISTS; list++) {
+        for (place = 0; place < LISTS[list]->count; place++) {
+            const struct fault *fault = &LISTS[list]->faults[place];
+            ends.module = list < MODULE_LISTS ? module_with(&fault, 1) : NULL;
+            ends.cpu = list < MODULE_LISTS ? NULL : cpu_with(&fault, 1);
+            missed += !look(list < MODULE_LISTS ? "module" : "cpu", &ends, fault, options);
+        }
     }
     return missed > 0;
 }
 
-static const struct fault *fault_named(const char *name, const struct fault *faults, size_t count) {
-    size_t place;
-    for (place = 0; place < count; place++) {
-        if (strcmp(faults[place].name, name) == 0) return &faults[place];
+static const struct fault *fault_named(const char *name, size_t first, size_t end) {
+    size_t list, place;
+    for (list = first; list < end; list++) {
+        for (place = 0; place < LISTS[list]->count; place++) {
+            if (strcmp(LISTS[list]->faults[place].name, name) == 0) return &LISTS[list]->faults[place];
+        }
     }
     fprintf(stderr, "no fault has the name %s\n", name);
     exit(2);
 }
 
-/* The faults of these names. Returns how many there are. */
-static size_t faults_named(char *names, const struct fault *faults, size_t count, const struct fault **found) {
+/* The faults of these names, of a module or of a CPU's end. Returns how many there are. */
+static size_t faults_named(char *names, int is_module, const struct fault **found) {
     size_t named = 0;
     while (names != NULL && strcmp(names, "none") != 0 && named < MOST_NAMES) {
         char *end = strstr(names, "; ");
         if (end != NULL) *end = '\0';
-        found[named++] = fault_named(names, faults, count);
+        found[named++] = fault_named(names, is_module ? 0 : MODULE_LISTS, is_module ? MODULE_LISTS : ALL_LISTS);
         names = end == NULL ? NULL : end + 2;
     }
     return named;
@@ -80,15 +85,24 @@ static size_t faults_named(char *names, const struct fault *faults, size_t count
 
 int main(int count, char **words) {
     const struct fault *found[MOST_NAMES];
-    if (count < 3) return look_for_all();
+    struct options options;
+    memset(&options, 0, sizeof options);
+    options.stops = 1;
+    options.events = EVENTS;
+    if (count < 3) return look_for_all(&options, MOST_TRIED);
+    if (strcmp(words[1], "found") == 0) {
+        options.events = strtoul(words[2], NULL, 10);
+        options.seed = count > 3 ? strtoul(words[3], NULL, 10) : 1;
+        return look_for_all(&options, 1);
+    }
     if (strcmp(words[1], "wire") == 0) {
-        serve(module_with(found, faults_named(words[2], MODULE_FAULTS, MODULE_FAULT_COUNT, found)), count > 3);
+        serve(module_with(found, faults_named(words[2], 1, found)), count > 3);
         return 0;
     }
     if (strcmp(words[1], "module") == 0) {
-        size_t named = faults_named(words[2], MODULE_FAULTS, MODULE_FAULT_COUNT, found);
+        size_t named = faults_named(words[2], 1, found);
         return conformance_main(module_with(found, named), count - 2, words + 2);
     }
-    return conformance_cpu_main(cpu_with(found, faults_named(words[2], CPU_FAULTS, CPU_FAULT_COUNT, found)), count - 2,
+    return conformance_cpu_main(cpu_with(found, faults_named(words[2], 0, found)), count - 2,
                                 words + 2);
 }

@@ -3,7 +3,21 @@
 #include "conformance_clock.h"
 #include "quirks.h"
 
+#include <signal.h>
 #include <string.h>
+
+/* Whether it says on standard error why it ends. */
+static int speaks;
+
+void crash(void) {
+    if (speaks) fputs("module: bad access\n", stderr);
+    raise(SIGSEGV);
+}
+
+void hang(void) {
+    volatile int is_held = 1;
+    while (is_held) continue;
+}
 
 static size_t read_octets(const char *words, uint8_t *octets) {
     size_t length = 0;
@@ -36,6 +50,7 @@ void serve(const struct maker *maker, int has_clock) {
     static char line[2 * CONFORMANCE_LONGEST_FRAME + 32];
     uint64_t levels = ~UINT64_C(0);
     long scanned = conformance_now_ms(), now;
+    speaks = 1;
     maker->reset(NULL);
     while (fgets(line, sizeof line, stdin) != NULL) {
         for (now = conformance_now_ms(); has_clock && scanned < now; scanned++) maker->step(NULL, levels);

@@ -1,0 +1,284 @@
+/* What becomes of a difference: it is looked for again, shrunk and reported, and its rule is passed over. */
+#include "conformance_run.h"
+
+#include <string.h>
+
+enum {
+    TRIES = 3,      /* how often a difference is looked for again */
+    MOST_ONCE = 3,  /* after so many differences in a rule that did not come again, one is looked for again once */
+    MOST_UNTOLD = 5 /* after so many differences that could not be told from others the run ends */
+};
+
+/* ---- Once more ---- */
+
+size_t conformance_run_again(struct run *run) {
+    if (run->is_anew) return conformance_fresh_compare(&run->fresh, &run->ends, &run->script, &run->difference);
+    return conformance_compare(&run->ends, &run->script, &run->difference);
+}
+
+void conformance_join_scripts(struct run *run, const struct origin *first) {
+    static const struct event restart = {EVENT_RESTART, 0, 0, NULL, 0};
+    static struct script second;
+    uint64_t state;
+    size_t place;
+    conformance_make_script(run, &run->script, first, &state);
+    conformance_make_script(run, &second, &run->this_origin, &state);
+    conformance_add(&run->script, &restart);
+    for (place = 0; place < second.length; place++) conformance_add(&run->script, &second.events[place]);
+}
+
+/* Makes a script that shows the difference to an end that never ran before: this one, or a module's after itself, or
+ * after the one of before. Returns whether there is one. */
+static int begin_anew(struct run *run) {
+    uint64_t state;
+    conformance_make_script(run, &run->script, &run->this_origin, &state);
+    run->script.length = conformance_run_again(run);
+    if (run->script.length > 0 || run->ends.module == NULL) return run->script.length > 0;
+    conformance_join_scripts(run, &run->this_origin);
+    run->script.length = conformance_run_again(run);
+    if (run->script.length > 0 || run->last_origin.state == 0) return run->script.length > 0;
+    conformance_join_scripts(run, &run->last_origin);
+    run->script.length = conformance_run_again(run);
+    return run->script.length > 0;
+}
+
+static int has_restart(const struct script *script) {
+    size_t place = 0;
+    while (place < script->length && script->events[place].kind != EVENT_RESTART) place++;
+    return place < script->length;
+}
+
+static void make_short(struct run *run) {
+    struct fresh *fresh = run->is_anew ? &run->fresh : NULL;
+    conformance_shrink(&run->ends, fresh, &run->script, &run->difference);
+    conformance_simulate(&run->ends, fresh, &run->script);
+}
+
+/* A difference as it was seen, with its script. */
+struct sight {
+    struct script script;
+    struct difference difference;
+};
+
+static void keep_sight(const struct run *run, struct sight *sight) {
+    conformance_copy(&sight->script, &run->script);
+    sight->difference = run->difference;
+}
+
+static void take_sight(struct run *run, const struct sight *sight) {
+    int can_not_be_asked = run->difference.has_failed;
+    conformance_copy(&run->script, &sight->script);
+    run->difference = sight->difference;
+    run->result->has_failed |= can_not_be_asked;
+}
+
+/* Whether a difference at this event is the one that was seen; with a clock of its own a module may differ elsewhere. */
+static int is_same(const struct run *run, size_t length, const struct sight *sight) {
+    if (run->ends.has_own_clock) return length > 0;
+    return length == sight->script.length && run->difference.fields == sight->difference.fields;
+}
+
+/* Whether the difference comes again in so many tries. Where it does not, all is as it was. */
+static int comes_again(struct run *run, int tries) {
+    static struct sight sight;
+    int comes = 0;
+    size_t length = 0;
+    keep_sight(run, &sight);
+    while (tries-- > 0 && !comes && !run->difference.has_failed) {
+        length = conformance_run_again(run);
+        comes = is_same(run, length, &sight);
+    }
+    if (comes) run->script.length = length;
+    if (!comes) take_sight(run, &sight);
+    return comes;
+}
+
+/* How often a difference is looked for again: once, where it is in a rule that now and then differs. */
+static int tries_of(struct run *run) {
+    enum rule rule;
+    run->difference.is_whole = 1;
+    rule = conformance_judge(&run->ends, &run->script, &run->difference);
+    run->difference.is_whole = 0;
+    return run->result->once[rule] < MOST_ONCE ? TRIES : 1;
+}
+
+/* ---- Shorter ---- */
+
+/* What is to be said of a script, NULL where it stands alone. */
+typedef const char *remark;
+
+/* The end under test is code of this process: a script has to show its difference in a new one. Where it does not, the run
+ * goes on in new processes. */
+static remark shrink_here(struct run *run) {
+    static struct sight sight;
+    int fails = run->difference.failure[0] != '\0';
+    /* After a crash nothing more is asked of it here. */
+    if (!fails) make_short(run);
+    keep_sight(run, &sight);
+    if (!fails &&
+        conformance_fresh_compare(&run->fresh, &run->ends, &run->script, &run->difference) == run->script.length) {
+        return NULL;
+    }
+    run->is_anew = 1;
+    if (begin_anew(run)) {
+        make_short(run);
+        comes_again(run, TRIES);
+        return has_restart(&run->script) ? "# Something outlasts a reset: what comes before the last restart is needed.\n"
+                                         : NULL;
+    }
+    take_sight(run, &sight);
+    return "# It comes only after what ran before: a new process does not show it.\n";
+}
+
+/* Shrinks the script. A difference that does not come each time is `is_whole` then. */
+static remark shrink(struct run *run) {
+    if (run->fresh.is_there && !run->is_anew) return shrink_here(run);
+    if (!comes_again(run, tries_of(run))) {
+        run->difference.is_whole = 1;
+        if (run->result->has_failed) return "# It can't be asked again: the script is as it was.\n";
+        return "# Seen once: it did not come again, so that the script is as it was.\n";
+    }
+    make_short(run);
+    if (comes_again(run, TRIES)) return NULL;
+    run->difference.is_whole = 1;
+    return "# It does not come each time: the script is as short as it was when it last came.\n";
+}
+
+static void hurry(const struct run *run, enum hurry hurry) {
+    const struct outside *outside = run->ends.outside;
+    if (outside != NULL) outside->hurry(outside->context, hurry);
+}
+
+/* ---- Reports ---- */
+
+static void write_remarked(struct run *run, remark said, FILE *out) {
+    if (said != NULL) fputs(said, out);
+    conformance_report(&run->ends, &run->script, &run->difference, out);
+}
+
+/* Writes a report, and keeps it where that is asked for. */
+static void write_report(struct run *run, enum rule rule, remark said) {
+    struct result *result = run->result;
+    FILE *kept = run->options->kept;
+    if (run->out != NULL) {
+        if (result->reports > 0) fputs("\n", run->out);
+        write_remarked(run, said, run->out);
+        fflush(run->out);
+    }
+    result->reports++;
+    if (kept == NULL) return;
+    result->begins[rule] = ftell(kept);
+    write_remarked(run, said, kept);
+    result->ends[rule] = ftell(kept);
+}
+
+static void count(struct result *result, enum rule rule, size_t length) {
+    if (result->shortest[rule] == 0) {
+        result->differences++;
+        result->found[rule] = result->events;
+    }
+    result->shortest[rule] = length;
+}
+
+/* ---- The rule ---- */
+
+int conformance_pass_over(struct ends *ends, enum rule rule) {
+    if (conformance_has(&ends->left_out, rule)) return 0;
+    if (CONFORMANCE_RULE_ROWS[rule].fields != 0 && !conformance_has(&ends->masked, rule)) {
+        conformance_put(&ends->masked, rule);
+    } else {
+        conformance_put(&ends->left_out, rule);
+    }
+    return 1;
+}
+
+/* Whether the script shows nothing where the events of a rule are left out too. */
+static int is_told_by(struct run *run, enum rule rule) {
+    static struct difference ignored;
+    struct ends ends = run->ends;
+    size_t length;
+    conformance_put(&ends.left_out, rule);
+    length = run->is_anew ? conformance_fresh_compare(&run->fresh, &ends, &run->script, &ignored)
+                          : conformance_compare(&ends, &run->script, &ignored);
+    return length == 0 && !ignored.has_failed;
+}
+
+/* Rules without whose events there is hardly anything left to compare. */
+static void put_needed(struct rule_set *rules) {
+    static const enum rule needed[] = {RULE_FIRST_POLL,  RULE_NEW_BLOCK,   RULE_BLOCK_STAMP, RULE_BLOCK_NUMBER,
+                                       RULE_ANSWER_TYPE, RULE_COUNTER_STEP, RULE_COUNTER_AT_START, RULE_ITEMS_APPLY,
+                                       RULE_ITEM_SETS,   RULE_POLL_NUMBER, RULE_NUMBER_RISES, RULE_TAKEN_WHOLE};
+    size_t row;
+    for (row = 0; row < sizeof needed / sizeof needed[0]; row++) conformance_put(rules, needed[row]);
+}
+
+/* Of the rules without whose events the script shows nothing, the one that the fewest events of the run exercised;
+ * RULES where there is none. */
+static enum rule other_rule(struct run *run) {
+    struct rule_set exercised, tried = run->ends.left_out;
+    enum rule rarest;
+    int rule;
+    put_needed(&tried);
+    conformance_exercised(&run->ends, &run->script, &exercised);
+    do {
+        rarest = RULES;
+        for (rule = 0; rule < RULES; rule++) {
+            if (!conformance_has(&exercised, (enum rule)rule) || conformance_has(&tried, (enum rule)rule)) continue;
+            if (rarest == RULES || run->result->exercised[rule] < run->result->exercised[rarest]) rarest = (enum rule)rule;
+        }
+        if (rarest != RULES) conformance_put(&tried, rarest);
+    } while (rarest != RULES && !is_told_by(run, rarest));
+    return rarest;
+}
+
+/* A rule is passed over already, and a difference is in it again: it is reported once more. The run goes on without another
+ * rule that the script needs; where there is none, as it is. */
+static void tell_apart(struct run *run, enum rule rule) {
+    enum rule other = other_rule(run);
+    if (!conformance_has(&run->again, rule)) {
+        write_report(run, rule, "# This rule is passed over already: it may be the same fault as above, or another one.\n");
+    }
+    conformance_put(&run->again, rule);
+    if (other != RULES) {
+        conformance_put(&run->ends.left_out, other);
+        conformance_put(&run->result->also_left_out, other);
+    } else if (++run->untold == MOST_UNTOLD) {
+        run->result->is_lost = 1;
+        run->result->lost = rule;
+    }
+}
+
+/* A difference that did not come again is reported once; its rule is not passed over. */
+static void report_once(struct run *run, enum rule rule, remark said) {
+    struct result *result = run->result;
+    if (result->shortest[rule] == 0) {
+        count(result, rule, run->script.length);
+        write_report(run, rule, said);
+    }
+    result->once[rule]++;
+}
+
+void conformance_settle(struct run *run) {
+    struct result *result = run->result;
+    int fails = run->difference.failure[0] != '\0';
+    remark said;
+    enum rule rule;
+    hurry(run, TRIAL);
+    said = shrink(run);
+    hurry(run, NO_TRIAL);
+    rule = conformance_judge(&run->ends, &run->script, &run->difference);
+    if (run->difference.is_whole) {
+        report_once(run, rule, said);
+        return;
+    }
+    if (!conformance_has(&result->reported, rule)) {
+        conformance_put(&result->reported, rule);
+        count(result, rule, run->script.length);
+        write_report(run, rule, said);
+    }
+    if (fails && !conformance_has(&run->ends.left_out, rule)) {
+        conformance_put(&run->ends.left_out, rule);
+    } else if (!conformance_pass_over(&run->ends, rule)) {
+        tell_apart(run, rule);
+    }
+}

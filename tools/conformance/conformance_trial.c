@@ -1,0 +1,77 @@
+/* Trials of scripts that are shorter than one that shows a difference. */
+#include "conformance_trial.h"
+
+#include "conformance_clock.h"
+
+#include <string.h>
+
+enum {
+    MOST_TRIED = 20000000, /* after so many events of trials a script is short enough */
+    MOST_MS = 15000,       /* and after so long, where each trial that fails takes time */
+    HURRIED_MS = 100,      /* a trial that goes on for so long without a return is one that hangs */
+    MOST_MISSED = 20       /* after so many trials that show nothing the script is tried again */
+};
+
+struct script conformance_trial;
+
+void conformance_begin_trials(struct shrinking *shrinking, const struct ends *ends, struct fresh *fresh,
+                              struct script *script, struct difference *difference) {
+    memset(shrinking, 0, sizeof *shrinking);
+    shrinking->ends = *ends;
+    shrinking->fresh = fresh;
+    shrinking->script = script;
+    shrinking->difference = difference;
+    shrinking->most = ends->most_tried > 0 ? ends->most_tried : (unsigned long)MOST_TRIED;
+    shrinking->fails = difference->failure[0] != '\0';
+    if (!shrinking->fails) return;
+    shrinking->until_ms = conformance_now_ms() + MOST_MS;
+    if (ends->guard_ms > HURRIED_MS) shrinking->ends.guard_ms = HURRIED_MS;
+    if (ends->outside != NULL) ends->outside->hurry(ends->outside->context, HURRIED_TRIAL);
+}
+
+void conformance_end_trials(struct shrinking *shrinking) {
+    const struct outside *outside = shrinking->ends.outside;
+    if (shrinking->fails && outside != NULL) outside->hurry(outside->context, TRIAL);
+}
+
+void conformance_begin_trial(const struct shrinking *shrinking) { conformance_copy(&conformance_trial, shrinking->script); }
+
+static int is_over(const struct shrinking *shrinking) {
+    return shrinking->tried > shrinking->most ||
+           (shrinking->until_ms != 0 && conformance_now_ms() > shrinking->until_ms);
+}
+
+/* Runs a script. Returns its event with a difference of the same kind, 0 where there is none. */
+static size_t try_script(struct shrinking *shrinking, const struct script *script, struct difference *difference) {
+    size_t length;
+    if (shrinking->fresh != NULL) {
+        length = conformance_fresh_compare(shrinking->fresh, &shrinking->ends, script, difference);
+    } else {
+        length = conformance_compare(&shrinking->ends, script, difference);
+    }
+    shrinking->tried += length > 0 ? length : script->length;
+    if (difference->has_failed) shrinking->tried += shrinking->most;
+    if (difference->has_failed || (difference->failure[0] != '\0') != shrinking->fails) return 0;
+    return length;
+}
+
+/* A trial showed nothing. After many the script itself is tried again, and where it shows nothing any more, that is the
+ * end of it: its difference does not come each time. */
+static int miss(struct shrinking *shrinking, struct difference *ignored) {
+    if (shrinking->ends.outside == NULL || ++shrinking->missed % MOST_MISSED != 0) return 0;
+    if (try_script(shrinking, shrinking->script, ignored) == 0) shrinking->tried += shrinking->most;
+    return 0;
+}
+
+int conformance_take_trial(struct shrinking *shrinking) {
+    static struct difference difference;
+    size_t length;
+    if (is_over(shrinking)) return 0;
+    length = try_script(shrinking, &conformance_trial, &difference);
+    if (length == 0) return miss(shrinking, &difference);
+    shrinking->missed = 0;
+    conformance_trial.length = length;
+    conformance_copy(shrinking->script, &conformance_trial);
+    *shrinking->difference = difference;
+    return 1;
+}
