@@ -1,0 +1,23 @@
+-- Runs of octets in a line.
+use Rattle.std.specs.Prelude.{ℕ, ◌<◌, ◌≤◌, List, length}
+use Rattle.fio_log.specs.Digits.{octet_of}
+use Rattle.fio_log.specs.Written.{IsWritten}
+use Rattle.fio_log.specs.declared.marks.Word.{Word}
+use Rattle.fio_log.specs.declared.runs.Run.{Run}
+
+-- a word has digits, and stands in a line at or behind a place
+pub record IsBehind (line : List ℕ) (place : ℕ) (word : Word) : Type 0 where
+  pub above : place ≤ word.place
+  pub opened : word.place ≤ word.start
+  pub some : word.start < word.stop
+  pub order : word.stop ≤ word.end
+  pub within : word.end ≤ length line
+
+-- A run stands in a line at or behind a place, and its octets are written there. Where the next one may begin is
+-- behind the place where it begins.
+pub record IsRun (line : List ℕ) (from : ℕ) (octets : List ℕ) (run : Run) : Type 0 where
+  pub above : from ≤ run.start
+  pub forward : run.start < run.next
+  pub order : run.next ≤ run.end
+  pub within : run.end ≤ length line
+  pub written : IsWritten octet_of line run.start octets run.end

@@ -1,0 +1,13 @@
+//! Reads logs that have frames of the field I/O link, line by line, by a definition and not by the forms of
+//! known loggers. So far it has the lower layers, and no tool uses it yet.
+#![tactic(auto)]
+
+mod digits;
+mod marks;
+mod octets;
+mod runs;
+
+pub use digits::{digit, is_letter, octet};
+pub use marks::{MARKS, Mark, Word, word_at};
+pub use octets::{Octets, RUN_OCTETS};
+pub use runs::{Run, Separator, next_run};
