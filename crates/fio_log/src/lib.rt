@@ -2,12 +2,16 @@
 //! known loggers. So far it has the lower layers, and no tool uses it yet.
 #![tactic(auto)]
 
+mod checks;
 mod digits;
 mod marks;
 mod octets;
 mod runs;
+mod sayings;
 
+pub use checks::frame_check;
 pub use digits::{digit, is_letter, octet};
 pub use marks::{MARKS, Mark, Word, word_at};
 pub use octets::{Octets, RUN_OCTETS};
 pub use runs::{Run, Separator, next_run};
+pub use sayings::{Saying, read_saying};
