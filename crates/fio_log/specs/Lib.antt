@@ -4,3 +4,4 @@ pub mod Words
 pub mod Runs
 pub mod Checks
 pub mod Sayings
+pub mod Lines

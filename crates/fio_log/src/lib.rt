@@ -4,6 +4,7 @@
 
 mod checks;
 mod digits;
+mod lines;
 mod marks;
 mod octets;
 mod runs;
@@ -11,6 +12,7 @@ mod sayings;
 
 pub use checks::frame_check;
 pub use digits::{digit, is_letter, octet};
+pub use lines::{LINE_OCTETS, LineMaker};
 pub use marks::{MARKS, Mark, Word, word_at};
 pub use octets::{Octets, RUN_OCTETS};
 pub use runs::{Run, Separator, next_run};
