@@ -1,6 +1,8 @@
 pub mod Digits
 pub mod Written
 pub mod Words
+pub mod Numbers
+pub mod Literals
 pub mod Runs
 pub mod Checks
 pub mod Sayings

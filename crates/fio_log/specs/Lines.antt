@@ -114,19 +114,36 @@ abbrev pub is_whole : Ending → Bool
 is_whole Open = false
 is_whole other = true
 
+-- the last line of a text, if it is open and has octets
+abbrev pub finished_by : Ending → List ℕ → Held → Making → Making
+finished_by Open [] Nothing making = no_line
+finished_by Open octets held making = ended making Feed
+finished_by other octets held making = no_line
+
+abbrev pub finished : Making → Making
+finished making = finished_by making.ending making.text.octets making.held making
+
 -- The lines that are whole, and the one that is made.
 pub record Lines : Type 0 where
   pub whole : List Text
   pub making : Making
 
-abbrev pub with_making : Lines → Making → Lines
-with_making lines making = record {
-  whole = if is_whole making.ending then lines.whole ++ making.text ∷ [] else lines.whole;
+-- lines with what an octet has made of the last one
+abbrev pub with_making : List Text → Making → Lines
+with_making whole making = record {
+  whole = if is_whole making.ending then whole ++ making.text ∷ [] else whole;
   making = making }
+
+abbrev pub with_octet_of : Lines → ℕ → Lines
+with_octet_of lines octet = with_making lines.whole (with_octet lines.making octet)
 
 -- the lines after some octets
 abbrev pub lines_after : Lines → List ℕ → Lines
-lines_after lines octets = fold (λ l octet. with_making l (with_octet l.making octet)) lines octets
+lines_after lines octets = fold with_octet_of lines octets
+
+-- no line that is whole, and one that is made
+abbrev pub only : Making → Lines
+only making = record { whole = []; making = making }
 
 -- The lines do not depend on where the octets are cut.
 abbrev pub IsCutAnywhere : Lines → List ℕ → List ℕ → Type 0

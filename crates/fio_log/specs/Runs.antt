@@ -1,9 +1,11 @@
 -- Runs of octets in a line.
 use Rattle.std.specs.Prelude.{ℕ, ◌<◌, ◌≤◌, List, length}
 use Rattle.fio_log.specs.Digits.{octet_of}
+use Rattle.fio_log.specs.Literals.{character_of}
 use Rattle.fio_log.specs.Written.{IsWritten}
 use Rattle.fio_log.specs.declared.marks.Word.{Word}
 use Rattle.fio_log.specs.declared.runs.Run.{Run}
+use Rattle.fio_log.specs.declared.literals.Literal.{Literal}
 
 -- a word has digits, and stands in a line at or behind a place
 pub record IsBehind (line : List ℕ) (place : ℕ) (word : Word) : Type 0 where
@@ -21,3 +23,9 @@ pub record IsRun (line : List ℕ) (from : ℕ) (octets : List ℕ) (run : Run) 
   pub order : run.next ≤ run.end
   pub within : run.end ≤ length line
   pub written : IsWritten octet_of line run.start octets run.end
+
+-- A string literal stands in a line at a place, and its octets are written in it.
+pub record IsLiteral (line : List ℕ) (place : ℕ) (octets : List ℕ) (literal : Literal) : Type 0 where
+  pub forward : place < literal.end
+  pub within : literal.end ≤ length line
+  pub written : IsWritten character_of line place octets literal.end

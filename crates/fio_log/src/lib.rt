@@ -4,8 +4,11 @@
 
 mod checks;
 mod digits;
+pub mod laws;
 mod lines;
+mod literals;
 mod marks;
+mod numbers;
 mod octets;
 mod runs;
 mod sayings;
@@ -13,7 +16,9 @@ mod sayings;
 pub use checks::frame_check;
 pub use digits::{digit, is_letter, octet};
 pub use lines::{LINE_OCTETS, LineMaker};
+pub use literals::{Literal, literal_at};
 pub use marks::{MARKS, Mark, Word, word_at};
+pub use numbers::numbers_at;
 pub use octets::{Octets, RUN_OCTETS};
 pub use runs::{Run, Separator, next_run};
 pub use sayings::{Saying, read_saying};

@@ -1,6 +1,6 @@
 //! Lines of a log, from octets as they come.
-ghost use Rattle.std.specs.Prelude.{◌≡◌};
-ghost use Rattle.fio_log.specs.Lines.{ended, goes_on_held, held_first, held_next, held_octets, held_text, is_whole, no_line, no_text, pushed, with_all, with_character, with_line_octet, with_octet};
+ghost use Rattle.std.specs.Prelude.{◌≡◌, ◌≤◌, ◌<◌, [], true, length, take};
+ghost use Rattle.fio_log.specs.Lines.{ended, finished, goes_on_held, held_first, held_next, held_octets, held_text, is_whole, lines_after, no_line, no_text, only, pushed, with_all, with_character, with_line_octet, with_making, with_octet};
 
 use arrayvec::ArrayVec;
 use std::marker::Model;
@@ -233,6 +233,36 @@ impl LineMaker {
         }
         if ending != Ending::Return || octet != b'\n' {
             self.add_to_line(octet);
+        }
+    }
+
+    /// Reads octets until the line is whole or there are no more, and returns how many it has read.
+    pub fn take(&mut self, octets: &[u8]) -> usize
+        ensures within { result ≤ length octets.now }
+        ensures lines { 0 < length octets.now → lines_after (only self.old) (take result octets.now) ≡ with_making [] self.new }
+        ensures whole { result < length octets.now → is_whole self.new.ending ≡ true }
+        ensures forward { 0 < length octets.now → 0 < result }
+    {
+        let mut count = 0;
+        'octets: while count < octets.len() {
+            self.add(octets[count]);
+            count += 1;
+            if self.is_whole() {
+                break;
+            }
+        }
+        count
+    }
+
+    /// Ends the last line of a text, if it is open and has octets; then it is whole.
+    pub fn finish(&mut self)
+        ensures { self.new ≡ finished self.old }
+    {
+        let is_empty = self.text.octets.is_empty() && self.held == Held::Nothing;
+        if self.ending != Ending::Open || is_empty {
+            self.restart();
+        } else {
+            self.end(Ending::Feed);
         }
     }
 
