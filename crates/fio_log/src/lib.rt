@@ -3,6 +3,7 @@
 #![tactic(auto)]
 
 mod checks;
+mod clock;
 mod digits;
 pub mod laws;
 mod lines;
@@ -14,6 +15,7 @@ mod runs;
 mod sayings;
 
 pub use checks::frame_check;
+pub use clock::{Time, time_in};
 pub use digits::{digit, is_letter, octet};
 pub use lines::{LINE_OCTETS, LineMaker};
 pub use literals::{Literal, literal_at};
