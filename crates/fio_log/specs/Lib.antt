@@ -1,6 +1,7 @@
 pub mod Digits
-pub mod Written
 pub mod Words
+pub mod Readings
+pub mod Written
 pub mod Numbers
 pub mod Literals
 pub mod Runs

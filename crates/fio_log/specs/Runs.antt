@@ -1,6 +1,7 @@
 -- Runs of octets in a line.
-use Rattle.std.specs.Prelude.{ℕ, ◌<◌, ◌≤◌, List, length}
-use Rattle.fio_log.specs.Digits.{octet_of}
+use Rattle.std.specs.Prelude.{◌≡◌, ℕ, ◌<◌, ◌≤◌, List, length, slice_range, take}
+use Rattle.fio_log.specs.Readings.{octets_of}
+use Rattle.fio_log.specs.declared.octets.TheConstants.{RUN_OCTETS}
 use Rattle.fio_log.specs.Literals.{character_of}
 use Rattle.fio_log.specs.Written.{IsWritten}
 use Rattle.fio_log.specs.declared.marks.Word.{Word}
@@ -15,14 +16,14 @@ pub record IsBehind (line : List ℕ) (place : ℕ) (word : Word) : Type 0 where
   pub order : word.stop ≤ word.end
   pub within : word.end ≤ length line
 
--- A run stands in a line at or behind a place, and its octets are written there. Where the next one may begin is
--- behind the place where it begins.
-pub record IsRun (line : List ℕ) (from : ℕ) (octets : List ℕ) (run : Run) : Type 0 where
+-- A run stands in a line at or behind a place, and its octets are all those that its characters spell, up to the most
+-- that are kept. Where the next one may begin is behind the place where it begins.
+pub record IsRun (line : List ℕ) (from : ℕ) (kept : List ℕ) (run : Run) : Type 0 where
   pub above : from ≤ run.start
   pub forward : run.start < run.next
   pub order : run.next ≤ run.end
   pub within : run.end ≤ length line
-  pub written : IsWritten octet_of line run.start octets run.end
+  pub octets : kept ≡ take RUN_OCTETS (octets_of (slice_range line run.start run.end))
 
 -- A string literal stands in a line at a place, and its octets are written in it.
 pub record IsLiteral (line : List ℕ) (place : ℕ) (octets : List ℕ) (literal : Literal) : Type 0 where

@@ -4,7 +4,7 @@ ghost use Rattle.fio_log.specs.Runs.{IsBehind, IsRun};
 
 use crate::digits::is_letter;
 use crate::marks::{Mark, Word, word_at};
-use crate::octets::{Octets, push_word};
+use crate::octets::{Octets, read_words};
 
 /// The mark of words that may stand behind a letter.
 const BACKSLASH: &[u8] = b"\\x";
@@ -75,8 +75,6 @@ fn run_at(line: &[u8], place: usize, mark: Mark, is_short: bool, octets: &mut Oc
     if width % 2 == 1 || !fits(line, first, width) {
         return None;
     }
-    octets.clear();
-    push_word(line, first, octets);
     let mut run = Run {
         start: place,
         end: first.end,
@@ -89,7 +87,6 @@ fn run_at(line: &[u8], place: usize, mark: Mark, is_short: bool, octets: &mut Oc
     let mut last = first;
     let mut is_single = first.stop - first.start == 1;
     'words: while let Some((word, separator)) = next_word(line, run, last, mark) {
-        push_word(line, word, octets);
         run.words += 1;
         run.separator = Some(separator);
         run.is_bare &= line[word.start] != b'0';
@@ -100,6 +97,7 @@ fn run_at(line: &[u8], place: usize, mark: Mark, is_short: bool, octets: &mut Oc
         return None;
     }
     run.end = last.end;
+    read_words(&line[place..last.end], octets);
     run.next = if run.words > 1 && goes_on_otherwise(line, run, last, mark) {
         last.place
     } else {

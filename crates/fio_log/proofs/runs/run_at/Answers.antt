@@ -1,6 +1,4 @@
 use Rattle.std.proofs.Common.{◌≤◌, ◌<◌, ◌≡◌, arith}
-use Rattle.fio_log.specs.Digits.{octet_of}
-use Rattle.fio_log.proofs.WrittenLemmas.{written-later}
 use Rattle.fio_log.proofs.runs.run_at.Goals as goal
 
 pub words-preserved : goal.words-preserved
@@ -18,9 +16,6 @@ words-preserved c =
       };
       on = λ more. omega (arith, found.above, last.above, last.opened, last.some, last.order);
       words = omega (arith, found.above, found.opened, found.some, found.order, c.words.invariant.words);
-      written = c.push_word-in-Some.ensures c.args.place (written-later octet_of c.args.line.now c.args.place
-          c.words.octets.items c.words.last.stop c.in-Some.word.start
-          (omega (arith, found.above, found.opened, last.order)) c.words.invariant.written);
     }
 
 pub returns-then-goes_on_otherwise : goal.returns-then-goes_on_otherwise
@@ -32,8 +27,7 @@ returns-then-goes_on_otherwise c =
       forward = omega (arith, c.words.invariant.start, on);
       order = omega (arith, last.opened, last.some, last.order);
       within = last.within;
-      written = rw c.words.invariant.start (written-later octet_of c.args.line.now c.args.place c.words.octets.items
-          c.words.last.stop c.words.last.end last.order c.words.invariant.written);
+      octets = rw c.words.invariant.start c.read_words.ensures;
     }
 
 pub returns-else-run-gt1 : goal.returns-else-run-gt1
@@ -44,6 +38,5 @@ returns-else-run-gt1 c =
       forward = omega (arith, c.words.invariant.start, last.above, last.opened, last.some, last.order);
       order = omega arith;
       within = last.within;
-      written = rw c.words.invariant.start (written-later octet_of c.args.line.now c.args.place c.words.octets.items
-          c.words.last.stop c.words.last.end last.order c.words.invariant.written);
+      octets = rw c.words.invariant.start c.read_words.ensures;
     }

@@ -1,7 +1,5 @@
 use Rattle.std.proofs.Common.{◌≡◌, ◌-◌, ◌≤◌, ◌<◌, length}
-use Rattle.fio_log.specs.Digits.{octet_of}
 use Rattle.fio_log.specs.Runs.{IsBehind}
-use Rattle.fio_log.specs.Written.{IsWritten}
 use Rattle.fio_log.proofs.runs.run_at.Given as goal
 
 abbrev pub invariant-words : goal.invariant-words
@@ -10,7 +8,6 @@ invariant-words l = record {
   last : IsBehind l.line l.place l.last;
   on : 1 < l.run.words → l.place < l.last.place;
   words : l.run.words ≤ l.last.end;
-  written : IsWritten octet_of l.line l.place l.octets.items l.last.stop;
 }
 
 abbrev pub decreases-words : goal.decreases-words
