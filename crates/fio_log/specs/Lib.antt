@@ -1,9 +1,9 @@
 pub mod Digits
 pub mod Words
 pub mod Readings
-pub mod Written
 pub mod Numbers
 pub mod Literals
+pub mod Written
 pub mod Runs
 pub mod Checks
 pub mod Sayings

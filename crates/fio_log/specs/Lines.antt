@@ -12,6 +12,7 @@ pub record Text : Type 0 where
   pub octets : List ℕ
   pub is_long : Bool
 
+-- a text without octets
 abbrev pub no_text : Text
 no_text = record { octets = []; is_long = false }
 
@@ -89,11 +90,13 @@ with_character making octet =
     then record {
       text = with_all making.text (held_text making.held);
       held = held_next making.held octet;
-      ending = Open }
+      ending = Open;
+    }
     else record {
       text = with_all (with_all making.text (held_octets making.held)) (own_text octet);
       held = held_first octet;
-      ending = Open }
+      ending = Open;
+    }
 
 -- a line with one octet more: LF is 10, CR is 13
 abbrev pub with_line_octet : Making → ℕ → Making
@@ -107,9 +110,11 @@ with_octet_after Open making octet = with_line_octet making octet
 with_octet_after Feed making octet = with_line_octet no_line octet
 with_octet_after Return making octet = if octet == 10 then no_line else with_line_octet no_line octet
 
+-- a line with one octet more
 abbrev pub with_octet : Making → ℕ → Making
 with_octet making octet = with_octet_after making.ending making octet
 
+-- whether a line with this ending is whole
 abbrev pub is_whole : Ending → Bool
 is_whole Open = false
 is_whole other = true
@@ -120,6 +125,7 @@ finished_by Open [] Nothing making = no_line
 finished_by Open octets held making = ended making Feed
 finished_by other octets held making = no_line
 
+-- what the end of a text makes of the line
 abbrev pub finished : Making → Making
 finished making = finished_by making.ending making.text.octets making.held making
 
@@ -132,8 +138,10 @@ pub record Lines : Type 0 where
 abbrev pub with_making : List Text → Making → Lines
 with_making whole making = record {
   whole = if is_whole making.ending then whole ++ making.text ∷ [] else whole;
-  making = making }
+  making = making;
+}
 
+-- lines with one octet more
 abbrev pub with_octet_of : Lines → ℕ → Lines
 with_octet_of lines octet = with_making lines.whole (with_octet lines.making octet)
 

@@ -2,6 +2,7 @@
 use Rattle.std.specs.Prelude.{ℕ, ◌+◌, ◌-◌, ◌*◌, ◌&&◌, ◌||◌, ◌==◌, nat_le, if◌then◌else◌, List, [], ◌∷◌, Option, Some, None, option_and_then}
 use Rattle.fio_log.specs.Digits.{is_between, octet_of}
 
+-- the value of an octal digit
 abbrev pub octal_digit : ℕ → Option ℕ
 octal_digit character = if is_between 48 55 character then Some (character - 48) else None
 
@@ -33,8 +34,8 @@ character_of (backslash ∷ a ∷ b ∷ []) =
 character_of (backslash ∷ a ∷ b ∷ c ∷ []) =
     if backslash == 92
     then (if a == 120 then octet_of (b ∷ c ∷ [])
-      else option_and_then (λ number. if nat_le number 255 then Some number else None)
-        (option_and_then (λ number. option_and_then (λ eights. with_octal eights c) (with_octal number b)) (octal_digit a)))
+    else option_and_then (λ number. if nat_le number 255 then Some number else None)
+    (option_and_then (λ number. option_and_then (λ eights. with_octal eights c) (with_octal number b)) (octal_digit a)))
     else None
 character_of (backslash ∷ u ∷ a ∷ b ∷ high ∷ low ∷ []) =
     if backslash == 92 && u == 117 && a == 48 && b == 48 then octet_of (high ∷ low ∷ []) else None

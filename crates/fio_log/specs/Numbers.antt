@@ -2,6 +2,7 @@
 use Rattle.std.specs.Prelude.{ℕ, ◌+◌, ◌-◌, ◌*◌, ◌%◌, ◌&&◌, ◌==◌, not, nat_le, if◌then◌else◌, List, [], ◌∷◌, Option, Some, None, option_and_then, slice_index, drop}
 use Rattle.fio_log.specs.Digits.{is_between}
 
+-- the value of a decimal digit
 abbrev pub decimal_digit : ℕ → Option ℕ
 decimal_digit character = if is_between 48 57 character then Some (character - 48) else None
 
@@ -24,5 +25,5 @@ abbrev pub number_of : List ℕ → Option ℕ
 number_of text =
     if slice_index text 0 == 45
     then option_and_then (λ number. if nat_le number 128 then Some ((256 - number) % 256) else None)
-        (decimal_of (drop 1 text))
+    (decimal_of (drop 1 text))
     else option_and_then (λ number. if nat_le number 255 then Some number else None) (decimal_of text)

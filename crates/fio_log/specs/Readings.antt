@@ -7,6 +7,7 @@ pub record Reading : Type 0 where
   pub octets : List ℕ
   pub waiting : Option ℕ
 
+-- nothing is read
 abbrev pub no_reading : Reading
 no_reading = record { octets = []; waiting = None }
 
@@ -22,11 +23,14 @@ abbrev pub waits_then : Option ℕ → Option ℕ → Option ℕ
 waits_then None digit = digit
 waits_then (Some high) digit = None
 
+-- a reading with one character more
 abbrev pub with_reading : Reading → ℕ → Reading
 with_reading reading character = record {
   octets = reading.octets ++ option_to_list (made_whole reading.waiting (digit_of character) character);
-  waiting = waits_then reading.waiting (digit_of character) }
+  waiting = waits_then reading.waiting (digit_of character);
+}
 
+-- the reading of a text
 abbrev pub reading_of : List ℕ → Reading
 reading_of text = fold with_reading no_reading text
 

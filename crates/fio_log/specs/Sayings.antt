@@ -41,7 +41,7 @@ abbrev pub is_checked : List ℕ → ℕ → ℕ → Bool
 is_checked octets start end =
     nat_lt (start + 4) end && spells (slice_range octets (start + 2) (end - 2))
     && (slice_index octets (end - 2) + 256 * slice_index octets (end - 1)
-        == frame_check_of (slice_range octets start (end - 2)))
+    == frame_check_of (slice_range octets start (end - 2)))
 
 -- Where a frame ends that begins at a place, if only flags stand from there to another place.
 abbrev pub frame_end : List ℕ → ℕ → ℕ → Option ℕ

@@ -70,12 +70,23 @@ impl Parts {
             return 0;
         }
         let is_early = self.month < 3;
-        let year = if is_early { self.year.saturating_sub(1) } else { self.year };
-        let month = if is_early { self.month.saturating_add(9) } else { self.month - 3 };
+        let year = if is_early {
+            self.year.saturating_sub(1)
+        } else {
+            self.year
+        };
+        let month = if is_early {
+            self.month.saturating_add(9)
+        } else {
+            self.month - 3
+        };
         let leaps = year / 4 - year / 100 + year / 400;
         let days = year.saturating_mul(365).saturating_add(leaps);
         let in_year = month.saturating_mul(153).saturating_add(2) / 5;
-        let all = days.saturating_add(in_year).saturating_add(self.day).saturating_sub(1);
+        let all = days
+            .saturating_add(in_year)
+            .saturating_add(self.day)
+            .saturating_sub(1);
         all.saturating_sub(DAYS_TO_1970)
     }
 
@@ -84,7 +95,9 @@ impl Parts {
         let hours = self.days().saturating_mul(24).saturating_add(self.hour);
         let minutes = hours.saturating_mul(60).saturating_add(self.minute);
         let seconds = minutes.saturating_mul(60).saturating_add(self.second);
-        seconds.saturating_mul(1_000_000).saturating_add(self.microseconds)
+        seconds
+            .saturating_mul(1_000_000)
+            .saturating_add(self.microseconds)
     }
 }
 
@@ -166,7 +179,10 @@ fn part_end(line: &[u8], place: usize, sign: u8, parts: &mut Parts) -> Option<us
     let count = end - place;
     let is_right = match sign {
         b'E' => (count == 10 || count == 13) && character(line, place) == b'1',
-        b'F' => count > 0 && character(line, end) == b'.' && end + 1 < line.len() && is_decimal(line[end + 1]),
+        b'F' => count > 0
+            && character(line, end) == b'.'
+            && end + 1 < line.len()
+            && is_decimal(line[end + 1]),
         b'Y' => count == 4,
         b'm' | b's' => count == 2,
         _ => count > 0,
@@ -201,7 +217,9 @@ fn gap_end(line: &[u8], place: usize) -> Option<usize>
     ensures within { IfSome result (λ end. end ≤ length line.now) }
 {
     let mut end = place;
-    'signs: while end < line.len() && matches!(line[end], b' ' | b'\t' | b'T' | b'_' | b',' | b';' | b'-') {
+    'signs: while end < line.len()
+        && matches!(line[end], b' ' | b'\t' | b'T' | b'_' | b',' | b';' | b'-')
+    {
         end += 1;
     }
     (end > place).then_some(end)
@@ -216,7 +234,11 @@ fn month_end(line: &[u8], place: usize, parts: &mut Parts) -> Option<usize>
     let [a, b, c, ..] = &line[place..] else {
         return None;
     };
-    let name = [a.to_ascii_lowercase(), b.to_ascii_lowercase(), c.to_ascii_lowercase()];
+    let name = [
+        a.to_ascii_lowercase(),
+        b.to_ascii_lowercase(),
+        c.to_ascii_lowercase(),
+    ];
     let month = MONTHS.iter().position(|month| **month == *name.as_slice())?;
     parts.month = month as u64 + 1;
     Some(place + 3)

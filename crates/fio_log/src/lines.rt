@@ -270,7 +270,7 @@ impl LineMaker {
     pub fn is_whole(&self) -> bool
         ensures { result ≡ is_whole self.now.ending }
     {
-        self.ending != Ending::Open
+        matches!(self.ending, Ending::Feed | Ending::Return)
     }
 
     /// Returns whether the line has more octets than are kept.

@@ -15,21 +15,66 @@ pub struct Mark {
 
 /// The marks that words may have: none, prefixes, suffixes, brackets and quotes.
 pub const MARKS: [Mark; 15] = [
-    Mark { before: b"", after: b"" },
-    Mark { before: b"0x", after: b"" },
-    Mark { before: b"0X", after: b"" },
-    Mark { before: b"\\x", after: b"" },
-    Mark { before: b"$", after: b"" },
-    Mark { before: b"%", after: b"" },
-    Mark { before: b"", after: b"h" },
-    Mark { before: b"", after: b"H" },
-    Mark { before: b"[", after: b"]" },
-    Mark { before: b"<", after: b">" },
-    Mark { before: b"{", after: b"}" },
-    Mark { before: b"'0x", after: b"'" },
-    Mark { before: b"\"0x", after: b"\"" },
-    Mark { before: b"'", after: b"'" },
-    Mark { before: b"\"", after: b"\"" },
+    Mark {
+        before: b"",
+        after: b"",
+    },
+    Mark {
+        before: b"0x",
+        after: b"",
+    },
+    Mark {
+        before: b"0X",
+        after: b"",
+    },
+    Mark {
+        before: b"\\x",
+        after: b"",
+    },
+    Mark {
+        before: b"$",
+        after: b"",
+    },
+    Mark {
+        before: b"%",
+        after: b"",
+    },
+    Mark {
+        before: b"",
+        after: b"h",
+    },
+    Mark {
+        before: b"",
+        after: b"H",
+    },
+    Mark {
+        before: b"[",
+        after: b"]",
+    },
+    Mark {
+        before: b"<",
+        after: b">",
+    },
+    Mark {
+        before: b"{",
+        after: b"}",
+    },
+    Mark {
+        before: b"'0x",
+        after: b"'",
+    },
+    Mark {
+        before: b"\"0x",
+        after: b"\"",
+    },
+    Mark {
+        before: b"'",
+        after: b"'",
+    },
+    Mark {
+        before: b"\"",
+        after: b"\"",
+    },
 ];
 
 /// A word of hexadecimal digits in a line, by the indexes of its characters.

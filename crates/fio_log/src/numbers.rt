@@ -9,10 +9,22 @@ use crate::octets::{Octets, add};
 
 /// The brackets that may stand around decimal numbers.
 const BRACKETS: [Mark; 4] = [
-    Mark { before: b"[", after: b"]" },
-    Mark { before: b"(", after: b")" },
-    Mark { before: b"{", after: b"}" },
-    Mark { before: b"<<", after: b">>" },
+    Mark {
+        before: b"[",
+        after: b"]",
+    },
+    Mark {
+        before: b"(",
+        after: b")",
+    },
+    Mark {
+        before: b"{",
+        after: b"}",
+    },
+    Mark {
+        before: b"<<",
+        after: b">>",
+    },
 ];
 
 /// Returns where the brackets end that open at a place of a line, if in them stand decimal numbers that are octets, and
@@ -34,7 +46,11 @@ pub fn numbers_at(line: &[u8], place: usize, octets: &mut Octets) -> Option<usiz
         is_high |= !is_signed && octet > 127;
         if let Some(close) = end_of(line, behind, brackets.after) {
             let is_lone = octets.len() == 1 && brackets.before == ROUND;
-            return if is_lone || is_negative && is_high { None } else { Some(close) };
+            return if is_lone || is_negative && is_high {
+                None
+            } else {
+                Some(close)
+            };
         }
         end = comma_end(line, behind)?;
     }
@@ -62,7 +78,11 @@ fn number_end(line: &[u8], place: usize) -> usize
     ensures order { place ≤ result }
     ensures within { result ≤ length line.now }
 {
-    let mut end = if line[place] == b'-' { place + 1 } else { place };
+    let mut end = if line[place] == b'-' {
+        place + 1
+    } else {
+        place
+    };
     'digits: while end < line.len() && is_decimal(line[end]) {
         end += 1;
     }

@@ -42,7 +42,13 @@ pub struct Run {
 /// Returns the first run at or behind a place of a line whose words have a mark, and writes its octets to `octets`. With
 /// `is_short` its words have one or two digits, one of them one, and none begins with 0 before another digit; else they
 /// have 2, 4 or 8, or it is one word of any even number. Octets above the most are not kept.
-pub fn next_run(line: &[u8], from: usize, mark: Mark, is_short: bool, octets: &mut Octets) -> Option<Run>
+pub fn next_run(
+    line: &[u8],
+    from: usize,
+    mark: Mark,
+    is_short: bool,
+    octets: &mut Octets,
+) -> Option<Run>
     ensures { IfSome result (IsRun line.now from octets.new.items) }
 {
     let mut place = from;
@@ -71,7 +77,11 @@ fn run_at(line: &[u8], place: usize, mark: Mark, is_short: bool, octets: &mut Oc
     ensures { IfSome result (IsRun line.now place octets.new.items) }
 {
     let first = word_at(line, place, mark)?;
-    let width = if is_short { 0 } else { first.stop - first.start };
+    let width = if is_short {
+        0
+    } else {
+        first.stop - first.start
+    };
     if width % 2 == 1 || !fits(line, first, width) {
         return None;
     }
@@ -93,7 +103,9 @@ fn run_at(line: &[u8], place: usize, mark: Mark, is_short: bool, octets: &mut Oc
         is_single |= word.stop - word.start == 1;
         last = word;
     }
-    if is_short && (!is_single || run.words == 1 && mark.before.is_empty() && mark.after.is_empty()) {
+    if is_short
+        && (!is_single || run.words == 1 && mark.before.is_empty() && mark.after.is_empty())
+    {
         return None;
     }
     run.end = last.end;
@@ -142,7 +154,11 @@ fn goes_on_otherwise(line: &[u8], run: Run, last: Word, mark: Mark) -> bool
     requires within { last.end ≤ length line.now }
 {
     let alone = Run {
-        width: if run.width > 0 { last.stop - last.start } else { 0 },
+        width: if run.width > 0 {
+            last.stop - last.start
+        } else {
+            0
+        },
         words: 1,
         separator: None,
         ..run
@@ -157,7 +173,9 @@ fn separator_at(line: &[u8], place: usize, is_eighth: bool) -> Option<(Separator
     ensures { IfSome result (λ found. (place ≤ found.1) × (found.1 ≤ length line.now)) }
 {
     let mut end = place;
-    'signs: while end < line.len() && matches!(line[end], b' ' | b'\t' | b',' | b';' | b':' | b'-' | b'|') {
+    'signs: while end < line.len()
+        && matches!(line[end], b' ' | b'\t' | b',' | b';' | b':' | b'-' | b'|')
+    {
         end += 1;
     }
     let (sign, before, behind) = match *(&line[place..end]) {
@@ -170,5 +188,12 @@ fn separator_at(line: &[u8], place: usize, is_eighth: bool) -> Option<(Separator
         [b' ', sign, b' '] => (sign, true, true),
         _ => return None,
     };
-    Some((Separator { sign, before, behind }, end))
+    Some((
+        Separator {
+            sign,
+            before,
+            behind,
+        },
+        end,
+    ))
 }

@@ -8,14 +8,14 @@ use Rattle.fio_log.proofs.numbers.numbers_at.Goals as goal
 pub returns-else-is_high-clause-written : goal.returns-else-is_high-clause-written
 returns-else-is_high-clause-written c =
     let more = c.add.ensures number_of c.args.line.now c.args.place c.numbers.end c.number_end-behind.result
-        c.number_end-behind.ensures.order (sym c.in_ok-octet.ensures) c.numbers.invariant.written in
+    c.number_end-behind.ensures.order (sym c.in_ok-octet.ensures) c.numbers.invariant.written in
     written-later number_of c.args.line.now c.args.place c.add.new.octets.items c.number_end-behind.result c.in-Some.close
-        c.in-Some.ensures.order more
+    c.in-Some.ensures.order more
 
 pub numbers-preserved : goal.numbers-preserved
 numbers-preserved c =
     let more = c.add.ensures number_of c.args.line.now c.args.place c.numbers.end c.number_end-behind.result
-        c.number_end-behind.ensures.order (sym c.in_ok-octet.ensures) c.numbers.invariant.written in
+    c.number_end-behind.ensures.order (sym c.in_ok-octet.ensures) c.numbers.invariant.written in
     record {
       within = c.in_ok-end.ensures.1;
       written = written-later number_of c.args.line.now c.args.place c.add.new.octets.items c.number_end-behind.result

@@ -24,5 +24,5 @@ returns c =
     let index = c.characters.character-index in
     let text = c.args.text.now in
     all-octets RUN_OCTETS c.characters.octets.items (take index text) text c.characters.waiting
-        c.add_some-2.new.octets.items (take_all index text c.characters-test.false) c.characters.invariant.octets
-        c.characters.invariant.waiting c.add_some-2.ensures
+    c.add_some-2.new.octets.items (take_all index text c.characters-test.false) c.characters.invariant.octets
+    c.characters.invariant.waiting c.add_some-2.ensures

@@ -10,13 +10,13 @@ returns-then-is_checked-clause-end c =
 pub returns-then-octets-end-ne-FLAG-clause-end : goal.returns-then-octets-end-ne-FLAG-clause-end
 returns-then-octets-end-ne-FLAG-clause-end c =
     ends-nowhere c.args.octets.now c.args.start c.ends.end c.ends-test.true
-        (sym c.is_checked.ensures ∙ c.if-is_checked.false) c.if-octets-end-ne-FLAG.true
+    (sym c.is_checked.ensures ∙ c.if-is_checked.false) c.if-octets-end-ne-FLAG.true
     ∙ c.ends.invariant.end
 
 pub ends-preserved : goal.ends-preserved
 ends-preserved c = record {
   end = ends-before c.args.octets.now c.args.start c.ends.end c.ends-test.true
-        (sym c.is_checked.ensures ∙ c.if-is_checked.false) c.if-octets-end-ne-FLAG.false
-    ∙ c.ends.invariant.end;
+      (sym c.is_checked.ensures ∙ c.if-is_checked.false) c.if-octets-end-ne-FLAG.false
+      ∙ c.ends.invariant.end;
   within = omega arith;
 }
