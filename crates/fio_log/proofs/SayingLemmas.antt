@@ -1,5 +1,5 @@
 -- Where a frame ends, step by step.
-use Rattle.std.proofs.Common.{◌≡◌, ◌≢◌, ◌≤◌, ◌⊎◌, inl, inr, ap, ◌∙◌, ℕ, zero, suc, ◌-◌, ◌<◌, ◌==◌, Bool, true, false, List, length, Option, Some, None, refl, arith, slice_index}
+use Rattle.std.proofs.Common.{◌≡◌, ◌≢◌, ◌≤◌, inl, inr, ap, ◌∙◌, ℕ, zero, suc, ◌-◌, ◌<◌, ◌==◌, true, false, List, length, Some, None, refl, arith, slice_index}
 use Rattle.std.proofs.lemmas.Bool.Decides.{leb_tells, nat_tests}
 use Rattle.fio_message.specs.Octets.{IsFrameLength}
 use Rattle.fio_message.specs.Refusals.{Refuses}

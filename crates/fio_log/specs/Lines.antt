@@ -1,5 +1,5 @@
 -- Lines of a log, octet by octet, without byte order marks, NUL and colour sequences; a no-break space is a blank.
-use Rattle.std.specs.Prelude.{◌≡◌, ℕ, ◌+◌, ◌==◌, ◌||◌, Bool, true, false, nat_lt, if◌then◌else◌, List, [], ◌∷◌, ◌++◌, length, fold}
+use Rattle.std.specs.Prelude.{◌≡◌, ℕ, ◌==◌, ◌||◌, Bool, true, false, nat_lt, if◌then◌else◌, List, [], ◌∷◌, ◌++◌, length, fold}
 use Rattle.fio_log.specs.Digits.{is_between}
 use Rattle.fio_log.specs.declared.lines.Held.{Held}
 use Rattle.fio_log.specs.declared.lines.Held.TheVariants.{Nothing, Escape, Colour, NoBreak, Mark, SecondMark}

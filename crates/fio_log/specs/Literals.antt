@@ -1,5 +1,5 @@
 -- Octets as the characters of a string literal, with the escapes of C, Python and JSON.
-use Rattle.std.specs.Prelude.{ℕ, ◌+◌, ◌-◌, ◌*◌, ◌&&◌, ◌||◌, ◌==◌, nat_le, if◌then◌else◌, List, [], ◌∷◌, Option, Some, None, option_and_then}
+use Rattle.std.specs.Prelude.{ℕ, ◌+◌, ◌-◌, ◌*◌, ◌&&◌, ◌||◌, ◌==◌, Bool, true, false, nat_le, if◌then◌else◌, List, [], ◌∷◌, Option, Some, None, option_and_then}
 use Rattle.fio_log.specs.Digits.{is_between, octet_of}
 
 -- the value of an octal digit
@@ -40,3 +40,8 @@ character_of (backslash ∷ a ∷ b ∷ c ∷ []) =
 character_of (backslash ∷ u ∷ a ∷ b ∷ high ∷ low ∷ []) =
     if backslash == 92 && u == 117 && a == 48 && b == 48 then octet_of (high ∷ low ∷ []) else None
 character_of other = None
+
+-- between two characters of a literal stands nothing
+abbrev pub is_empty : List ℕ → Bool
+is_empty [] = true
+is_empty other = false

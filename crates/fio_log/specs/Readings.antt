@@ -1,5 +1,5 @@
 -- The octets that a text of hexadecimal words spells, whatever marks and separators it has.
-use Rattle.std.specs.Prelude.{ℕ, ◌+◌, ◌*◌, ◌||◌, ◌==◌, if◌then◌else◌, List, [], ◌∷◌, ◌++◌, Option, Some, None, fold, option_to_list}
+use Rattle.std.specs.Prelude.{ℕ, ◌+◌, ◌*◌, ◌||◌, ◌==◌, if◌then◌else◌, List, [], ◌++◌, Option, Some, None, fold, option_to_list}
 use Rattle.fio_log.specs.Digits.{digit_of}
 
 -- the octets that are whole, and a digit that waits for its second one

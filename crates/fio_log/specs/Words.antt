@@ -1,5 +1,5 @@
 -- Words of hexadecimal digits and what stands around them.
-use Rattle.std.specs.Prelude.{◌≡◌, ℕ, ◌+◌, ◌-◌, ◌<◌, ◌≤◌, ◌==◌, ◌&&◌, ◌||◌, Bool, true, false, nat_lt, List, slice_range, slice_index, is_some, length}
+use Rattle.std.specs.Prelude.{◌≡◌, ℕ, ◌+◌, ◌<◌, ◌≤◌, ◌==◌, ◌&&◌, ◌||◌, Bool, true, false, List, slice_range, slice_index, is_some, length}
 use Rattle.fio_log.specs.Digits.{digit_of, is_between, is_letter}
 use Rattle.fio_log.specs.declared.marks.Word.{Word}
 

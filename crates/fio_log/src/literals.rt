@@ -4,7 +4,7 @@ ghost use Rattle.fio_log.specs.Literals.{character_of, escape_of, octal_digit};
 ghost use Rattle.fio_log.specs.Runs.{IsLiteral};
 
 use crate::digits::{is_letter, octet};
-use crate::octets::{Octets, add};
+use crate::octets::Octets;
 
 /// A string literal in a line.
 #[derive(Clone, Copy, Debug, PartialEq, Eq)]
@@ -34,7 +34,10 @@ pub fn literal_at(line: &[u8], place: usize, octets: &mut Octets) -> Option<Lite
         let behind = end + character_length(line, end);
         let text = line.get(end..behind)?;
         let octet = character(text)?;
-        add(octets, octet);
+        if octets.is_full() {
+            return None;
+        }
+        octets.push(octet);
         has_escape |= text.len() > 1;
         is_plain |= text.len() == 1;
         is_escaped |= is_hexadecimal(text) && is_printable(octet);

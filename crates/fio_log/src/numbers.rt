@@ -1,75 +1,85 @@
 //! Octets that are written as decimal numbers in brackets.
-ghost use Rattle.std.specs.Prelude.{◌≡◌, ◌≤◌, ◌<◌, IfSome, length};
-ghost use Rattle.fio_log.specs.Numbers.{decimal_digit, decimal_of, number_of};
-ghost use Rattle.fio_log.specs.Written.{IsWritten};
+ghost use Rattle.std.specs.Prelude.{◌≡◌, ◌≤◌, ◌<◌, IfSome, length, slice_range, true};
+ghost use Rattle.fio_log.specs.Numbers.{decimal_digit, decimal_of, is_break, is_closing, number_of};
+ghost use Rattle.fio_log.specs.Runs.{IsNumbers};
 
 use crate::digits::is_decimal;
-use crate::marks::{Mark, end_of};
-use crate::octets::{Octets, add};
+use crate::marks::end_of;
+use crate::octets::Octets;
 
-/// The brackets that may stand around decimal numbers.
-const BRACKETS: [Mark; 4] = [
-    Mark {
-        before: b"[",
-        after: b"]",
-    },
-    Mark {
-        before: b"(",
-        after: b")",
-    },
-    Mark {
-        before: b"{",
-        after: b"}",
-    },
-    Mark {
-        before: b"<<",
-        after: b">>",
-    },
-];
+/// The brackets that may open before decimal numbers.
+const OPENING: [&[u8]; 4] = [b"[", b"(", b"{", b"<<"];
+
+/// What may stand between two of them.
+const COMMAS: [&[u8]; 3] = [b", ", b",", b" "];
 
 /// Returns where the brackets end that open at a place of a line, if in them stand decimal numbers that are octets, and
 /// writes these to `octets`. They are from -128 to 255, not both negative and above 127, without zeros before them, and
-/// a comma, a blank or both between. One number in round brackets is none.
+/// a comma, a blank or both between. One number in round brackets is none, and more than the most are none.
 pub fn numbers_at(line: &[u8], place: usize, octets: &mut Octets) -> Option<usize>
-    ensures written { IfSome result (IsWritten number_of line.now place octets.new.items) }
-    ensures within { IfSome result (λ end. end ≤ length line.now) }
+    ensures { IfSome result (IsNumbers line.now place octets.new.items) }
 {
-    let (brackets, mut end) = opened(line, place)?;
+    let mut end = break_end(line, place, &OPENING)?;
+    let close = closing(line[place]);
     octets.clear();
     let (mut is_negative, mut is_high) = (false, false);
-    'numbers: while end < line.len() {
+    'numbers: while end < line.len() && !octets.is_full() {
         let behind = number_end(line, end);
         let octet = number(&line[end..behind])?;
-        add(octets, octet);
+        octets.push(octet);
         let is_signed = line[end] == b'-';
-        is_negative |= is_signed && octet > 0;
-        is_high |= !is_signed && octet > 127;
-        if let Some(close) = end_of(line, behind, brackets.after) {
-            let is_lone = octets.len() == 1 && brackets.before == ROUND;
+        is_negative |= is_signed & (octet > 0);
+        is_high |= !is_signed & (octet > 127);
+        if let Some(shut) = end_of(line, behind, close) {
+            let is_lone = octets.len() == 1 && line[place] == b'(';
             return if is_lone || is_negative && is_high {
                 None
             } else {
-                Some(close)
+                Some(shut)
             };
         }
-        end = comma_end(line, behind)?;
+        end = break_end(line, behind, &COMMAS)?;
     }
     None
 }
 
-/// The bracket around arguments, where one number is no octet.
-const ROUND: &[u8] = b"(";
-
-/// Returns the brackets that open at a place of a line, and where what is in them begins.
-fn opened(line: &[u8], place: usize) -> Option<(Mark, usize)>
-    ensures { IfSome result (λ found. (place ≤ found.1) × (found.1 ≤ length line.now)) }
+/// Returns where the first of some breaks ends that stands at a place of a line.
+fn break_end(line: &[u8], place: usize, breaks: &[&[u8]]) -> Option<usize>
+    ensures { IfSome result (λ end.
+        (place < end) × (end ≤ length line.now) × (is_break (slice_range line.now place end) ≡ true)) }
 {
-    for brackets in BRACKETS {
-        if let Some(end) = end_of(line, place, brackets.before) {
-            return Some((brackets, end));
+    for text in breaks {
+        if let Some(end) = end_of(line, place, text)
+            && place < end
+            && is_break(&line[place..end])
+        {
+            return Some(end);
         }
     }
     None
+}
+
+/// Returns whether a text may stand before a number.
+fn is_break(text: &[u8]) -> bool
+    ensures { result ≡ is_break text.now }
+{
+    match *text {
+        [sign] => matches!(sign, b' ' | b'(' | b',' | b'[' | b'{'),
+        [sign, other] => sign == b',' && other == b' ' || sign == b'<' && other == b'<',
+        _ => false,
+    }
+}
+
+/// Returns the bracket that closes what one opens.
+fn closing(opening: u8) -> &'static [u8]
+    ensures { is_closing result.now ≡ true }
+{
+    match opening {
+        b'[' => b"]",
+        b'(' => b")",
+        b'{' => b"}",
+        _ => b">>",
+    }
 }
 
 /// Returns where a number ends that begins at a place of a line: its sign and its digits, perhaps none.
@@ -87,16 +97,6 @@ fn number_end(line: &[u8], place: usize) -> usize
         end += 1;
     }
     end
-}
-
-/// Returns where a comma, a blank or both end that stand at a place of a line.
-fn comma_end(line: &[u8], place: usize) -> Option<usize>
-    requires { place ≤ length line.now }
-    ensures { IfSome result (λ end. (place < end) × (end ≤ length line.now)) }
-{
-    let comma = end_of(line, place, b",").unwrap_or(place);
-    let end = end_of(line, comma, b" ").unwrap_or(comma);
-    (end > place).then_some(end)
 }
 
 /// Returns the octet that a number from -128 to 255 spells.

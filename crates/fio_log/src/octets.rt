@@ -2,7 +2,6 @@
 ghost use Rattle.std.specs.Prelude.{◌≡◌, ◌<◌, [], ◌∷◌, ◌++◌, MatchOption, take};
 ghost use Rattle.std.specs.Option.{ForSome};
 ghost use Rattle.fio_log.specs.Digits.{digit_of};
-ghost use Rattle.fio_log.specs.Written.{StaysWritten};
 ghost use Rattle.fio_log.specs.Readings.{made_whole, octets_of, waits_then};
 
 use crate::digits::digit;
@@ -67,15 +66,6 @@ fn add_some(octets: &mut Octets, octet: Option<u8>)
 /// Appends an octet; one above the most is not kept.
 fn add_one(octets: &mut Octets, octet: u8)
     ensures { octets.new.items ≡ take RUN_OCTETS (octets.old.items ++ octet ∷ []) }
-{
-    if !octets.is_full() {
-        octets.push(octet);
-    }
-}
-
-/// Appends an octet; one above the most is not kept.
-pub(crate) fn add(octets: &mut Octets, octet: u8)
-    ensures { StaysWritten octets.old.items octet octets.new.items }
 {
     if !octets.is_full() {
         octets.push(octet);

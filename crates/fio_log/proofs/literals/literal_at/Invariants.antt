@@ -1,5 +1,5 @@
-use Rattle.std.proofs.Common.{◌-◌, ◌<◌, ◌≤◌, length}
-use Rattle.fio_log.specs.Literals.{character_of}
+use Rattle.std.proofs.Common.{◌+◌, ◌-◌, ◌<◌, ◌≤◌, length}
+use Rattle.fio_log.specs.Literals.{character_of, is_empty}
 use Rattle.fio_log.specs.Written.{IsWritten}
 use Rattle.fio_log.proofs.literals.literal_at.Given as goal
 
@@ -7,7 +7,7 @@ abbrev pub invariant-characters : goal.invariant-characters
 invariant-characters l = record {
   forward : l.place < l.end;
   within : l.end ≤ length l.line;
-  written : IsWritten character_of l.line l.place l.octets.items l.end;
+  written : IsWritten character_of is_empty l.line (l.place + 1) l.octets.items l.end;
 }
 
 abbrev pub decreases-characters : goal.decreases-characters

@@ -1,23 +1,41 @@
-use Rattle.std.proofs.Common.{◌≡◌, ◌≤◌, length, sym, ◌∙◌, arith}
-use Rattle.std.specs.Prelude.{Some, slice_range}
-use Rattle.fio_log.specs.Numbers.{number_of}
-use Rattle.fio_log.specs.Written.{IsWritten}
-use Rattle.fio_log.proofs.WrittenLemmas.{written-later}
+use Rattle.std.proofs.Common.{sym, refl, arith}
+use Rattle.fio_log.specs.Numbers.{is_break, number_of}
+use Rattle.fio_log.proofs.WrittenLemmas.{written-more}
 use Rattle.fio_log.proofs.numbers.numbers_at.Goals as goal
 
-pub returns-else-is_high-clause-written : goal.returns-else-is_high-clause-written
-returns-else-is_high-clause-written c =
-    let more = c.add.ensures number_of c.args.line.now c.args.place c.numbers.end c.number_end-behind.result
-    c.number_end-behind.ensures.order (sym c.in_ok-octet.ensures) c.numbers.invariant.written in
-    written-later number_of c.args.line.now c.args.place c.add.new.octets.items c.number_end-behind.result c.in-Some.close
-    c.in-Some.ensures.order more
+pub numbers-init : goal.numbers-init
+numbers-init c = record {
+  order = c.in_ok-end.ensures.0;
+  within = c.in_ok-end.ensures.1;
+  written = (c.args.place, omega (arith, c.in_ok-end.ensures.0), c.in_ok-end.ensures.2, rw c.clear.ensures refl);
+}
 
 pub numbers-preserved : goal.numbers-preserved
 numbers-preserved c =
-    let more = c.add.ensures number_of c.args.line.now c.args.place c.numbers.end c.number_end-behind.result
-    c.number_end-behind.ensures.order (sym c.in_ok-octet.ensures) c.numbers.invariant.written in
+    let above = c.numbers.invariant.written in
+    let next = c.in_ok-end-2.ensures in
     record {
-      within = c.in_ok-end.ensures.1;
-      written = written-later number_of c.args.line.now c.args.place c.add.new.octets.items c.number_end-behind.result
-          c.in_ok-end.end (omega (arith, c.in_ok-end.ensures.0)) more;
+      order = omega (arith, c.numbers.invariant.order, c.number_end-behind.ensures.order, next.0);
+      within = next.1;
+      written = (
+        c.number_end-behind.result,
+        omega (arith, next.0),
+        next.2,
+        rw c.push.ensures.items (written-more number_of is_break
+            c.args.line.now c.args.place c.numbers.octets.items above.0 c.numbers.end c.in_ok-octet.octet
+            c.number_end-behind.result above.1 above.2 (sym c.in_ok-octet.ensures) above.3),
+      );
+    }
+
+pub returns-else-is_high : goal.returns-else-is_high
+returns-else-is_high c =
+    let above = c.numbers.invariant.written in
+    let shut = c.in-Some.ensures in
+    record {
+      last = c.number_end-behind.result;
+      within = shut.within;
+      closed = rw shut.same c.closing-close.ensures;
+      written = rw c.push.ensures.items (written-more number_of is_break
+          c.args.line.now c.args.place c.numbers.octets.items above.0 c.numbers.end c.in_ok-octet.octet
+          c.number_end-behind.result above.1 above.2 (sym c.in_ok-octet.ensures) above.3);
     }

@@ -1,4 +1,4 @@
-use Rattle.std.proofs.Common.{get_or, take, sym, ◌∙◌, ap, arith}
+use Rattle.std.proofs.Common.{get_or, take}
 use Rattle.std.proofs.lemmas.List.{take_all}
 use Rattle.std.proofs.lemmas.List.Sums.{fold_more}
 use Rattle.fio_log.specs.Readings.{no_reading, reading_of, with_reading}

@@ -1,4 +1,4 @@
-use Rattle.std.proofs.Common.{◌≤◌, ◌<◌, ◌≡◌, arith}
+use Rattle.std.proofs.Common.{◌<◌, arith}
 use Rattle.fio_log.proofs.runs.run_at.Goals as goal
 
 pub words-preserved : goal.words-preserved

@@ -1,4 +1,4 @@
-use Rattle.std.proofs.Common.{◌≡◌, ◌<◌, inl, inr, rules, arith, refl, ap, ◌∙◌, sym, true, slice_index, ◌==◌}
+use Rattle.std.proofs.Common.{◌≡◌, inl, inr, rules, arith, refl, true, slice_index, ◌==◌}
 use Rattle.std.proofs.lemmas.Bool.Decides.{nat_tests}
 use Rattle.std.proofs.lemmas.List.Sums.{prefix_len_passes}
 use Rattle.fio_log.specs.declared.sayings.TheConstants.{FLAG}
