@@ -1,0 +1,4 @@
+pub mod Standing
+pub mod WrittenLemmas
+pub mod SayingLemmas
+pub mod ReadingLemmas

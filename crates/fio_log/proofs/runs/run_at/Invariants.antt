@@ -1,0 +1,14 @@
+use Rattle.std.proofs.Common.{◌≡◌, ◌-◌, ◌≤◌, ◌<◌, length}
+use Rattle.fio_log.specs.Runs.{IsBehind}
+use Rattle.fio_log.proofs.runs.run_at.Given as goal
+
+abbrev pub invariant-words : goal.invariant-words
+invariant-words l = record {
+  start : l.run.start ≡ l.place;
+  last : IsBehind l.line l.place l.last;
+  on : 1 < l.run.words → l.place < l.last.place;
+  words : l.run.words ≤ l.last.end;
+}
+
+abbrev pub decreases-words : goal.decreases-words
+decreases-words l = length l.line - l.last.end

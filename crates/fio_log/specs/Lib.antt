@@ -1,0 +1,10 @@
+pub mod Digits
+pub mod Words
+pub mod Readings
+pub mod Numbers
+pub mod Literals
+pub mod Written
+pub mod Runs
+pub mod Checks
+pub mod Sayings
+pub mod Lines

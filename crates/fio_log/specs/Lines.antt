@@ -1,0 +1,158 @@
+-- Lines of a log, octet by octet, without byte order marks, NUL and colour sequences; a no-break space is a blank.
+use Rattle.std.specs.Prelude.{◌≡◌, ℕ, ◌==◌, ◌||◌, Bool, true, false, nat_lt, if◌then◌else◌, List, [], ◌∷◌, ◌++◌, length, fold}
+use Rattle.fio_log.specs.Digits.{is_between}
+use Rattle.fio_log.specs.declared.lines.Held.{Held}
+use Rattle.fio_log.specs.declared.lines.Held.TheVariants.{Nothing, Escape, Colour, NoBreak, Mark, SecondMark}
+use Rattle.fio_log.specs.declared.lines.Ending.{Ending}
+use Rattle.fio_log.specs.declared.lines.Ending.TheVariants.{Open, Feed, Return}
+use Rattle.fio_log.specs.declared.lines.TheConstants.{LINE_OCTETS}
+
+-- the octets of a line, at most 65,536, and whether it has more
+pub record Text : Type 0 where
+  pub octets : List ℕ
+  pub is_long : Bool
+
+-- a text without octets
+abbrev pub no_text : Text
+no_text = record { octets = []; is_long = false }
+
+-- a text with one octet more
+abbrev pub pushed : Text → ℕ → Text
+pushed text octet =
+    if nat_lt (length text.octets) LINE_OCTETS
+    then record { octets = text.octets ++ octet ∷ []; is_long = text.is_long }
+    else record { octets = text.octets; is_long = true }
+
+-- a text with several octets more
+abbrev pub with_all : Text → List ℕ → Text
+with_all text octets = fold pushed text octets
+
+-- The octets that begin what may be taken out: ESC is 27, a no-break space is 194 160, a byte order mark is 239 187 191.
+abbrev pub held_octets : Held → List ℕ
+held_octets Nothing = []
+held_octets Escape = 27 ∷ []
+held_octets Colour = []
+held_octets NoBreak = 194 ∷ []
+held_octets Mark = 239 ∷ []
+held_octets SecondMark = 239 ∷ 187 ∷ []
+
+-- whether an octet goes on what is held; `[` is 91
+abbrev pub goes_on_held : Held → ℕ → Bool
+goes_on_held Nothing octet = false
+goes_on_held Escape octet = octet == 91
+goes_on_held Colour octet = true
+goes_on_held NoBreak octet = octet == 160
+goes_on_held Mark octet = octet == 187
+goes_on_held SecondMark octet = octet == 191
+
+-- what is held then: a colour sequence ends with a letter
+abbrev pub held_next : Held → ℕ → Held
+held_next Nothing octet = Nothing
+held_next Escape octet = Colour
+held_next Colour octet = if is_between 65 90 octet || is_between 97 122 octet then Nothing else Colour
+held_next NoBreak octet = Nothing
+held_next Mark octet = SecondMark
+held_next SecondMark octet = Nothing
+
+-- what stands in the line for what is held, where an octet goes it on: a blank for a no-break space
+abbrev pub held_text : Held → List ℕ
+held_text NoBreak = 32 ∷ []
+held_text other = []
+
+-- what an octet by itself begins
+abbrev pub held_first : ℕ → Held
+held_first octet =
+    if octet == 27 then Escape else (if octet == 194 then NoBreak else (if octet == 239 then Mark else Nothing))
+
+-- what an octet by itself adds to the line
+abbrev pub own_text : ℕ → List ℕ
+own_text octet = if octet == 0 || octet == 27 || octet == 194 || octet == 239 then [] else octet ∷ []
+
+-- A line that is made: its text, what is held of it, and its ending, as soon as it is whole.
+pub record Making : Type 0 where
+  pub text : Text
+  pub held : Held
+  pub ending : Ending
+
+-- a line that is not begun
+abbrev pub no_line : Making
+no_line = record { text = no_text; held = Nothing; ending = Open }
+
+-- a line that is whole
+abbrev pub ended : Making → Ending → Making
+ended making ending =
+    record { text = with_all making.text (held_octets making.held); held = Nothing; ending = ending }
+
+-- a line with one octet more that does not end it
+abbrev pub with_character : Making → ℕ → Making
+with_character making octet =
+    if goes_on_held making.held octet
+    then record {
+      text = with_all making.text (held_text making.held);
+      held = held_next making.held octet;
+      ending = Open;
+    }
+    else record {
+      text = with_all (with_all making.text (held_octets making.held)) (own_text octet);
+      held = held_first octet;
+      ending = Open;
+    }
+
+-- a line with one octet more: LF is 10, CR is 13
+abbrev pub with_line_octet : Making → ℕ → Making
+with_line_octet making octet =
+    if octet == 10 then ended making Feed
+    else (if octet == 13 then ended making Return else with_character making octet)
+
+-- An octet more: behind a whole line the next one begins, and LF directly behind CR is part of its ending.
+abbrev pub with_octet_after : Ending → Making → ℕ → Making
+with_octet_after Open making octet = with_line_octet making octet
+with_octet_after Feed making octet = with_line_octet no_line octet
+with_octet_after Return making octet = if octet == 10 then no_line else with_line_octet no_line octet
+
+-- a line with one octet more
+abbrev pub with_octet : Making → ℕ → Making
+with_octet making octet = with_octet_after making.ending making octet
+
+-- whether a line with this ending is whole
+abbrev pub is_whole : Ending → Bool
+is_whole Open = false
+is_whole other = true
+
+-- the last line of a text, if it is open and has octets
+abbrev pub finished_by : Ending → List ℕ → Held → Making → Making
+finished_by Open [] Nothing making = no_line
+finished_by Open octets held making = ended making Feed
+finished_by other octets held making = no_line
+
+-- what the end of a text makes of the line
+abbrev pub finished : Making → Making
+finished making = finished_by making.ending making.text.octets making.held making
+
+-- The lines that are whole, and the one that is made.
+pub record Lines : Type 0 where
+  pub whole : List Text
+  pub making : Making
+
+-- lines with what an octet has made of the last one
+abbrev pub with_making : List Text → Making → Lines
+with_making whole making = record {
+  whole = if is_whole making.ending then whole ++ making.text ∷ [] else whole;
+  making = making;
+}
+
+-- lines with one octet more
+abbrev pub with_octet_of : Lines → ℕ → Lines
+with_octet_of lines octet = with_making lines.whole (with_octet lines.making octet)
+
+-- the lines after some octets
+abbrev pub lines_after : Lines → List ℕ → Lines
+lines_after lines octets = fold with_octet_of lines octets
+
+-- no line that is whole, and one that is made
+abbrev pub only : Making → Lines
+only making = record { whole = []; making = making }
+
+-- The lines do not depend on where the octets are cut.
+abbrev pub IsCutAnywhere : Lines → List ℕ → List ℕ → Type 0
+IsCutAnywhere lines octets more = lines_after lines (octets ++ more) ≡ lines_after (lines_after lines octets) more

@@ -1,0 +1,298 @@
+//! Times in lines of logs. They are told with a frame, and read none.
+ghost use Rattle.std.specs.Prelude.{◌≤◌, ◌<◌, IfSome, length};
+
+use crate::digits::{digit, is_decimal, is_letter};
+use crate::marks::character;
+
+/// A time in a line.
+#[derive(Clone, Copy, Debug, PartialEq, Eq)]
+pub struct Time {
+    /// Where it begins.
+    pub start: usize,
+    /// Where it ends.
+    pub end: usize,
+    /// How late it is, in microseconds since 1970, or since midnight or a start where it has no date.
+    pub microseconds: u64,
+}
+
+/// The forms of times: `Y` has four digits, `m` and `s` two, `M`, `D` and `h` one or two, `N` is the name of a month, `_` a
+/// gap, `E` the seconds or milliseconds since 1970, `F` seconds with a fraction.
+const FORMS: [&[u8]; 8] = [
+    b"Y-M-D_h:m:s",
+    b"Y/M/D_h:m:s",
+    b"D.M.Y_h:m:s",
+    b"M/D/Y_h:m:s",
+    b"N_D_h:m:s",
+    b"h:m:s",
+    b"E",
+    b"F",
+];
+
+/// The names of months.
+const MONTHS: [&[u8]; 12] = [
+    b"jan", b"feb", b"mar", b"apr", b"may", b"jun", b"jul", b"aug", b"sep", b"oct", b"nov", b"dec",
+];
+
+/// How far into a line a time may begin.
+const TIME_OCTETS: usize = 200;
+
+/// The days from 1 March of the year 0 to 1970.
+const DAYS_TO_1970: u64 = 719_468;
+
+/// The parts of a time. A day of 0 says that it has no date.
+#[derive(Clone, Copy)]
+struct Parts {
+    year: u64,
+    month: u64,
+    day: u64,
+    hour: u64,
+    minute: u64,
+    second: u64,
+    microseconds: u64,
+}
+
+impl Parts {
+    /// Sets the part of a sign of a form.
+    fn set(&mut self, sign: u8, value: u64) {
+        match sign {
+            b'Y' => self.year = value,
+            b'M' => self.month = value,
+            b'D' => self.day = value,
+            b'h' => self.hour = value,
+            b'm' => self.minute = value,
+            _ => self.second = value,
+        }
+    }
+
+    /// Returns the days since 1970, 0 without a date. A year begins with March here.
+    fn days(&self) -> u64 {
+        if self.day == 0 {
+            return 0;
+        }
+        let is_early = self.month < 3;
+        let year = if is_early {
+            self.year.saturating_sub(1)
+        } else {
+            self.year
+        };
+        let month = if is_early {
+            self.month.saturating_add(9)
+        } else {
+            self.month - 3
+        };
+        let leaps = year / 4 - year / 100 + year / 400;
+        let days = year.saturating_mul(365).saturating_add(leaps);
+        let in_year = month.saturating_mul(153).saturating_add(2) / 5;
+        let all = days
+            .saturating_add(in_year)
+            .saturating_add(self.day)
+            .saturating_sub(1);
+        all.saturating_sub(DAYS_TO_1970)
+    }
+
+    /// Returns the microseconds since 1970, or since midnight.
+    fn total(&self) -> u64 {
+        let hours = self.days().saturating_mul(24).saturating_add(self.hour);
+        let minutes = hours.saturating_mul(60).saturating_add(self.minute);
+        let seconds = minutes.saturating_mul(60).saturating_add(self.second);
+        seconds
+            .saturating_mul(1_000_000)
+            .saturating_add(self.microseconds)
+    }
+}
+
+/// Returns the first time in a line.
+pub fn time_in(line: &[u8]) -> Option<Time>
+    ensures order { IfSome result (λ time. time.start ≤ time.end) }
+    ensures within { IfSome result (λ time. time.end ≤ length line.now) }
+{
+    for start in 0..line.len().min(TIME_OCTETS) {
+        if may_begin(line, start) {
+            for form in FORMS {
+                if let Some(time) = time_at(line, start, form) {
+                    return Some(time);
+                }
+            }
+        }
+    }
+    None
+}
+
+/// Returns whether a time may begin at a place: with a digit or a letter, and behind none, and no `.`, `:`, `-` or `/`.
+fn may_begin(line: &[u8], place: usize) -> bool
+    requires { place < length line.now }
+{
+    let is_free = match line[..place].last() {
+        Some(before) => !is_letter(*before) && !matches!(*before, b'.' | b':' | b'-' | b'/'),
+        None => true,
+    };
+    is_free && line[place].is_ascii_alphanumeric()
+}
+
+/// Returns the time of a form that begins at a place of a line.
+fn time_at(line: &[u8], start: usize, form: &[u8]) -> Option<Time>
+    requires { start ≤ length line.now }
+    ensures order { IfSome result (λ time. time.start ≤ time.end) }
+    ensures within { IfSome result (λ time. time.end ≤ length line.now) }
+{
+    let mut parts = Parts {
+        year: 1970,
+        month: 0,
+        day: 0,
+        hour: 0,
+        minute: 0,
+        second: 0,
+        microseconds: 0,
+    };
+    let mut end = start;
+    'signs: for sign in form {
+        end = part_end(line, end, *sign, &mut parts)?;
+    }
+    let end = fraction_end(line, end, &mut parts);
+    if goes_on(line, end) {
+        return None;
+    }
+    set_half(line, end, &mut parts);
+    (parts.hour < 24 && parts.minute < 60 && parts.month < 13).then_some(Time {
+        start,
+        end,
+        microseconds: parts.total(),
+    })
+}
+
+/// Returns where the part of a time ends that begins at a place of a line, and sets it.
+fn part_end(line: &[u8], place: usize, sign: u8, parts: &mut Parts) -> Option<usize>
+    requires { place ≤ length line.now }
+    ensures order { IfSome result (λ end. place ≤ end) }
+    ensures within { IfSome result (λ end. end ≤ length line.now) }
+{
+    let digits = match sign {
+        b'_' => return gap_end(line, place),
+        b'N' => return month_end(line, place, parts),
+        b'E' => 14,
+        b'F' => 9,
+        b'Y' => 4,
+        b'M' | b'D' | b'h' | b'm' | b's' => 2,
+        _ => return (character(line, place) == sign).then_some((place + 1).min(line.len())),
+    };
+    let (value, end) = number_at(line, place, digits);
+    let count = end - place;
+    let is_right = match sign {
+        b'E' => (count == 10 || count == 13) && character(line, place) == b'1',
+        b'F' => count > 0
+            && character(line, end) == b'.'
+            && end + 1 < line.len()
+            && is_decimal(line[end + 1]),
+        b'Y' => count == 4,
+        b'm' | b's' => count == 2,
+        _ => count > 0,
+    };
+    if count == 13 {
+        parts.microseconds = value % 1000 * 1000;
+    }
+    parts.set(sign, if count == 13 { value / 1000 } else { value });
+    is_right.then_some(end)
+}
+
+/// Returns the number of the digits, at most so many, that begin at a place of a line, and where they end.
+fn number_at(line: &[u8], place: usize, most: usize) -> (u64, usize)
+    requires { place ≤ length line.now }
+    ensures order { place ≤ result.1 }
+    ensures within { result.1 ≤ length line.now }
+{
+    let mut end = place;
+    let mut number = 0_u64;
+    'digits: while end < line.len() && end - place < most && is_decimal(line[end]) {
+        let digit = u64::from(line[end].wrapping_sub(b'0'));
+        number = number.saturating_mul(10).saturating_add(digit);
+        end += 1;
+    }
+    (number, end)
+}
+
+/// Returns where a gap between date and time ends.
+fn gap_end(line: &[u8], place: usize) -> Option<usize>
+    requires { place ≤ length line.now }
+    ensures order { IfSome result (λ end. place ≤ end) }
+    ensures within { IfSome result (λ end. end ≤ length line.now) }
+{
+    let mut end = place;
+    'signs: while end < line.len()
+        && matches!(line[end], b' ' | b'\t' | b'T' | b'_' | b',' | b';' | b'-')
+    {
+        end += 1;
+    }
+    (end > place).then_some(end)
+}
+
+/// Returns where the name of a month ends that stands at a place of a line, and sets the month.
+fn month_end(line: &[u8], place: usize, parts: &mut Parts) -> Option<usize>
+    requires { place ≤ length line.now }
+    ensures order { IfSome result (λ end. place ≤ end) }
+    ensures within { IfSome result (λ end. end ≤ length line.now) }
+{
+    let [a, b, c, ..] = &line[place..] else {
+        return None;
+    };
+    let name = [
+        a.to_ascii_lowercase(),
+        b.to_ascii_lowercase(),
+        c.to_ascii_lowercase(),
+    ];
+    let month = MONTHS.iter().position(|month| **month == *name.as_slice())?;
+    parts.month = month as u64 + 1;
+    Some(place + 3)
+}
+
+/// Returns where the fraction of a second ends that begins at a place of a line, and sets its microseconds.
+fn fraction_end(line: &[u8], place: usize, parts: &mut Parts) -> usize
+    requires { place ≤ length line.now }
+    ensures order { place ≤ result }
+    ensures within { result ≤ length line.now }
+{
+    if place == line.len() || !matches!(line[place], b'.' | b',') {
+        return place;
+    }
+    let (_number, end) = number_at(line, place + 1, 9);
+    if end == place + 1 {
+        return place;
+    }
+    let mut microseconds = 0_u64;
+    let mut scale = 100_000_u64;
+    for character in &line[place + 1..end] {
+        let digit = u64::from(character.wrapping_sub(b'0'));
+        microseconds = microseconds.saturating_add(digit.saturating_mul(scale));
+        scale /= 10;
+    }
+    parts.microseconds = microseconds;
+    end
+}
+
+/// Returns whether what stands at a place of a line goes on a word or a number with colons.
+fn goes_on(line: &[u8], place: usize) -> bool
+    requires { place ≤ length line.now }
+{
+    match &line[place..] {
+        [b'Z', ..] => false,
+        [b':', next, ..] => digit(*next).is_some(),
+        [next, ..] => is_letter(*next),
+        [] => false,
+    }
+}
+
+/// Sets the hour of the half of a day, `AM` or `PM`, that may stand at a place of a line.
+fn set_half(line: &[u8], place: usize, parts: &mut Parts)
+    requires { place ≤ length line.now }
+{
+    let mut place = place;
+    'blanks: while place < line.len() && line[place] == b' ' {
+        place += 1;
+    }
+    if let [half, b'M' | b'm', ..] = &line[place..] {
+        match *half {
+            b'A' | b'a' => parts.hour %= 12,
+            b'P' | b'p' => parts.hour = parts.hour % 12 + 12,
+            _ => {}
+        }
+    }
+}

@@ -1,0 +1,289 @@
+//! Lines of a log, from octets as they come.
+ghost use Rattle.std.specs.Prelude.{◌≡◌, ◌≤◌, ◌<◌, [], true, length, take};
+ghost use Rattle.fio_log.specs.Lines.{ended, finished, goes_on_held, held_first, held_next, held_octets, held_text, is_whole, lines_after, no_line, no_text, only, pushed, with_all, with_character, with_line_octet, with_making, with_octet};
+
+use arrayvec::ArrayVec;
+use std::marker::Model;
+
+/// The most octets of a line that are kept. A line with more is passed over.
+pub const LINE_OCTETS: usize = 65_536;
+
+/// Octets that may be the beginning of something that is taken out.
+#[derive(Clone, Copy, Debug, PartialEq, Eq)]
+enum Held {
+    /// None.
+    Nothing,
+    /// An escape.
+    Escape,
+    /// A colour sequence.
+    Colour,
+    /// The first octet of a no-break space.
+    NoBreak,
+    /// The first octet of a byte order mark.
+    Mark,
+    /// Its first two octets.
+    SecondMark,
+}
+
+impl Held {
+    /// Returns its octets, if they stay in the line.
+    fn octets(self) -> &'static [u8]
+        ensures { result.now ≡ held_octets self }
+    {
+        match self {
+            Held::Nothing | Held::Colour => b"",
+            Held::Escape => b"\x1b",
+            Held::NoBreak => b"\xc2",
+            Held::Mark => b"\xef",
+            Held::SecondMark => b"\xef\xbb",
+        }
+    }
+
+    /// Returns what stands in the line for it, where an octet goes it on.
+    fn text(self) -> &'static [u8]
+        ensures { result.now ≡ held_text self }
+    {
+        match self {
+            Held::NoBreak => b" ",
+            _ => b"",
+        }
+    }
+
+    /// Returns whether an octet goes it on.
+    fn goes_on(self, octet: u8) -> bool
+        ensures { result ≡ goes_on_held self octet }
+    {
+        match self {
+            Held::Nothing => false,
+            Held::Escape => octet == b'[',
+            Held::Colour => true,
+            Held::NoBreak => octet == 0xa0,
+            Held::Mark => octet == 0xbb,
+            Held::SecondMark => octet == 0xbf,
+        }
+    }
+
+    /// Returns what is held with an octet that goes it on.
+    fn next(self, octet: u8) -> Held
+        ensures { result ≡ held_next self octet }
+    {
+        match self {
+            Held::Escape => Held::Colour,
+            Held::Colour if !octet.is_ascii_alphabetic() => Held::Colour,
+            Held::Mark => Held::SecondMark,
+            _ => Held::Nothing,
+        }
+    }
+
+    /// Returns what an octet by itself begins.
+    fn first(octet: u8) -> Held
+        ensures { result ≡ held_first octet }
+    {
+        match octet {
+            0x1b => Held::Escape,
+            0xc2 => Held::NoBreak,
+            0xef => Held::Mark,
+            _ => Held::Nothing,
+        }
+    }
+}
+
+/// How a line ends.
+#[derive(Clone, Copy, Debug, PartialEq, Eq)]
+enum Ending {
+    /// It does not yet.
+    Open,
+    /// With LF, or with the text.
+    Feed,
+    /// With CR.
+    Return,
+}
+
+/// The octets of a line.
+#[derive(Drop)]
+struct LineText {
+    octets: ArrayVec<u8, LINE_OCTETS>,
+    is_long: bool,
+}
+
+impl Model for LineText {
+    ghost use Rattle.fio_log.specs.Lines.{Text};
+
+    ghost Value = { Text };
+
+    ghost view = { λ t. record { octets = t.octets.items; is_long = t.is_long } };
+}
+
+impl LineText {
+    /// Takes all octets out.
+    fn clear(&mut self)
+        ensures { self.new ≡ no_text }
+    {
+        self.octets.clear();
+        self.is_long = false;
+    }
+
+    /// Appends an octet; one above the most is not kept.
+    fn push(&mut self, octet: u8)
+        ensures { self.new ≡ pushed self.old octet }
+    {
+        if self.octets.len() < LINE_OCTETS {
+            self.octets.push(octet);
+        } else {
+            self.is_long = true;
+        }
+    }
+
+    /// Appends octets.
+    fn push_all(&mut self, octets: &[u8])
+        ensures { self.new ≡ with_all self.old octets.now }
+    {
+        for octet in octets {
+            self.push(*octet);
+        }
+    }
+}
+
+/// Makes lines of octets. A line ends at LF, CR LF or CR. Byte order marks, NUL and colour sequences are taken out, and a
+/// no-break space is a blank.
+#[derive(Drop)]
+pub struct LineMaker {
+    text: LineText,
+    held: Held,
+    ending: Ending,
+}
+
+impl Model for LineMaker {
+    ghost use Rattle.fio_log.specs.Lines.{Making};
+
+    ghost Value = { Making };
+
+    ghost view = { λ m. record { text = m.text; held = m.held; ending = m.ending } };
+}
+
+impl LineMaker {
+    /// Returns a line that is not begun.
+    pub fn new() -> LineMaker
+        ensures { result ≡ no_line }
+    {
+        LineMaker {
+            text: LineText {
+                octets: ArrayVec::new(),
+                is_long: false,
+            },
+            held: Held::Nothing,
+            ending: Ending::Open,
+        }
+    }
+
+    /// Begins the next line.
+    fn restart(&mut self)
+        ensures { self.new ≡ no_line }
+    {
+        self.text.clear();
+        self.held = Held::Nothing;
+        self.ending = Ending::Open;
+    }
+
+    /// Ends the line.
+    fn end(&mut self, ending: Ending)
+        ensures { self.new ≡ ended self.old ending }
+    {
+        self.text.push_all(self.held.octets());
+        self.held = Held::Nothing;
+        self.ending = ending;
+    }
+
+    /// Reads one octet more that does not end the line.
+    fn add_character(&mut self, octet: u8)
+        requires { self.old.ending ≡ Ending.Open }
+        ensures { self.new ≡ with_character self.old octet }
+    {
+        if self.held.goes_on(octet) {
+            self.text.push_all(self.held.text());
+            self.held = self.held.next(octet);
+        } else {
+            self.text.push_all(self.held.octets());
+            self.held = Held::first(octet);
+            if !matches!(octet, 0 | 0x1b | 0xc2 | 0xef) {
+                self.text.push(octet);
+            }
+        }
+    }
+
+    /// Reads one octet more of a line that is not whole.
+    fn add_to_line(&mut self, octet: u8)
+        requires { self.old.ending ≡ Ending.Open }
+        ensures { self.new ≡ with_line_octet self.old octet }
+    {
+        match octet {
+            b'\n' => self.end(Ending::Feed),
+            b'\r' => self.end(Ending::Return),
+            _ => self.add_character(octet),
+        }
+    }
+
+    /// Reads one octet more. Behind a whole line it begins the next one.
+    pub fn add(&mut self, octet: u8)
+        ensures { self.new ≡ with_octet self.old octet }
+    {
+        let ending = self.ending;
+        if ending != Ending::Open {
+            self.restart();
+        }
+        if ending != Ending::Return || octet != b'\n' {
+            self.add_to_line(octet);
+        }
+    }
+
+    /// Reads octets until the line is whole or there are no more, and returns how many it has read.
+    pub fn take(&mut self, octets: &[u8]) -> usize
+        ensures within { result ≤ length octets.now }
+        ensures lines { 0 < length octets.now → lines_after (only self.old) (take result octets.now) ≡ with_making [] self.new }
+        ensures whole { result < length octets.now → is_whole self.new.ending ≡ true }
+        ensures forward { 0 < length octets.now → 0 < result }
+    {
+        let mut count = 0;
+        'octets: while count < octets.len() {
+            self.add(octets[count]);
+            count += 1;
+            if self.is_whole() {
+                break;
+            }
+        }
+        count
+    }
+
+    /// Ends the last line of a text, if it is open and has octets; then it is whole.
+    pub fn finish(&mut self)
+        ensures { self.new ≡ finished self.old }
+    {
+        let is_empty = self.text.octets.is_empty() && self.held == Held::Nothing;
+        if self.ending != Ending::Open || is_empty {
+            self.restart();
+        } else {
+            self.end(Ending::Feed);
+        }
+    }
+
+    /// Returns whether the line is whole.
+    pub fn is_whole(&self) -> bool
+        ensures { result ≡ is_whole self.now.ending }
+    {
+        matches!(self.ending, Ending::Feed | Ending::Return)
+    }
+
+    /// Returns whether the line has more octets than are kept.
+    pub fn is_long(&self) -> bool
+        ensures { result ≡ self.now.text.is_long }
+    {
+        self.text.is_long
+    }
+
+    /// Returns the octets of the line.
+    pub fn octets(&self) -> &[u8]
+        ensures { result.now ≡ self.now.text.octets }
+    {
+        self.text.octets.as_slice()
+    }
+}

@@ -1,0 +1,151 @@
+//! Words of hexadecimal digits, with the marks that may stand around them.
+ghost use Rattle.std.specs.Prelude.{◌≡◌, ◌≤◌, IfSome, length, slice_index};
+ghost use Rattle.fio_log.specs.Words.{AreDigits, IsWord, StandsAt, goes_on};
+
+use crate::digits::{digit, is_decimal, is_letter};
+
+/// What stands before the digits of a word and behind them.
+#[derive(Clone, Copy, Debug)]
+pub struct Mark {
+    /// What stands before them.
+    pub before: &'static [u8],
+    /// What stands behind them.
+    pub after: &'static [u8],
+}
+
+/// The marks that words may have: none, prefixes, suffixes, brackets and quotes.
+pub const MARKS: [Mark; 15] = [
+    Mark {
+        before: b"",
+        after: b"",
+    },
+    Mark {
+        before: b"0x",
+        after: b"",
+    },
+    Mark {
+        before: b"0X",
+        after: b"",
+    },
+    Mark {
+        before: b"\\x",
+        after: b"",
+    },
+    Mark {
+        before: b"$",
+        after: b"",
+    },
+    Mark {
+        before: b"%",
+        after: b"",
+    },
+    Mark {
+        before: b"",
+        after: b"h",
+    },
+    Mark {
+        before: b"",
+        after: b"H",
+    },
+    Mark {
+        before: b"[",
+        after: b"]",
+    },
+    Mark {
+        before: b"<",
+        after: b">",
+    },
+    Mark {
+        before: b"{",
+        after: b"}",
+    },
+    Mark {
+        before: b"'0x",
+        after: b"'",
+    },
+    Mark {
+        before: b"\"0x",
+        after: b"\"",
+    },
+    Mark {
+        before: b"'",
+        after: b"'",
+    },
+    Mark {
+        before: b"\"",
+        after: b"\"",
+    },
+];
+
+/// A word of hexadecimal digits in a line, by the indexes of its characters.
+#[derive(Clone, Copy, Debug, PartialEq, Eq)]
+pub struct Word {
+    /// Where its mark begins.
+    pub place: usize,
+    /// Where its digits begin.
+    pub start: usize,
+    /// Where its digits end.
+    pub stop: usize,
+    /// Where its mark ends.
+    pub end: usize,
+}
+
+/// Returns the word with a mark that begins at a place of a line, if nothing behind it goes it on.
+pub fn word_at(line: &[u8], place: usize, mark: Mark) -> Option<Word>
+    ensures { IfSome result (IsWord line.now mark.before.now mark.after.now place) }
+{
+    let start = end_of(line, place, mark.before)?;
+    let stop = digits_end(line, start);
+    let end = end_of(line, stop, mark.after)?;
+    if start == stop || goes_on(line, end) {
+        return None;
+    }
+    Some(Word {
+        place,
+        start,
+        stop,
+        end,
+    })
+}
+
+/// Returns where a text ends that stands at a place of a line; `None` if it does not.
+pub(crate) fn end_of(line: &[u8], place: usize, text: &[u8]) -> Option<usize>
+    ensures { IfSome result (StandsAt line.now text.now place) }
+{
+    let rest = line.get(place..)?.strip_prefix(text)?;
+    Some(line.len() - rest.len())
+}
+
+/// Returns where the hexadecimal digits end that begin at a place of a line, perhaps none.
+fn digits_end(line: &[u8], start: usize) -> usize
+    requires { start ≤ length line.now }
+    ensures order { start ≤ result }
+    ensures within { result ≤ length line.now }
+    ensures digits { AreDigits line.now start result }
+{
+    let mut end = start;
+    'digits: while end < line.len() && digit(line[end]).is_some() {
+        end += 1;
+    }
+    end
+}
+
+/// Returns the character at a place of a line, 0 behind it.
+pub(crate) fn character(line: &[u8], place: usize) -> u8
+    ensures { result ≡ slice_index line.now place }
+{
+    match line.get(place) {
+        Some(character) => *character,
+        None => 0,
+    }
+}
+
+/// Returns whether what stands at a place of a line goes on a word that ends there: a letter or digit, or a decimal
+/// point and a digit.
+fn goes_on(line: &[u8], place: usize) -> bool
+    requires { place ≤ length line.now }
+    ensures { result ≡ goes_on line.now place }
+{
+    let next = character(line, place);
+    is_letter(next) || next == b'.' && is_decimal(character(line, place + 1))
+}

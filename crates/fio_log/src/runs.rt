@@ -1,0 +1,199 @@
+//! Runs: the longest rows of octets of a line that are written as hexadecimal words.
+ghost use Rattle.std.specs.Prelude.{◌≤◌, ◌<◌, IfSome, length};
+ghost use Rattle.fio_log.specs.Runs.{IsBehind, IsRun};
+
+use crate::digits::is_letter;
+use crate::marks::{Mark, Word, word_at};
+use crate::octets::{Octets, read_words};
+
+/// The mark of words that may stand behind a letter.
+const BACKSLASH: &[u8] = b"\\x";
+
+/// What stands between two words.
+#[derive(Clone, Copy, Debug, PartialEq, Eq)]
+pub struct Separator {
+    /// Its sign: a blank, a tab, one of `,;:-|`, or 0 for none.
+    pub sign: u8,
+    /// Whether a blank stands before the sign.
+    pub before: bool,
+    /// Whether a blank stands behind the sign.
+    pub behind: bool,
+}
+
+/// A run of hexadecimal words.
+#[derive(Clone, Copy, Debug, PartialEq, Eq)]
+pub struct Run {
+    /// Where its first word begins.
+    pub start: usize,
+    /// Where its last word ends.
+    pub end: usize,
+    /// Where the next run may begin: at its end, or at its last word if another separator goes on behind it.
+    pub next: usize,
+    /// How many digits its words have: the last one perhaps fewer; 0 where all have one or two.
+    pub width: usize,
+    /// How many words it has.
+    pub words: usize,
+    /// What stands between its words; `None` for a single word.
+    pub separator: Option<Separator>,
+    /// Whether none of its words begins with 0.
+    pub is_bare: bool,
+}
+
+/// Returns the first run at or behind a place of a line whose words have a mark, and writes its octets to `octets`. With
+/// `is_short` its words have one or two digits, one of them one, and none begins with 0 before another digit; else they
+/// have 2, 4 or 8, or it is one word of any even number. Octets above the most are not kept.
+pub fn next_run(
+    line: &[u8],
+    from: usize,
+    mark: Mark,
+    is_short: bool,
+    octets: &mut Octets,
+) -> Option<Run>
+    ensures { IfSome result (IsRun line.now from octets.new.items) }
+{
+    let mut place = from;
+    'places: while place < line.len() {
+        if may_begin(line, place, mark)
+            && let Some(run) = run_at(line, place, mark, is_short, octets)
+        {
+            return Some(run);
+        }
+        place += 1;
+    }
+    None
+}
+
+/// Returns whether a word may begin at a place: behind no letter, digit or point, unless its mark begins with a
+/// backslash.
+fn may_begin(line: &[u8], place: usize, mark: Mark) -> bool {
+    match line[..place.min(line.len())].last() {
+        Some(last) => mark.before == BACKSLASH || !is_letter(*last) && *last != b'.',
+        None => true,
+    }
+}
+
+/// Returns the run that begins at a place of a line, and writes its octets.
+fn run_at(line: &[u8], place: usize, mark: Mark, is_short: bool, octets: &mut Octets) -> Option<Run>
+    ensures { IfSome result (IsRun line.now place octets.new.items) }
+{
+    let first = word_at(line, place, mark)?;
+    let width = if is_short {
+        0
+    } else {
+        first.stop - first.start
+    };
+    if width % 2 == 1 || !fits(line, first, width) {
+        return None;
+    }
+    let mut run = Run {
+        start: place,
+        end: first.end,
+        next: first.end,
+        width,
+        words: 1,
+        separator: None,
+        is_bare: line[first.start] != b'0',
+    };
+    let mut last = first;
+    let mut is_single = first.stop - first.start == 1;
+    'words: while let Some((word, separator)) = next_word(line, run, last, mark) {
+        run.words += 1;
+        run.separator = Some(separator);
+        run.is_bare &= line[word.start] != b'0';
+        is_single |= word.stop - word.start == 1;
+        last = word;
+    }
+    if is_short
+        && (!is_single || run.words == 1 && mark.before.is_empty() && mark.after.is_empty())
+    {
+        return None;
+    }
+    run.end = last.end;
+    read_words(&line[place..last.end], octets);
+    run.next = if run.words > 1 && goes_on_otherwise(line, run, last, mark) {
+        last.place
+    } else {
+        last.end
+    };
+    Some(run)
+}
+
+/// Returns whether a word fits those of a width.
+fn fits(line: &[u8], word: Word, width: usize) -> bool
+    requires order { word.start < word.stop }
+    requires within { word.stop ≤ length line.now }
+{
+    let digits = word.stop - word.start;
+    if width > 0 {
+        digits == width || width % 4 == 0 && width <= 8 && digits < width && digits % 2 == 0
+    } else {
+        digits == 1 || digits == 2 && line[word.start] != b'0'
+    }
+}
+
+/// Returns the word that goes on a run behind its last word, and the separator before it.
+fn next_word(line: &[u8], run: Run, last: Word, mark: Mark) -> Option<(Word, Separator)>
+    requires order { last.start < last.stop }
+    requires within { last.end ≤ length line.now }
+    ensures { IfSome result (λ found. IsBehind line.now last.end found.0) }
+{
+    let digits = last.stop - last.start;
+    if run.width > 0 && (digits < run.width || run.width > 8) {
+        return None;
+    }
+    let is_eighth = run.words == 16 / run.width.max(2);
+    let (separator, place) = separator_at(line, last.end, is_eighth)?;
+    let word = word_at(line, place, mark)?;
+    let is_same = run.separator.is_none_or(|same| same == separator);
+    (is_same && fits(line, word, run.width)).then_some((word, separator))
+}
+
+/// Returns whether another separator than that of a run goes on behind its last word.
+fn goes_on_otherwise(line: &[u8], run: Run, last: Word, mark: Mark) -> bool
+    requires order { last.start < last.stop }
+    requires within { last.end ≤ length line.now }
+{
+    let alone = Run {
+        width: if run.width > 0 {
+            last.stop - last.start
+        } else {
+            0
+        },
+        words: 1,
+        separator: None,
+        ..run
+    };
+    next_word(line, alone, last, mark).is_some()
+}
+
+/// Returns the separator at a place of a line, perhaps that of nothing, and where it ends. Behind the eighth octet two
+/// blanks are as one.
+fn separator_at(line: &[u8], place: usize, is_eighth: bool) -> Option<(Separator, usize)>
+    requires { place ≤ length line.now }
+    ensures { IfSome result (λ found. (place ≤ found.1) × (found.1 ≤ length line.now)) }
+{
+    let mut end = place;
+    'signs: while end < line.len()
+        && matches!(line[end], b' ' | b'\t' | b',' | b';' | b':' | b'-' | b'|')
+    {
+        end += 1;
+    }
+    let (sign, before, behind) = match *(&line[place..end]) {
+        [] => (0, false, false),
+        [sign] => (sign, false, false),
+        [b' ', b' '] if is_eighth => (b' ', false, false),
+        [b' ', b' ', ..] | [.., b' ', b' '] => return None,
+        [b' ', sign] => (sign, true, false),
+        [sign, b' '] => (sign, false, true),
+        [b' ', sign, b' '] => (sign, true, true),
+        _ => return None,
+    };
+    Some((
+        Separator {
+            sign,
+            before,
+            behind,
+        },
+        end,
+    ))
+}
