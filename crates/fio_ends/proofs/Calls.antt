@@ -421,7 +421,6 @@ calls_are_runs id per_block first device calls last id_low some few first_low st
       id_fits = omega arith;
       some_per_block = grind (arith, some);
       few_per_block = omega arith;
-      many_waiting = omega arith;
     } in
     let run = follow_all settings first calls start (caller_at_start device first) last begin called in
     record {

@@ -1,5 +1,5 @@
 -- What the record lacks at any time.
-use Rattle.fio_link.proofs.Names.{◌≡◌, ℕ, zero, suc, ◌+◌, ◌-◌, ◌*◌, ◌≤◌, Bool, true, false, List, [], ◌∷◌, ◌++◌, length, take, drop, Some, slice_get, refl, ap, sym, subst, ◌∙◌, arith, inl, inr, append_assoc, append-nil, AllByRecursion, cases_lt, take-append-le, append_cancel_right, Poll, scans_in, FewStayOpen, Settings, AreInRange, Life, Commanded, life_of, scans_of, filter_events, Transition, log_of, MadeBlock, newest_poll, is_new, blocks_of, next_block, last_end, end_of_blocks, waiting_of, FollowOneAnother, scans_behind, IsYoung, holds_now, scans_in-append, later_log, scans_of-append, blocks_follow, get_in_front, blocks_new, blocks_old, Machine, blocks_in, end_taken, LeadsInTime, newest_of, IsPolledInTime, behind_after, HasArrived, LacksOnlyYoung}
+use Rattle.fio_link.proofs.Names.{◌≡◌, ℕ, zero, suc, ◌+◌, ◌-◌, ◌*◌, ◌≤◌, Bool, true, false, List, [], ◌∷◌, ◌++◌, length, take, drop, Some, slice_get, refl, ap, sym, subst, ◌∙◌, arith, inl, inr, append_assoc, append-nil, AllByRecursion, cases_lt, take-append-le, append_cancel_right, Poll, scans_in, FewStayOpen, Settings, AreInRange, HasRoom, Life, Commanded, life_of, scans_of, filter_events, Transition, log_of, MadeBlock, newest_poll, is_new, blocks_of, next_block, last_end, end_of_blocks, waiting_of, FollowOneAnother, scans_behind, IsYoung, holds_now, scans_in-append, later_log, scans_of-append, blocks_follow, get_in_front, blocks_new, blocks_old, Machine, blocks_in, end_taken, LeadsInTime, newest_of, IsPolledInTime, behind_after, HasArrived, LacksOnlyYoung}
 use Rattle.std.proofs.Common.{◌/◌}
 use Rattle.std.proofs.Math.Nat.{zero-div, mul-zero}
 use Rattle.fio_module.specs.ExactBounds.{KeepsUpExactly}
@@ -121,7 +121,7 @@ module _ (settings : Settings) (first filter behind between : ℕ) (last now : M
       each-from_get (IsYoung (between + behind) filter (life_of now.history)) (drop (end_taken settings now) log)
       (λ k transition is. young_since settings first filter behind between last now some (end_taken settings last) young t (end_taken settings now + k) transition (omega arith) (get_in_drop (end_taken settings now) log k transition is))
 
-module _ (settings : Settings) (range : AreInRange settings) (first opened filter : ℕ) (untaken : Bool) (scans : ℕ) (machine : Machine)
+module _ (settings : Settings) (range : AreInRange settings) (wide : HasRoom settings) (first opened filter : ℕ) (untaken : Bool) (scans : ℕ) (machine : Machine)
     (b : IsBetween settings first machine) (receipts : List Machine) (last now : Machine) (later : Life)
     (p : IsPolledInTime settings first opened filter untaken scans machine receipts last later)
     (t : LeadsInTime settings first scans (newest_of machine receipts) last now) where
@@ -130,7 +130,7 @@ module _ (settings : Settings) (range : AreInRange settings) (first opened filte
 
   pub arrived_last : HasArrived settings opened filter (scans + behind) behind machine receipts last
   arrived_last =
-      arrives settings range first opened filter untaken scans machine b p.all_taken p.few_change.nothing_waits p.inputs p.few_change.some p.few_change.enough
+      arrives settings range wide first opened filter untaken scans machine b p.all_taken p.few_change.nothing_waits p.inputs p.few_change.some p.few_change.enough
       receipts last later p.rounds p.since p.few_change.few_open
 
   -- the scans since the newest poll was received, to the end of its round
@@ -139,17 +139,17 @@ module _ (settings : Settings) (range : AreInRange settings) (first opened filte
 
   all_taken_last : last.round ≡ length (blocks_in settings last)
   all_taken_last =
-      (has_chain settings range first opened filter untaken scans machine b p.all_taken p.few_change.nothing_waits p.inputs p.few_change.some p.few_change.enough receipts last p.rounds).reached.all_taken
+      (has_chain settings range wide first opened filter untaken scans machine b p.all_taken p.few_change.nothing_waits p.inputs p.few_change.some p.few_change.enough receipts last p.rounds).reached.all_taken
 
   order : scans_of (life_of last.history) ≡ scans_of (life_of (newest_of machine receipts).history) + so_far
   order =
-      let c = has_chain settings range first opened filter untaken scans machine b p.all_taken p.few_change.nothing_waits p.inputs p.few_change.some p.few_change.enough receipts last p.rounds in
+      let c = has_chain settings range wide first opened filter untaken scans machine b p.all_taken p.few_change.nothing_waits p.inputs p.few_change.some p.few_change.enough receipts last p.rounds in
       omega (arith, c.since_newest)
 
   -- no more than so many come until now
   few_so_far : so_far ≤ scans
   few_so_far =
-      let c = has_chain settings range first opened filter untaken scans machine b p.all_taken p.few_change.nothing_waits p.inputs p.few_change.some p.few_change.enough receipts last p.rounds in
+      let c = has_chain settings range wide first opened filter untaken scans machine b p.all_taken p.few_change.nothing_waits p.inputs p.few_change.some p.few_change.enough receipts last p.rounds in
       omega (arith, c.since_newest, c.few)
 
   since_last : LeadsInTime settings first (scans - so_far) last last now
@@ -180,16 +180,16 @@ module _ (settings : Settings) (range : AreInRange settings) (first opened filte
   lacks_exactly =
       let life = life_of machine.history in
       let before = life_of last.history in
-      let c = has_chain settings range first opened filter untaken scans machine b p.all_taken p.few_change.nothing_waits p.inputs p.few_change.some p.few_change.enough receipts last p.rounds in
+      let c = has_chain settings range wide first opened filter untaken scans machine b p.all_taken p.few_change.nothing_waits p.inputs p.few_change.some p.few_change.enough receipts last p.rounds in
       let r = c.reached in
       let same_so : c.so_far ≡ so_far = omega (arith, c.since_newest, order) in
       let same : later ≡ c.later = append_cancel_right later c.later life (sym p.since ∙ r.since) in
       let stay = subst (λ l. FewStayOpen opened filter (filter_events l) (filter_events life)) same p.few_change.few_open in
-      let k = kept_up settings range first opened filter untaken scans machine b p.all_taken p.few_change.nothing_waits p.inputs p.few_change.some p.few_change.enough c.later stay r.near in
-      let x = holds_now (KeepsUpExactly settings opened filter scans life) c.later (kept_up_keeps_up_exactly settings opened filter scans (scans + behind) life c.later range k) in
+      let k = kept_up settings range wide first opened filter untaken scans machine b p.all_taken p.few_change.nothing_waits p.inputs p.few_change.some p.few_change.enough c.later stay r.near in
+      let x = holds_now (KeepsUpExactly settings opened filter scans life) c.later (kept_up_keeps_up_exactly settings opened filter scans (scans + behind) life c.later range (omega (arith, wide)) k) in
       let ends : waiting_of settings before ≡ drop (end_taken settings last) (log_of before) =
       ap (λ n. drop n (log_of before))
-      (waits_from_end settings range opened filter scans (scans + behind) (behind + c.so_far) machine last c.later r.since r.near r.now k ∙ sym (taken_end settings last r.all_taken)) in
+      (waits_from_end settings range (omega (arith, wide)) opened filter scans (scans + behind) (behind + c.so_far) machine last c.later r.since r.near r.now k ∙ sym (taken_end settings last r.all_taken)) in
       let gone = filter * (settings.per_block * x.blocks / opened) in
       let made_up = scans * x.blocks in
       let old = subst (λ l. AllByRecursion (λ (transition : Transition). scans_of l + 1 + gone ≤ transition.scans + (made_up + scans_behind scans c.later life)) (waiting_of settings l)) (sym r.since) x.young in
@@ -213,13 +213,13 @@ module _ (settings : Settings) (range : AreInRange settings) (first opened filte
       ]
 
 -- where a link is polled in time it is never late
-pub never_late : (settings : Settings) → AreInRange settings → (first : ℕ) (machine : Machine) → IsBetween settings first machine
+pub never_late : (settings : Settings) → AreInRange settings → HasRoom settings → (first : ℕ) (machine : Machine) → IsBetween settings first machine
     → IsNeverLate settings first machine
-never_late settings range first machine b opened filter untaken scans receipts last now later p t =
-    lacks_only_young settings range first opened filter untaken scans machine b receipts last now later p t
+never_late settings range wide first machine b opened filter untaken scans receipts last now later p t =
+    lacks_only_young settings range wide first opened filter untaken scans machine b receipts last now later p t
 
 -- and exactly so late
-pub never_late_exactly : (settings : Settings) → AreInRange settings → (first : ℕ) (machine : Machine) → IsBetween settings first machine
+pub never_late_exactly : (settings : Settings) → AreInRange settings → HasRoom settings → (first : ℕ) (machine : Machine) → IsBetween settings first machine
     → IsNeverLateExactly settings first machine
-never_late_exactly settings range first machine b opened filter untaken scans receipts last now later p t =
-    lacks_exactly settings range first opened filter untaken scans machine b receipts last now later p t
+never_late_exactly settings range wide first machine b opened filter untaken scans receipts last now later p t =
+    lacks_exactly settings range wide first opened filter untaken scans machine b receipts last now later p t

@@ -156,7 +156,7 @@ taken_end settings machine taken =
     ap end_of_blocks (ap (λ n. take n blocks) taken ∙ take_all (length blocks) blocks (omega arith))
 
 -- Blocks that are made while a module is kept up with, and what a record gains from them.
-module _ (settings : Settings) (range : AreInRange settings) (opened filter scans most behind : ℕ) (machine last : Machine) (later : Life)
+module _ (settings : Settings) (range : AreInRange settings) (some_wait : 1 ≤ settings.waiting) (opened filter scans most behind : ℕ) (machine last : Machine) (later : Life)
     (since : life_of last.history ≡ later ++ life_of machine.history)
     (near : AtEachTime (λ l. scans_behind scans l (life_of machine.history) ≤ most) later)
     (few_behind : scans_behind scans later (life_of machine.history) ≤ behind)
@@ -168,13 +168,13 @@ module _ (settings : Settings) (range : AreInRange settings) (opened filter scan
   now = life_of last.history
 
   keeps : AtEachTime (KeepsUp settings opened filter scans life) later
-  keeps = kept_up_keeps_up settings opened filter scans most life later range k
+  keeps = kept_up_keeps_up settings opened filter scans most life later range some_wait k
 
   pub made_since : HasMade settings filter most life later
   made_since = has_made settings opened filter scans most life later keeps near
 
   ends : newest_end settings life ≡ length (log_of life)
-  ends = nothing_left settings range life (ap length k.few_change.nothing_waits)
+  ends = nothing_left settings some_wait life (ap length k.few_change.nothing_waits)
 
   -- the transitions of the blocks made since are those that they hold of the log
   are_logged : transitions_in made_since.made ≡ in_blocks_since settings machine last
@@ -254,7 +254,7 @@ module _ (settings : Settings) (range : AreInRange settings) (opened filter scan
       let more : opened * (scans_behind scans later life + (filter - 1)) ≤ opened * (behind + (filter - 1)) = mul-le-mul_left opened (omega arith) in
       omega arith
 
-module _ (settings : Settings) (range : AreInRange settings) (first opened filter scans most behind : ℕ) (machine last : Machine) (later : Life)
+module _ (settings : Settings) (range : AreInRange settings) (some_wait : 1 ≤ settings.waiting) (first opened filter scans most behind : ℕ) (machine last : Machine) (later : Life)
     (b : IsBetween settings first machine) (taken : machine.round ≡ length (blocks_in settings machine))
     (r : IsReached settings first scans most behind machine last later)
     (k : IsKeptUp settings opened filter scans most (life_of machine.history) later) where
@@ -265,7 +265,7 @@ module _ (settings : Settings) (range : AreInRange settings) (first opened filte
   last_life = life_of last.history
 
   abbrev made : HasMade settings filter most then_life later
-  made = made_since settings range opened filter scans most behind machine last later r.since r.near r.now k
+  made = made_since settings range some_wait opened filter scans most behind machine last later r.since r.near r.now k
 
   -- what those blocks hold is what arrived
   are_arrived : in_blocks_since settings machine last ≡ transitions_arrived settings machine last
@@ -275,28 +275,28 @@ module _ (settings : Settings) (range : AreInRange settings) (first opened filte
   gained : last.items ≡ machine.items ++ flat_map recorded_of made.made
   gained =
       all_recorded settings first last r.between r.all_taken
-      ∙ ap (flat_map recorded_of) (blocks_now settings range opened filter scans most behind machine last later r.since r.near r.now k)
+      ∙ ap (flat_map recorded_of) (blocks_now settings range some_wait opened filter scans most behind machine last later r.since r.near r.now k)
       ∙ flat_map-append recorded_of (blocks_of settings then_life) made.made
       ∙ ap (λ its. its ++ flat_map recorded_of made.made) (sym (all_recorded settings first machine b taken))
 
   pub whole : map piece_of last.items
       ≡ map piece_of machine.items ++ map (λ transition. EntryPiece (entry_of transition)) (transitions_arrived settings machine last)
   whole =
-      whole_since settings range opened filter scans most behind machine last later r.since r.near r.now k gained
+      whole_since settings range some_wait opened filter scans most behind machine last later r.since r.near r.now k gained
       ∙ ap (λ ts. map piece_of machine.items ++ map (λ transition. EntryPiece (entry_of transition)) ts) are_arrived
 
   pub times : loads_of last_life ≡ loads_of then_life → most + filter ≤ 65537
       → last.items ≡ machine.items ++ map timed_item (transitions_arrived settings machine last)
   times none few =
-      times_since settings range opened filter scans most behind machine last later r.since r.near r.now k gained none few
+      times_since settings range some_wait opened filter scans most behind machine last later r.since r.near r.now k gained none few
       ∙ ap (λ ts. machine.items ++ map timed_item ts) are_arrived
 
   pub young : AllByRecursion (IsYoung behind filter last_life) (drop (end_taken settings last) (log_of last_life))
   young =
       subst (λ n. AllByRecursion (IsYoung behind filter last_life) (drop n (log_of last_life))) (sym (taken_end settings last r.all_taken))
-      (young_since_blocks settings range opened filter scans most behind machine last later r.since r.near r.now k)
+      (young_since_blocks settings range some_wait opened filter scans most behind machine last later r.since r.near r.now k)
 
   -- few are left at the end of a clean round
   pub few_left : (length (log_of last_life) - newest_end settings last_life) * filter
       ≤ opened * (behind + (filter - 1))
-  few_left = few_left_since settings range opened filter scans most behind machine last later r.since r.near r.now k
+  few_left = few_left_since settings range some_wait opened filter scans most behind machine last later r.since r.near r.now k

@@ -82,27 +82,27 @@ one_round settings range first machine b =
     )
 
 -- a machine that has taken all blocks and where nothing waits
-caught_up : (settings : Settings) → AreInRange settings → (machine : Machine)
+caught_up : (settings : Settings) → 1 ≤ settings.waiting → (machine : Machine)
     → machine.round ≡ length (blocks_in settings machine) → waits settings (life_of machine.history) ≤ 0
     → HasCaughtUp settings machine machine
-caught_up settings range machine taken none =
+caught_up settings some machine taken none =
     let life = life_of machine.history in
     record {
       same_log = refl;
       nothing_waits = none_of_length (waiting_of settings life) (omega arith);
       all_taken =
           ap end_of_blocks (take_all machine.round (blocks_in settings machine) (omega arith))
-          ∙ nothing_left settings range life (omega arith);
+          ∙ nothing_left settings some life (omega arith);
     }
 
 -- so many clean rounds of a machine that has taken all blocks
-rounds : (settings : Settings) (range : AreInRange settings) (first k : ℕ) (machine : Machine)
+rounds : (settings : Settings) (range : AreInRange settings) (some : 1 ≤ settings.waiting) (first k : ℕ) (machine : Machine)
     → IsBetween settings first machine → machine.round ≡ length (blocks_in settings machine)
     → waits settings (life_of machine.history) ≤ k * settings.per_block
     → (later : Machine) × CleanRounds settings first k machine later × HasCaughtUp settings machine later
-rounds settings range first zero machine b taken few =
-    (machine, refl, caught_up settings range machine taken (omega arith))
-rounds settings range first (suc k) machine b taken few =
+rounds settings range some first zero machine b taken few =
+    (machine, refl, caught_up settings some machine taken (omega arith))
+rounds settings range some first (suc k) machine b taken few =
     let life = life_of machine.history in
     let number = number_of first machine.round in
     let found = one_round settings range first machine b in
@@ -112,7 +112,7 @@ rounds settings range first (suc k) machine b taken few =
     ap (λ l. length (blocks_of settings l)) (sym r.life) ∙ sym r.all_taken ∙ r.round ∙ ap (λ n. n + 1) taken in
     let new = makes_one settings life number (is_new (newest_poll life) number) refl more in
     let fewer = ap (waits settings) r.life ∙ new_poll_takes settings life number new in
-    let rest = rounds settings range first k next r.between r.all_taken (omega arith) in (
+    let rest = rounds settings range some first k next r.between r.all_taken (omega arith) in (
       rest.0,
       (next, r.leads, rest.1),
       record {
@@ -153,16 +153,16 @@ clean_round_takes_all settings range first machine b receipt later c =
     (ends_round settings range first machine receipt later b c).all_taken
 
 -- and after as many more as the waiting entries need it has caught up
-pub clean_rounds_catch_up : (settings : Settings) → AreInRange settings → (first : ℕ) (machine : Machine)
+pub clean_rounds_catch_up : (settings : Settings) → AreInRange settings → 1 ≤ settings.waiting → (first : ℕ) (machine : Machine)
     → IsBetween settings first machine → CleanRoundsCatchUp settings first machine
-clean_rounds_catch_up settings range first machine b k few =
+clean_rounds_catch_up settings range some first machine b k few =
     let life = life_of machine.history in
     let number = number_of first machine.round in
     let found = one_round settings range first machine b in
     let r = found.1 in
     let fewer = poll_adds_none settings life number (is_new (newest_poll life) number) refl in
     let still = ap (waits settings) r.life in
-    let rest = rounds settings range first k found.0 r.between r.all_taken (omega arith) in (
+    let rest = rounds settings range some first k found.0 r.between r.all_taken (omega arith) in (
       rest.0,
       (found.0, r.leads, rest.1),
       record {

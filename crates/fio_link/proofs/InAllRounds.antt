@@ -1,5 +1,5 @@
 -- All clean rounds of a link that is polled in time.
-use Rattle.fio_link.proofs.Names.{◌≡◌, ℕ, zero, suc, ◌+◌, ◌-◌, ◌*◌, ◌≤◌, Bool, true, false, List, [], ◌∷◌, ◌++◌, length, Some, slice_get, refl, ap, sym, subst, ◌∙◌, arith, append_assoc, mul-le-mul_left, mul-le-mul_right, append_cancel_right, scans_in, FewStayOpen, Settings, AreInRange, Life, life_of, scans_of, filter_events, log_of, blocks_of, newest_end, waiting_of, AtEachTime, scans_behind, IsKeptUp, ends-grow, scans_of-append, has_room, log-grown, behind_each, Machine, blocks_in, LeadsInTime, newest_of, IsRoundInTime, RoundsInTime, behind_after, HasArrived}
+use Rattle.fio_link.proofs.Names.{◌≡◌, ℕ, zero, suc, ◌+◌, ◌-◌, ◌*◌, ◌≤◌, Bool, true, false, List, [], ◌∷◌, ◌++◌, length, Some, slice_get, refl, ap, sym, subst, ◌∙◌, arith, append_assoc, mul-le-mul_left, mul-le-mul_right, append_cancel_right, scans_in, FewStayOpen, Settings, AreInRange, HasRoom, Life, life_of, scans_of, filter_events, log_of, blocks_of, newest_end, waiting_of, AtEachTime, scans_behind, IsKeptUp, ends-grow, scans_of-append, has_room, log-grown, behind_each, Machine, blocks_in, LeadsInTime, newest_of, IsRoundInTime, RoundsInTime, behind_after, HasArrived}
 use Rattle.std.proofs.Common.{min}
 use Rattle.fio_module.proofs.Pace.{few_before}
 use Rattle.fio_module.proofs.Stretches.{end_after_block}
@@ -15,7 +15,7 @@ pub record LeftOf (settings : Settings) (filter most rounds : ℕ) (begin last :
       let left = length (log_of (life_of begin.history)) - newest_end settings (life_of last.history) in
       1 ≤ left → left * filter + rounds * (settings.per_block * filter) ≤ most
 
-module _ (settings : Settings) (range : AreInRange settings) (first opened filter : ℕ) (untaken : Bool) (scans : ℕ) (machine : Machine)
+module _ (settings : Settings) (range : AreInRange settings) (wide : HasRoom settings) (first opened filter : ℕ) (untaken : Bool) (scans : ℕ) (machine : Machine)
     (b : IsBetween settings first machine) (taken : machine.round ≡ length (blocks_in settings machine))
     (nothing : waiting_of settings (life_of machine.history) ≡ []) (inputs : opened ≤ 64) (some : 1 ≤ filter)
     (enough : opened * scans ≤ settings.per_block * filter) where
@@ -35,7 +35,7 @@ module _ (settings : Settings) (range : AreInRange settings) (first opened filte
       → AtEachTime (λ l. scans_behind scans l life ≤ scans + behind) later
       → IsKeptUp settings opened filter scans (scans + behind) life later
   kept_up later stay near =
-      let room = has_room settings range filter scans 2 opened some (omega arith) inputs enough in
+      let room = has_room settings range wide filter scans 2 opened some (omega arith) inputs enough in
       let twice : opened * (scans + behind + (filter - 1)) ≤ opened * (2 * scans + (filter - 1)) = mul-le-mul_left opened (few_behind untaken) in
       record {
         few_change = record { nothing_waits = nothing; some = some; few_open = stay; enough = enough };
@@ -63,7 +63,7 @@ module _ (settings : Settings) (range : AreInRange settings) (first opened filte
         let low = now_then settings first untaken scans machine done receipt last later so_far r s all_taken few in
         let since = s.at_poll_life ∙ ap (stretch_of s.number) (since_receipt settings first untaken scans machine done receipt last later so_far r s all_taken few) in
         let k = kept_up upto_poll (few_before opened filter s.after_it upto_poll life stay) near in
-        let most = few_left_since settings range opened filter scans (scans + behind) behind machine s.at_poll upto_poll since near low k in
+        let most = few_left_since settings range (omega (arith, wide)) opened filter scans (scans + behind) behind machine s.at_poll upto_poll since near low k in
         let polled = stretch_of s.number (life_of receipt.history) in
         let same : length (log_of (life_of s.at_poll.history)) ≡ length (log_of (life_of receipt.history)) = ap (λ l. length (log_of l)) s.at_poll_life in
         let end : newest_end settings (life_of s.at_poll.history) ≡ newest_end settings polled = ap (newest_end settings) s.at_poll_life in
@@ -203,13 +203,13 @@ module _ (settings : Settings) (range : AreInRange settings) (first opened filte
       let k = kept_up c.later stay' r.near in
       let since_newest = c.since_newest in
       record {
-        whole = whole settings range first opened filter scans (scans + behind) (behind + c.so_far) machine last c.later b taken r k;
-        times = times settings range first opened filter scans (scans + behind) (behind + c.so_far) machine last c.later b taken r k;
+        whole = whole settings range (omega (arith, wide)) first opened filter scans (scans + behind) (behind + c.so_far) machine last c.later b taken r k;
+        times = times settings range (omega (arith, wide)) first opened filter scans (scans + behind) (behind + c.so_far) machine last c.later b taken r k;
         through = λ n receipt few is.
             let left = none_left n receipt last r.all_taken (c.through stay' n receipt is) few in
             omega (arith, taken_end settings last r.all_taken);
         young = λ more within.
-            young settings range first opened filter scans (scans + behind) (more + behind) machine last c.later b taken
+            young settings range (omega (arith, wide)) first opened filter scans (scans + behind) (more + behind) machine last c.later b taken
             (reached_behind settings first scans (scans + behind) (behind + c.so_far) (more + behind) machine last c.later (omega arith) r) k;
       }
 

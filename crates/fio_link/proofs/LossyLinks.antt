@@ -99,9 +99,9 @@ left_within scans most [] near = omega arith
 left_within scans most (pause ∷ pauses) near = omega (arith, near.0)
 
 -- where a link is kept up with
-pub all_arrives : (settings : Settings) → AreInRange settings → (first : ℕ) (machine : Machine) → IsBetween settings first machine
+pub all_arrives : (settings : Settings) → AreInRange settings → 1 ≤ settings.waiting → (first : ℕ) (machine : Machine) → IsBetween settings first machine
     → AllArrivesWhereKeptUpWith settings first machine
-all_arrives settings range first machine b opened filter scans most pauses receipt last later p =
+all_arrives settings range some_wait first machine b opened filter scans most pauses receipt last later p =
     let life = life_of machine.history in
     let behind = left_behind scans pauses in
     let found = reached settings range first scans most machine b p.all_taken pauses receipt last p.rounds p.near in
@@ -117,10 +117,10 @@ all_arrives settings range first machine b opened filter scans most pauses recei
       behind = r.near;
       room = p.room;
     } in
-    let recent = young settings range first opened filter scans most (behind + so_far) machine last later b p.all_taken r k in
+    let recent = young settings range some_wait first opened filter scans most (behind + so_far) machine last later b p.all_taken r k in
     record {
-      whole = whole settings range first opened filter scans most (behind + so_far) machine last later b p.all_taken r k;
-      times = times settings range first opened filter scans most (behind + so_far) machine last later b p.all_taken r k;
+      whole = whole settings range some_wait first opened filter scans most (behind + so_far) machine last later b p.all_taken r k;
+      times = times settings range some_wait first opened filter scans most (behind + so_far) machine last later b p.all_taken r k;
       late = λ between now t.
           let grown = (grows settings first last now t.leads_on.events t.leads_on.no_restart t.leads_on.leads).life in
           let count = scans_grown last now (grows settings first last now t.leads_on.events t.leads_on.no_restart t.leads_on.leads).stretch grown in

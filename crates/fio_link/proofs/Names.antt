@@ -40,7 +40,7 @@ pub use Rattle.fio_module.specs.Life.{Received, Restart, History, Life, life_of,
 pub use Rattle.fio_module.specs.Log.{Transition, log_of, whole_log, entry_of, transition_at}
 pub use Rattle.fio_module.specs.Replies.{answer_if}
 pub use Rattle.fio_module.specs.Sendings.{Sending, answer_of_sending, latest_sending, is_out_of_sequence, first_sending, repeat_of}
-pub use Rattle.fio_module.specs.Settings.{Settings, AreInRange, standard_settings}
+pub use Rattle.fio_module.specs.Settings.{Settings, AreInRange, HasRoom, standard_settings}
 pub use Rattle.fio_cpu.specs.Record.{item_of, items_of_block}
 pub use Rattle.fio_cpu.specs.declared.record.Item.{Item}
 pub use Rattle.fio_link.specs.AnyTime.{LacksOnlyYoung}

@@ -1,5 +1,5 @@
 -- New levels are recorded.
-use Rattle.fio_link.proofs.Names.{◌≡◌, ℕ, zero, suc, ◌+◌, ◌-◌, ◌<◌, ◌≤◌, Bool, List, [], ◌∷◌, ◌++◌, length, take, map, Some, slice_get, option_map, ap, sym, subst, ◌∙◌, arith, inl, inr, cases_lt, map-append, length-map, slice_get-map, Settings, AreInRange, Life, life_of, loads_of, scans_of, Transition, entry_of, log_of, blocks_end_within, log-grown, get_in_front, later_log, scans_of-append, Machine, Piece, EntryPiece, piece_of, end_taken, LeadsInTime, newest_of, IsPolledInTime, behind_after, timed_item, transitions_arrived}
+use Rattle.fio_link.proofs.Names.{◌≡◌, ℕ, zero, suc, ◌+◌, ◌-◌, ◌<◌, ◌≤◌, Bool, List, [], ◌∷◌, ◌++◌, length, take, map, Some, slice_get, option_map, ap, sym, subst, ◌∙◌, arith, inl, inr, cases_lt, map-append, length-map, slice_get-map, Settings, AreInRange, HasRoom, Life, life_of, loads_of, scans_of, Transition, entry_of, log_of, blocks_end_within, log-grown, get_in_front, later_log, scans_of-append, Machine, Piece, EntryPiece, piece_of, end_taken, LeadsInTime, newest_of, IsPolledInTime, behind_after, timed_item, transitions_arrived}
 use Rattle.fio_module.proofs.ListParts.{get_from_front, get_from_back}
 use Rattle.fio_module.proofs.NewLevels.{new_levels_are_logged}
 use Rattle.fio_link.specs.NewLevels.{HasGained, NewLevelsAreRecorded}
@@ -19,7 +19,7 @@ get_from_take (suc n) (y ∷ xs) (suc k) x low is = get_from_take n xs k x (omeg
 get_from_map : {A B : Type 0} (f : A → B) (xs : List A) (k : ℕ) (x : A) → slice_get xs k ≡ Some x → slice_get (map f xs) k ≡ Some (f x)
 get_from_map f xs k x is = slice_get-map f xs k ∙ ap (option_map f) is
 
-module _ (settings : Settings) (range : AreInRange settings) (first opened filter : ℕ) (untaken : Bool) (scans : ℕ) (machine : Machine)
+module _ (settings : Settings) (range : AreInRange settings) (wide : HasRoom settings) (first opened filter : ℕ) (untaken : Bool) (scans : ℕ) (machine : Machine)
     (b : IsBetween settings first machine) (receipts : List Machine) (last now : Machine) (later : Life)
     (p : IsPolledInTime settings first opened filter untaken scans machine receipts last later)
     (t : LeadsInTime settings first scans (newest_of machine receipts) last now) (place : ℕ) (transition : Transition)
@@ -35,7 +35,7 @@ module _ (settings : Settings) (range : AreInRange settings) (first opened filte
       elim (cases_lt place (end_taken settings last)) as (λ _. place < end_taken settings last) [
         | inl low ↦ low
         | inr high ↦
-            let young = young_at settings range first opened filter untaken scans machine b receipts last now later p t place transition high at in
+            let young = young_at settings range wide first opened filter untaken scans machine b receipts last now later p t place transition high at in
             absurd (omega arith)
       ]
 
@@ -43,7 +43,7 @@ module _ (settings : Settings) (range : AreInRange settings) (first opened filte
   was_there =
       let g = grows settings first last now t.leads_on.events t.leads_on.no_restart t.leads_on.leads in
       let more = later_log g.stretch (life_of last.history) in
-      let chain = has_chain settings range first opened filter untaken scans machine b p.all_taken p.few_change.nothing_waits p.inputs p.few_change.some p.few_change.enough receipts last p.rounds in
+      let chain = has_chain settings range wide first opened filter untaken scans machine b p.all_taken p.few_change.nothing_waits p.inputs p.few_change.some p.few_change.enough receipts last p.rounds in
       let within = blocks_end_within settings (life_of last.history) in
       let end = taken_end settings last chain.reached.all_taken in
       get_in_front (log_of (life_of last.history)) more.0 place transition (omega (arith, taken))
@@ -58,8 +58,8 @@ module _ (settings : Settings) (range : AreInRange settings) (first opened filte
   pub has_gained : HasGained machine now transition
       ((loads_of (life_of last.history) ≡ loads_of (life_of machine.history)) × (most + filter ≤ 65537))
   has_gained =
-      let a = arrived_last settings range first opened filter untaken scans machine b receipts last now later p t in
-      let chain = has_chain settings range first opened filter untaken scans machine b p.all_taken p.few_change.nothing_waits p.inputs p.few_change.some p.few_change.enough receipts last p.rounds in
+      let a = arrived_last settings range wide first opened filter untaken scans machine b receipts last now later p t in
+      let chain = has_chain settings range wide first opened filter untaken scans machine b p.all_taken p.few_change.nothing_waits p.inputs p.few_change.some p.few_change.enough receipts last p.rounds in
       let g = gains settings range first last now t.leads_on.events chain.reached.between.kept.always t.leads_on.no_restart t.leads_on.leads in
       let from = place - length (log_of (life_of machine.history)) in
       let got : Transition → Piece = λ transition. EntryPiece (entry_of transition) in
@@ -82,9 +82,9 @@ module _ (settings : Settings) (range : AreInRange settings) (first opened filte
       }
 
 -- new levels are recorded
-pub new_levels_are_recorded : (settings : Settings) → AreInRange settings → (first : ℕ) (machine : Machine)
+pub new_levels_are_recorded : (settings : Settings) → AreInRange settings → HasRoom settings → (first : ℕ) (machine : Machine)
     → IsBetween settings first machine → NewLevelsAreRecorded settings first machine
-new_levels_are_recorded settings range first machine b opened filter untaken scans receipts last now later p t input level before samples after is new long =
+new_levels_are_recorded settings range wide first machine b opened filter untaken scans receipts last now later p t input level before samples after is new long =
     let life = before ++ life_of machine.history in
     let found = new_levels_are_logged input level life samples new in
     let place = found.0 in
@@ -100,6 +100,6 @@ new_levels_are_recorded settings range first machine b opened filter untaken sca
       place = place;
       transition = transition;
       logged = l;
-      gained = has_gained settings range first opened filter untaken scans machine b receipts last now later p t place transition
+      gained = has_gained settings range wide first opened filter untaken scans machine b receipts last now later p t place transition
           (omega (arith, log-grown before (life_of machine.history), l.since)) at (omega (arith, l.upto, scans_of-append after (samples ++ life)));
     }

@@ -20,7 +20,7 @@ abbrev settings : Settings
 settings = record { id = 0; per_block = 64; waiting = 1024 }
 
 in_range : AreInRange settings
-in_range = record { id_fits = omega arith; some_per_block = omega arith; few_per_block = omega arith; many_waiting = omega arith }
+in_range = record { id_fits = omega arith; some_per_block = omega arith; few_per_block = omega arith }
 
 abbrev beginning : List Event
 beginning = events.Send (ConfigureInputs (record { items = items_below 1 64 })) ∷ events.ToModule 1 ∷ []

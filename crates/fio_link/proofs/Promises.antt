@@ -1,9 +1,9 @@
 -- The promises, from what every run keeps.
-use Rattle.fio_link.proofs.Names.{◌≡◌, ℕ, ◌+◌, ◌≤◌, ◌⊎◌, length, take, map, refl, ap, sym, subst, ◌∙◌, arith, inl, inr, length-drop, flat_map, AllZip, cases_lt, take_all, Settings, AreInRange, Life, life_of, log_of, blocks_of, end_of_blocks, newest_end, waiting_from, blocks_end_within, Machine, piece_of, pieces_of_blocks, ArePieces, blocks_in, IsTimed, sources_of, next_round, PollsOf, BlockAnswersOf, IsRising, CleanRoundTakesBlock, EachCleanRoundTakesOne, DeliveryStartsAnew, Delivers}
+use Rattle.fio_link.proofs.Names.{◌≡◌, ℕ, ◌+◌, ◌≤◌, ◌⊎◌, length, take, map, refl, ap, sym, subst, ◌∙◌, arith, inl, inr, length-drop, flat_map, AllZip, cases_lt, take_all, Settings, AreInRange, HasRoom, Life, life_of, log_of, blocks_of, end_of_blocks, newest_end, waiting_from, blocks_end_within, Machine, piece_of, pieces_of_blocks, ArePieces, blocks_in, IsTimed, sources_of, next_round, PollsOf, BlockAnswersOf, IsRising, CleanRoundTakesBlock, EachCleanRoundTakesOne, DeliveryStartsAnew, Delivers}
 use Rattle.fio_link.specs.Headline.{RecordIsLog, Headline}
 use Rattle.fio_link.specs.Claims.{StandsAtTaken, RestIsLostOrWaits, HasTimes}
 use Rattle.fio_link.specs.Rounds.{PollsReceivedHaveRounds, NewestPollMadeNewestBlock, AnswersCarryBlocks}
-use Rattle.fio_link.specs.Sound.{IsSound, IsSoundRun, HoldsOfRuns, HoldsWithoutRestart}
+use Rattle.fio_link.specs.Sound.{IsSound, IsSoundRun, HoldsOfRuns, HoldsWithoutRestart, HoldsWithRoom}
 use Rattle.fio_link.proofs.MadeBlocks.{each-take}
 use Rattle.fio_link.proofs.PieceLaws.{taken_are_pieces, pieces_begin_log}
 use Rattle.fio_link.proofs.Rows.{invariant}
@@ -83,30 +83,30 @@ module _ (settings : Settings) (range : AreInRange settings) (first : ℕ) (mach
       (each-take BlockTimely machine.round blocks (blocks_timely settings (life_of machine.history))))
 
   -- what arrives
-  delivers : Delivers settings first machine
-  delivers =
+  delivers : HasRoom settings → Delivers settings first machine
+  delivers wide =
       let between : IsBetween settings first machine = record { sent = s; kept = k } in
       let pieces = record_is_log.pieces in
       record {
         takes_all = clean_round_takes_all settings range first machine between;
-        catches_up = clean_rounds_catch_up settings range first machine between;
+        catches_up = clean_rounds_catch_up settings range (omega (arith, wide)) first machine between;
         unless_full = whole_unless_full settings machine pieces;
         gaps = gaps_name_times settings machine taken_items;
-        polled_often = whole_where_polled_often settings range machine pieces;
-        polled_for_each = whole_where_polled_for_each settings range machine pieces;
+        polled_often = whole_where_polled_often settings range wide machine pieces;
+        polled_for_each = whole_where_polled_for_each settings range (let few = range.few_per_block in omega (arith, wide)) machine pieces;
         outage = whole_after_outage settings machine pieces;
         rounds_make_blocks = λ begin receipt last taken t c.
             makes_block settings first machine receipt last (has_stretch settings range first machine begin receipt last between taken t c).0;
         rounds_keep_up = λ opened filter untaken scans begins last now later stretch p t is stay.
-            keeps_up settings range first opened filter untaken scans machine between p.all_taken p.few_change.nothing_waits p.inputs p.few_change.some p.few_change.enough
+            keeps_up settings range wide first opened filter untaken scans machine between p.all_taken p.few_change.nothing_waits p.inputs p.few_change.some p.few_change.enough
             begins last now later stretch p.rounds p.since t is stay;
         in_time = λ opened filter untaken scans begins last later p.
-            arrives settings range first opened filter untaken scans machine between p.all_taken p.few_change.nothing_waits p.inputs p.few_change.some p.few_change.enough
+            arrives settings range wide first opened filter untaken scans machine between p.all_taken p.few_change.nothing_waits p.inputs p.few_change.some p.few_change.enough
             begins last later p.rounds p.since p.few_change.few_open;
-        never_late = never_late settings range first machine between;
-        exactly = never_late_exactly settings range first machine between;
-        new_levels = new_levels_are_recorded settings range first machine between;
-        kept_up_with = all_arrives settings range first machine between;
+        never_late = never_late settings range wide first machine between;
+        exactly = never_late_exactly settings range wide first machine between;
+        new_levels = new_levels_are_recorded settings range wide first machine between;
+        kept_up_with = all_arrives settings range (omega (arith, wide)) first machine between;
       }
 
   -- all that is promised without restarts
@@ -135,7 +135,7 @@ runs_are_sound settings first events machine range run =
       in_sequence = in_sequence settings first machine i;
       clean_round = clean_round_takes_block settings range first machine s;
       each_clean_round = each_clean_round_takes_one settings range first machine i;
-      starts_anew = starts_anew settings range first machine (record { sent = s; always = i });
+      starts_anew = λ wide. starts_anew settings range first wide machine (record { sent = s; always = i });
       lives = takes_stretches settings machine (has_spans settings range first events machine run);
       sound = λ none. sound settings range first machine s (kept settings range first events machine run none);
     }
@@ -179,10 +179,10 @@ pub each_clean_round_takes_a_block : HoldsOfRuns (λ settings first events machi
 each_clean_round_takes_a_block settings first events machine range run =
     (runs_are_sound settings first events machine range run).each_clean_round
 
-pub delivery_starts_anew : HoldsOfRuns (λ settings first events machine. DeliveryStartsAnew settings first machine)
+pub delivery_starts_anew : HoldsOfRuns (λ settings first events machine. HasRoom settings → DeliveryStartsAnew settings first machine)
 delivery_starts_anew settings first events machine range run =
     (runs_are_sound settings first events machine range run).starts_anew
 
-pub what_arrives : HoldsWithoutRestart Delivers
-what_arrives settings first events machine range run none =
-    ((runs_are_sound settings first events machine range run).sound none).delivers
+pub what_arrives : HoldsWithRoom Delivers
+what_arrives settings first events machine range run none wide =
+    ((runs_are_sound settings first events machine range run).sound none).delivers wide

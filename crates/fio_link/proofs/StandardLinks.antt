@@ -14,7 +14,7 @@ use Rattle.fio_link.proofs.Promises.{delivery_starts_anew, what_arrives}
 -- the standard settings are in their ranges
 pub standard_in_range : (id : ℕ) → id ≤ 255 → AreInRange (standard_settings id)
 standard_in_range id fits =
-    record { id_fits = fits; some_per_block = omega arith; few_per_block = omega arith; many_waiting = omega arith }
+    record { id_fits = fits; some_per_block = omega arith; few_per_block = omega arith }
 
 -- with filters of 5, however many inputs are open, few change
 few_change_of_5 : (id scans : ℕ) → 64 * scans ≤ 255 * 5 → (life later : Life) → waiting_of (standard_settings id) life ≡ []
@@ -41,7 +41,7 @@ module _ (scans : ℕ) (untaken : Bool) (few : 64 * scans ≤ 255 * 5) (id first
       }
 
   pub delivers : Delivers (standard_settings id) first machine
-  delivers = what_arrives (standard_settings id) first events machine (standard_in_range id l.id_fits) l.is_run l.no_restart
+  delivers = what_arrives (standard_settings id) first events machine (standard_in_range id l.id_fits) l.is_run l.no_restart (omega arith)
 
 -- so many scans after another, and their filter
 pub standard_late : (scans : ℕ) (untaken : Bool) (late : ℕ) → 64 * scans ≤ 255 * 5
@@ -73,7 +73,7 @@ standard_records scans untaken late few old small id first events receipts machi
 pub standard_kept_up : StandardLinkKeptUpIsNeverLater 19 76 79
 standard_kept_up id first events pauses machine receipt last now later between l t near =
     let settings = standard_settings id in
-    let d = what_arrives settings first events machine (standard_in_range id l.id_fits) l.is_run l.no_restart in
+    let d = what_arrives settings first events machine (standard_in_range id l.id_fits) l.is_run l.no_restart (omega arith) in
     let has = standard_limits_have_room id 64 (omega arith) in
     let a = d.kept_up_with 64 5 19 76 pauses receipt last later (record {
       all_taken = l.all_taken;
@@ -94,7 +94,7 @@ standard_kept_up id first events pauses machine receipt last now later between l
 pub standard_starts_anew : StandardLinkStartsAnew 19 41
 standard_starts_anew id first events begin receipt machine receipts last now later fits run ended nothing rounds since filters t =
     let settings = standard_settings id in
-    let a = delivery_starts_anew settings first events begin (standard_in_range id fits) run 64 5 19 receipt machine receipts last later (record {
+    let a = delivery_starts_anew settings first events begin (standard_in_range id fits) run (omega arith) 64 5 19 receipt machine receipts last later (record {
       ended = ended;
       inputs = omega arith;
       rounds = rounds;

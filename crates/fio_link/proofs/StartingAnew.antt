@@ -1,5 +1,5 @@
 -- Delivery starts anew with a clean round.
-use Rattle.fio_link.proofs.Names.{◌≡◌, ℕ, ◌+◌, ◌-◌, ◌*◌, ◌≤◌, true, List, [], ◌∷◌, ◌++◌, length, drop, refl, ap, sym, subst, ◌∙◌, arith, length-append, append_assoc, append-nil, AllByRecursion, flat_map, mul-le-mul_left, append_cancel_right, take_all, scans_in, Settings, AreInRange, Life, life_of, scans_of, filter_events, newest_poll, blocks_of, newest_end, AtEachTime, scans_behind, IsKeptUp, IsYoung, log_of, has_room, behind_more, behind_each, after_block, Event, Machine, number_of, Leads, blocks_in, next_round, IsCleanRound, IsRoundInTime, newest_of, RoundsInTime, DeliveryStartsAnew}
+use Rattle.fio_link.proofs.Names.{◌≡◌, ℕ, ◌+◌, ◌-◌, ◌*◌, ◌≤◌, true, List, [], ◌∷◌, ◌++◌, length, drop, refl, ap, sym, subst, ◌∙◌, arith, length-append, append_assoc, append-nil, AllByRecursion, flat_map, mul-le-mul_left, append_cancel_right, take_all, scans_in, Settings, AreInRange, HasRoom, Life, life_of, scans_of, filter_events, newest_poll, blocks_of, newest_end, AtEachTime, scans_behind, IsKeptUp, IsYoung, log_of, has_room, behind_more, behind_each, after_block, Event, Machine, number_of, Leads, blocks_in, next_round, IsCleanRound, IsRoundInTime, newest_of, RoundsInTime, DeliveryStartsAnew}
 use Rattle.std.proofs.lemmas.List.{append_cancel_left}
 use Rattle.fio_link.specs.declared.event.Event.TheVariants as events
 use Rattle.fio_link.proofs.Kept.{HasInvariant}
@@ -166,13 +166,13 @@ module _ (settings : Settings) (range : AreInRange settings) (first : ℕ) where
         gone_next (newest_of base receipts) rounds.0 receipt last g.0 g.1 rounds.2
 
   -- so all arrives
-  pub starts_anew : (begin : Machine) → IsOpen begin → DeliveryStartsAnew settings first begin
-  starts_anew begin o opened filter scans first_receipt machine receipts last later p =
+  pub starts_anew : HasRoom settings → (begin : Machine) → IsOpen begin → DeliveryStartsAnew settings first begin
+  starts_anew wide begin o opened filter scans first_receipt machine receipts last later p =
       let found = gone scans machine begin first_receipt o p.ended receipts last p.rounds in
       let life = life_of machine.history in
       let same : found.0 ≡ later = append_cancel_right found.0 later life (sym found.1.since ∙ p.since) in
       let h : HasGone scans machine (newest_of machine receipts) last later = subst (HasGone scans machine (newest_of machine receipts) last) same found.1 in
-      let room = has_room settings range filter scans 2 opened p.few_change.some (omega arith) p.inputs p.few_change.enough in
+      let room = has_room settings range wide filter scans 2 opened p.few_change.some (omega arith) p.inputs p.few_change.enough in
       let twice : opened * (scans + scans + (filter - 1)) ≤ opened * (2 * scans + (filter - 1)) = mul-le-mul_left opened (omega arith) in
       let k : IsKeptUp settings opened filter scans (scans + scans) life later = record {
         few_change = p.few_change;
@@ -180,18 +180,18 @@ module _ (settings : Settings) (range : AreInRange settings) (first : ℕ) where
         room = omega arith;
       } in
       let o = h.since_base in
-      let made = made_since settings range opened filter scans (scans + scans) (scans + h.so_far) machine last later h.since h.near h.now k in
+      let made = made_since settings range (omega (arith, wide)) opened filter scans (scans + scans) (scans + h.so_far) machine last later h.since h.near h.now k in
       let new : o.rest ≡ made.made =
       append_cancel_left (blocks_in settings machine) o.rest made.made
-      (sym o.split ∙ blocks_now settings range opened filter scans (scans + scans) (scans + h.so_far) machine last later h.since h.near h.now k) in
+      (sym o.split ∙ blocks_now settings range (omega (arith, wide)) opened filter scans (scans + scans) (scans + h.so_far) machine last later h.since h.near h.now k) in
       let all : last.round - machine.round ≡ length o.rest = omega (arith, h.all_taken, o.made) in
       let gained : last.items ≡ machine.items ++ flat_map recorded_of made.made =
       o.kept
       ∙ ap (λ n. machine.items ++ record_of n o.rest) all
       ∙ ap (λ bs. machine.items ++ flat_map recorded_of bs) (take_all (length o.rest) o.rest (omega arith) ∙ new) in
       record {
-        whole = whole_since settings range opened filter scans (scans + scans) (scans + h.so_far) machine last later h.since h.near h.now k gained;
-        times = times_since settings range opened filter scans (scans + scans) (scans + h.so_far) machine last later h.since h.near h.now k gained;
+        whole = whole_since settings range (omega (arith, wide)) opened filter scans (scans + scans) (scans + h.so_far) machine last later h.since h.near h.now k gained;
+        times = times_since settings range (omega (arith, wide)) opened filter scans (scans + scans) (scans + h.so_far) machine last later h.since h.near h.now k gained;
         young = λ now t.
             let order = h.since_receipt in
             let g = grows settings first last now t.leads_on.events t.leads_on.no_restart t.leads_on.leads in
@@ -199,7 +199,7 @@ module _ (settings : Settings) (range : AreInRange settings) (first : ℕ) where
             let in_time = t.in_time in
             let longer : scans - h.so_far + (scans + h.so_far) ≡ scans + scans = omega (arith, h.few) in
             let all = all_young_since settings first filter (scans + h.so_far) (scans - h.so_far) last now p.few_change.some _
-            (young_since_blocks settings range opened filter scans (scans + scans) (scans + h.so_far) machine last later h.since h.near h.now k)
+            (young_since_blocks settings range (omega (arith, wide)) opened filter scans (scans + scans) (scans + h.so_far) machine last later h.since h.near h.now k)
             (record { leads_on = t.leads_on; in_time = omega arith }) in
             subst (λ n. AllByRecursion (IsYoung n filter (life_of now.history)) (drop (newest_end settings (life_of last.history)) (log_of (life_of now.history)))) longer all;
       }

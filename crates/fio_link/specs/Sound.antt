@@ -1,6 +1,6 @@
 -- All that is promised of a run.
 use Rattle.std.specs.Prelude.{◌≡◌, ℕ, List}
-use Rattle.fio_module.specs.Settings.{Settings, AreInRange}
+use Rattle.fio_module.specs.Settings.{Settings, AreInRange, HasRoom}
 use Rattle.fio_module.specs.Life.{life_of}
 use Rattle.fio_link.specs.declared.event.Event.{Event}
 use Rattle.fio_link.specs.Link.{Machine, IsRun}
@@ -42,7 +42,8 @@ pub record IsSound (settings : Settings) (first : ℕ) (machine : Machine) : Typ
   pub in_sequence : IsInSequence machine
   pub again : SaysAgainWhereRepeated machine
   pub times : HasTimes settings machine
-  pub delivers : Delivers settings first machine
+  -- where there is room
+  pub delivers : HasRoom settings → Delivers settings first machine
 
 -- what holds of the machine to which these events lead
 pub record IsSoundRun (settings : Settings) (first : ℕ) (events : List Event) (machine : Machine)
@@ -55,7 +56,7 @@ pub record IsSoundRun (settings : Settings) (first : ℕ) (events : List Event) 
   pub in_sequence : IsInSequence machine
   pub clean_round : CleanRoundTakesBlock settings first machine
   pub each_clean_round : EachCleanRoundTakesOne settings first machine
-  pub starts_anew : DeliveryStartsAnew settings first machine
+  pub starts_anew : HasRoom settings → DeliveryStartsAnew settings first machine
   -- without restarts
   pub sound : HaveNoRestart events → IsSound settings first machine
 
@@ -69,6 +70,11 @@ abbrev pub HoldsWithoutRestart : (Settings → ℕ → Machine → Type 0) → T
 HoldsWithoutRestart Holds =
     HoldsOfRuns (λ settings first events machine.
     HaveNoRestart events → Holds settings first machine)
+
+-- the same where there is room
+abbrev pub HoldsWithRoom : (Settings → ℕ → Machine → Type 0) → Type 0
+HoldsWithRoom Holds =
+    HoldsWithoutRestart (λ settings first machine. HasRoom settings → Holds settings first machine)
 
 -- events lead to one machine at most
 abbrev pub LeadToOneMachine : Type 0

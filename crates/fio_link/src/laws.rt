@@ -1,14 +1,14 @@
 //! Laws of the link machine: each function states some in its contract, and does nothing.
 ghost use Rattle.std.specs.Prelude.{◌≡◌, ℕ, ◌≤◌, true, false};
 ghost use Rattle.fio_module.specs.Limits.{Limits, are_limits};
-ghost use Rattle.fio_module.specs.Settings.{Settings, standard_settings, settings_with, AreInRange};
+ghost use Rattle.fio_module.specs.Settings.{Settings, standard_settings, settings_with, AreInRange, HasRoom};
 ghost use Rattle.fio_link.specs.Link.{Machine};
 ghost use Rattle.fio_link.specs.Pieces.{TakenArePieces, PiecesBeginLog};
 ghost use Rattle.fio_link.specs.Headline.{Headline};
 ghost use Rattle.fio_link.specs.Rounds.{PollsOf, PollsReceivedHaveRounds, NewestPollMadeNewestBlock, BlockAnswersOf, AnswersCarryBlocks};
 ghost use Rattle.fio_link.specs.Rising.{IsRising};
 ghost use Rattle.fio_link.specs.Restarts.{TakesStretchOfEachLife};
-ghost use Rattle.fio_link.specs.Sound.{HoldsOfRuns, HoldsWithoutRestart, IsSoundRun, LeadToOneMachine};
+ghost use Rattle.fio_link.specs.Sound.{HoldsOfRuns, HoldsWithoutRestart, HoldsWithRoom, IsSoundRun, LeadToOneMachine};
 ghost use Rattle.fio_link.specs.Delivery.{RoundWithNothingBetweenIsClean, CleanRoundTakesBlock, EachCleanRoundTakesOne, CleanRoundTakesAll, CleanRoundsCatchUp, IsWholeUnlessFull, GapsNameTimes, IsWholeWherePolledOften, IsWholeWherePolledForEach, IsWholeAfterOutage};
 ghost use Rattle.fio_link.specs.InTime.{RoundWithNothingBetweenIsInTime, RoundsMakeBlocks, RoundsKeepUp, AllArrivesInTime, ScansMoveOut};
 ghost use Rattle.fio_link.specs.AnyTime.{IsNeverLate, IsNeverLateExactly, StandardLinkIsNeverLater};
@@ -113,8 +113,8 @@ pub fn rounds_with_nothing_between_are_clean()
 /// 1 + k of them with nothing between, where at most k times as many entries waited as a block
 /// takes, nothing waits and the record goes through the end of the transition log.
 pub fn clean_rounds_catch_up()
-    ensures taken { HoldsWithoutRestart CleanRoundTakesAll }
-    ensures caught_up { HoldsWithoutRestart CleanRoundsCatchUp }
+    ensures taken { HoldsWithRoom CleanRoundTakesAll }
+    ensures caught_up { HoldsWithRoom CleanRoundsCatchUp }
 {}
 
 /// Without restarts nothing is lost unless the buffer was full: where never more transitions stood
@@ -123,9 +123,9 @@ pub fn clean_rounds_catch_up()
 /// that block was made more did.
 #[tactic(auto, using(crate::proofs::Promises::what_arrives))]
 pub fn nothing_is_lost()
-    ensures whole { HoldsWithoutRestart (λ settings first machine.
+    ensures whole { HoldsWithRoom (λ settings first machine.
         IsWholeUnlessFull settings machine) }
-    ensures gaps { HoldsWithoutRestart (λ settings first machine.
+    ensures gaps { HoldsWithRoom (λ settings first machine.
         GapsNameTimes settings machine) }
 {}
 
@@ -134,11 +134,11 @@ pub fn nothing_is_lost()
 /// filters; and so it is after an outage for which the buffer has room.
 #[tactic(auto, using(crate::proofs::Promises::what_arrives))]
 pub fn polled_often_is_whole()
-    ensures polled_often { HoldsWithoutRestart (λ settings first machine.
+    ensures polled_often { HoldsWithRoom (λ settings first machine.
         IsWholeWherePolledOften settings machine) }
-    ensures for_each { HoldsWithoutRestart (λ settings first machine.
+    ensures for_each { HoldsWithRoom (λ settings first machine.
         IsWholeWherePolledForEach settings machine) }
-    ensures outage { HoldsWithoutRestart (λ settings first machine.
+    ensures outage { HoldsWithRoom (λ settings first machine.
         IsWholeAfterOutage settings machine) }
 {}
 
@@ -146,8 +146,8 @@ pub fn polled_often_is_whole()
 /// whatever was lost or repeated. So the blocks are never more scans behind than lie between the polls
 /// of two clean rounds as the module receives them, and twice as many where answers are lost.
 pub fn clean_rounds_keep_up()
-    ensures blocks { HoldsWithoutRestart RoundsMakeBlocks }
-    ensures behind { HoldsWithoutRestart RoundsKeepUp }
+    ensures blocks { HoldsWithRoom RoundsMakeBlocks }
+    ensures behind { HoldsWithRoom RoundsKeepUp }
 {}
 
 /// Where the module receives the poll of a clean round at least every n scans, with k * n at most
@@ -157,7 +157,7 @@ pub fn clean_rounds_keep_up()
 /// poll of the one two rounds earlier, or more than n + f - 2 scans before it received that of this one.
 /// Where no answer is lost it is one round, and f - 2 scans.
 pub fn all_arrives_in_time()
-    ensures { HoldsWithoutRestart AllArrivesInTime }
+    ensures { HoldsWithRoom AllArrivesInTime }
 {}
 
 /// The record is never late where a link is polled in time: at any time what the log has and the record
@@ -166,8 +166,8 @@ pub fn all_arrives_in_time()
 /// largest of n - 1 + j n - f (j b / k) over all j, and n more where a clean round may.
 #[tactic(auto, using(crate::proofs::Promises::what_arrives))]
 pub fn records_are_never_late()
-    ensures late { HoldsWithoutRestart IsNeverLate }
-    ensures exactly { HoldsWithoutRestart IsNeverLateExactly }
+    ensures late { HoldsWithRoom IsNeverLate }
+    ensures exactly { HoldsWithRoom IsNeverLateExactly }
 {}
 
 /// Under the standard limits, with up to 64 open inputs, filters of at least 5 and a clean round at least
@@ -198,7 +198,7 @@ pub fn links_polled_too_seldom_lose()
 /// 2 n + f - 2 where a clean round may repeat a block.
 #[tactic(auto, using(crate::proofs::Promises::what_arrives))]
 pub fn new_levels_are_recorded()
-    ensures { HoldsWithoutRestart NewLevelsAreRecorded }
+    ensures { HoldsWithRoom NewLevelsAreRecorded }
 {}
 
 /// Under the standard limits, with up to 64 open inputs, filters of at least 5 and a clean round at least
@@ -213,7 +213,7 @@ pub fn standard_links_record_new_levels()
 /// more than m behind, with k (m + f - 1) at most w f for w that may wait: the record gains each transition
 /// once, in order, with its time, and no gap mark; and lacks none that is more than m + f - 2 scans old.
 pub fn all_arrives_where_kept_up_with()
-    ensures { HoldsWithoutRestart AllArrivesWhereKeptUpWith }
+    ensures { HoldsWithRoom AllArrivesWhereKeptUpWith }
 {}
 
 /// Links keep up within a pace of s scans, and after an outage of m scans in it; and rounds that come more
@@ -245,7 +245,7 @@ pub fn lost_rounds()
 /// inputs, filters of at least 5 and a clean round at least every 19 scans, that is 41.
 pub fn delivery_starts_anew()
     ensures anew { HoldsOfRuns (λ settings first events machine.
-        DeliveryStartsAnew settings first machine) }
+        HasRoom settings → DeliveryStartsAnew settings first machine) }
     ensures standard { StandardLinkStartsAnew 19 41 }
 {}
 
@@ -263,9 +263,13 @@ pub fn runs_lead_to_one_machine()
     ensures { LeadToOneMachine }
 {}
 
-/// The promises are for settings in their ranges: the standard ones and those with any limits are.
+/// The promises are for settings in their ranges, those on delivery where there is room: the standard ones and
+/// those with any limits are, and have it.
 pub fn settings_are_in_range()
     ensures standard { (id : ℕ) → id ≤ 255 → AreInRange (standard_settings id) }
     ensures limits { (id : ℕ) (limits : Limits) → id ≤ 255
         → are_limits limits.per_block limits.waiting ≡ true → AreInRange (settings_with id limits) }
+    ensures room { (id : ℕ) → HasRoom (standard_settings id) }
+    ensures room_by_limits { (id : ℕ) (limits : Limits) → are_limits limits.per_block limits.waiting ≡ true
+        → HasRoom (settings_with id limits) }
 {}

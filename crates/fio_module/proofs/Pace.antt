@@ -31,12 +31,11 @@ few_since opened filter later before life few =
     (subst (λ es. FewStayOpen opened filter es (filter_events life)) (filter_events-append later before) few))
 
 -- where nothing waits, the newest block ends the log
-pub nothing_left : (settings : Settings) → AreInRange settings → (life : Life) → length (waiting_of settings life) ≡ 0
+pub nothing_left : (settings : Settings) → 1 ≤ settings.waiting → (life : Life) → length (waiting_of settings life) ≡ 0
     → newest_end settings life ≡ length (log_of life)
-nothing_left settings range life none =
+nothing_left settings some life none =
     let rest = length-drop (waiting_from settings life) (log_of life) in
     let within : newest_end settings life ≤ length (log_of life) = blocks_end_within settings life in
-    let some = range.many_waiting in
     omega arith
 
 -- Since a time at which all were taken, `full` whole blocks were taken, each of which made up for so

@@ -30,5 +30,5 @@ pub record LosesNoneOfEach (settings : Settings) (life later : Life) : Type 0 wh
 abbrev pub PolledForEachLosesNone : Type 0
 PolledForEachLosesNone =
     (settings : Settings) (scans : ℕ) (life later : Life) →
-    AreInRange settings → IsPolledForEach settings scans life later →
+    AreInRange settings → settings.per_block ≤ settings.waiting → IsPolledForEach settings scans life later →
     LosesNoneOfEach settings life later
