@@ -68,9 +68,9 @@ def row(option):
     yield 'late, at most', '%d ms' % late, '`young` of `KeepsUpExactly`'
     waits, late = most_exact(inputs, length, per_block, every, 2 * every)
     yield 'entries that wait, at most, answers lost', waits, '`few_wait` of `KeepsUpExactly`'
-    yield 'late, at most, answers lost', '%d ms' % late, '`exactly` of `Delivers`'
+    yield 'late, at most, answers lost', '%d ms' % late, '`exactly` of `IsLateBy`'
     longest = waiting // inputs * length
-    yield 'outage without loss, at most', '%d ms' % longest, '`room` of `IsOutage`; `outage` of `Delivers`'
+    yield 'outage without loss, at most', '%d ms' % longest, '`room` of `IsOutage`; `outage` of `settled_links_lose_nothing`'
     within = waiting * length // inputs - (length - 1)
     if within >= every:
         yield 'outage within the pace, at most', '%d ms' % within, '`possible` of `outages_within_a_pace`'
@@ -88,7 +88,7 @@ def outage(option, inputs, length, per_block, waiting, longest):
     left = min(logged, waiting)
     yield 'wait after an outage of %d ms, at most' % option.outage, left, COMPUTED
     if option.outage <= longest:
-        yield 'lost in it', 0, '`outage` of `Delivers`'
+        yield 'lost in it', 0, '`outage` of `settled_links_lose_nothing`'
     else:
         yield 'lost in it, at most', logged - left, COMPUTED
     rounds = 1 + -(-left // per_block)

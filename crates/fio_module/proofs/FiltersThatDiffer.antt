@@ -111,7 +111,7 @@ module _ (settings : Settings) (range : AreInRange settings) (wide : settings.pe
   at_each (occurrence ∷ later) ends none often =
       (waits_for_one (occurrence ∷ later) ends none often, at_each later ends (none_before (occurrence ∷ []) later none) often.1)
 
-each_few : (settings : Settings) (life later : Life) → AtEachTime (λ l. WaitsForOneBlock settings (l ++ life)) later
+pub each_few : (settings : Settings) (life later : Life) → AtEachTime (λ l. WaitsForOneBlock settings (l ++ life)) later
     → AtEachTime (λ l. FewBeyond settings (l ++ life)) later
 each_few settings life [] each = each.few_beyond
 each_few settings life (occurrence ∷ later) each = (each.0.few_beyond, each_few settings life later each.1)
