@@ -1,7 +1,6 @@
 -- What a contract sees of a world: both ends, the octets of all frames ever sent, and the numbers
 -- delivered last.
 use Rattle.std.specs.Prelude.{ℕ, List}
-use Rattle.arrayvec.specs.ArrayVec.{ArrayVec}
 use Rattle.fio_module.specs.declared.module.Module.{Module}
 use Rattle.fio_cpu.specs.Poller.{Polling}
 
@@ -15,7 +14,3 @@ pub record Ends : Type 0 where
   -- the number delivered last in each direction, 0 for none
   pub last_to_module : ℕ
   pub last_to_cpu : ℕ
-
--- the octets that a frame holds
-abbrev pub frame_octets : ArrayVec ℕ → List ℕ
-frame_octets frame = frame.items
