@@ -1,12 +1,11 @@
 -- What blocks hold that a module makes while it is kept up with.
-use Rattle.fio_link.proofs.Names.{◌≡◌, ℕ, zero, suc, ◌+◌, ◌-◌, ◌*◌, ◌%◌, ◌^◌, ◌≤◌, Bool, true, false, List, [], ◌∷◌, ◌++◌, length, take, drop, map, Option, Some, None, refl, ap, sym, subst, ◌∙◌, arith, length-drop, if◌then◌else◌, AllByRecursion, flat_map, map-append, drop-append-le, Poll, asked_number, one_more_if_loaded, is_reported, Settings, AreInRange, Life, Scanned, LineSynced, Commanded, counter_events, loads_of, filter_events, Transition, entry_of, log_of, transition_at, MadeBlock, newest_poll, is_new, blocks_of, next_block, newest_end, waiting_from, waiting_of, AtEachTime, scans_behind, IsKeptUp, IsYoung, holds_now, ends-grow, nothing_left, log-grown, item_of, IsInTime, EntryPiece, piece_of, timed_item}
+use Rattle.fio_link.proofs.Names.{◌≡◌, ℕ, zero, suc, ◌+◌, ◌-◌, ◌*◌, ◌%◌, ◌^◌, ◌≤◌, Bool, true, false, List, [], ◌∷◌, ◌++◌, length, take, drop, map, Option, Some, None, refl, ap, sym, subst, ◌∙◌, arith, length-drop, if◌then◌else◌, AllByRecursion, flat_map, map-append, drop-append-le, Poll, asked_number, one_more_if_loaded, is_reported, Settings, Life, Scanned, LineSynced, Commanded, counter_events, loads_of, filter_events, Transition, entry_of, log_of, transition_at, MadeBlock, newest_poll, is_new, blocks_of, next_block, newest_end, waiting_from, waiting_of, AtEachTime, scans_behind, IsYoung, holds_now, ends-grow, log-grown, item_of, IsInTime, EntryPiece, piece_of, timed_item}
 use Rattle.std.proofs.Math.Seq.{drop-length}
 use Rattle.std.proofs.lemmas.List.{drop-take}
 use Rattle.fio_message.specs.declared.commands.Command.TheVariants as commands
 use Rattle.fio_module.specs.Log.{transitions_below}
 use Rattle.fio_module.specs.KeepingUp.{KeepsUp}
 use Rattle.fio_module.proofs.ListParts.{each-front, each-back}
-use Rattle.fio_module.proofs.Polling.{kept_up_keeps_up}
 use Rattle.fio_module.proofs.Stretches.{transitions_in, IsPunctual, HasMade, has_made, each-push}
 use Rattle.fio_cpu.specs.declared.record.Item.TheVariants as items
 use Rattle.fio_link.proofs.MadeBlocks.{each-append, each-take, each-map}
@@ -138,8 +137,9 @@ timed_punctual most filter least (block ∷ blocks) few all timely low loads =
     ∙ sym (map-append timed_item block.transitions (transitions_in blocks))
 
 -- What is in blocks since a time, while a module is kept up with.
-module _ (settings : Settings) (range : AreInRange settings) (some_wait : 1 ≤ settings.waiting) (opened filter scans most : ℕ) (life later : Life)
-    (k : IsKeptUp settings opened filter scans most life later) where
+module _ (settings : Settings) (opened filter scans most : ℕ) (life later : Life)
+    (ends : newest_end settings life ≡ length (log_of life)) (keeps : AtEachTime (KeepsUp settings opened filter scans life) later)
+    (near : AtEachTime (λ l. scans_behind scans l life ≤ most) later) where
   abbrev now : Life
   now = later ++ life
 
@@ -147,14 +147,8 @@ module _ (settings : Settings) (range : AreInRange settings) (some_wait : 1 ≤ 
   abbrev pub in_blocks : List Transition
   in_blocks = drop (length (log_of life)) (take (newest_end settings now) (log_of now))
 
-  keeps : AtEachTime (KeepsUp settings opened filter scans life) later
-  keeps = kept_up_keeps_up settings opened filter scans most life later range some_wait k
-
   pub made_since : HasMade settings filter most life later
-  made_since = has_made settings opened filter scans most life later keeps k.behind
-
-  ends : newest_end settings life ≡ length (log_of life)
-  ends = nothing_left settings some_wait life (ap length k.few_change.nothing_waits)
+  made_since = has_made settings opened filter scans most life later keeps near
 
   -- the transitions of the blocks made since are those that they hold of the log
   are_logged : transitions_in made_since.made ≡ in_blocks

@@ -1,19 +1,19 @@
 -- Links that are kept up with deliver all, also where rounds are lost.
-use Rattle.fio_link.proofs.Names.{◌≡◌, ℕ, zero, suc, ◌+◌, ◌-◌, ◌*◌, ◌<◌, ◌≤◌, List, [], ◌∷◌, ◌++◌, length, take, drop, map, Some, slice_get, refl, ap, sym, subst, ◌∙◌, arith, inl, inr, append_assoc, map-append, AllByRecursion, flat_map, mul-le-mul_left, mul-le-mul_right, cases_lt, take_all, append_cancel_right, scans_in, FewStayOpen, Settings, AreInRange, Life, Commanded, life_of, scans_of, loads_of, filter_events, Transition, entry_of, log_of, newest_end, blocks_of, waiting_of, AtEachTime, scans_behind, IsKeptUp, IsYoung, holds_now, ends-grow, log-grown, behind_more, behind_each, after_block, scans_of-append, Machine, number_of, blocks_in, next_round, EntryPiece, piece_of, HasTakenAll, end_recorded, LeadsInTime, timed_item, transitions_arrived, HasGainedAll, Pause, left_behind, BeginNear, LacksOnlyYoung}
+use Rattle.fio_link.proofs.Names.{◌≡◌, ℕ, zero, suc, ◌+◌, ◌-◌, ◌*◌, ◌<◌, ◌≤◌, List, [], ◌∷◌, ◌++◌, length, take, drop, map, Some, slice_get, refl, ap, sym, subst, ◌∙◌, arith, inl, inr, append_assoc, map-append, AllByRecursion, flat_map, mul-le-mul_left, mul-le-mul_right, cases_lt, take_all, scans_in, Settings, AreInRange, Life, Commanded, life_of, scans_of, loads_of, filter_events, Transition, entry_of, log_of, newest_end, blocks_of, waiting_of, AtEachTime, scans_behind, IsKeptUp, IsYoung, holds_now, ends-grow, log-grown, behind_more, behind_each, after_block, scans_of-append, Machine, number_of, blocks_in, next_round, EntryPiece, piece_of, HasTakenAll, end_recorded, LeadsInTime, timed_item, transitions_arrived, HasGainedAll, Pause, left_behind, BeginNear, LacksOnlyYoung, IsWithin}
 use Rattle.std.proofs.Common.{◌/◌, min}
 use Rattle.std.proofs.Math.Nat.{zero-div, mul-zero}
 use Rattle.std.proofs.lemmas.List.{append_cancel_left}
 use Rattle.fio_message.specs.declared.commands.Command.TheVariants as commands
 use Rattle.fio_module.specs.ExactBounds.{KeepsUpExactly}
 use Rattle.fio_module.proofs.ExactBounds.{kept_up_keeps_up_exactly}
-use Rattle.fio_module.proofs.Pace.{few_before}
+use Rattle.fio_module.specs.KeepingUp.{KeepsUp}
 use Rattle.fio_module.proofs.Stretches.{end_after_block, HasMade}
 use Rattle.fio_link.specs.NewLevels.{RecordsNewLevels}
-use Rattle.fio_link.specs.KeptUp.{scans_of_pause, IsRoundAfter, RoundsAfter, receipts_of, LacksOnlyYoungExactly, IsLateBy, Arrives, AllArrivesWhereKeptUpWith}
+use Rattle.fio_link.specs.KeptUp.{scans_of_pause, IsRoundAfter, RoundsAfter, receipts_of, LacksOnlyYoungExactly}
 use Rattle.fio_link.proofs.MadeBlocks.{each-map}
 use Rattle.fio_link.proofs.OneLife.{recorded_of, record_of}
 use Rattle.fio_link.proofs.Grown.{grows, scans_grown}
-use Rattle.fio_link.proofs.Settled.{IsOpen, IsAlong, at_base, along, along_round, ends_round, count_blocks, recorded_end}
+use Rattle.fio_link.proofs.Settled.{IsAlong, along, along_round, ends_round, count_blocks, recorded_end}
 use Rattle.fio_link.proofs.Arrivals.{made_since, whole_since, times_since, young_now, waits_from_end, few_left}
 use Rattle.fio_link.proofs.AnyTime.{lacks_only_young_since}
 use Rattle.fio_link.proofs.NewLevels.{records_new_levels}
@@ -24,9 +24,9 @@ stretch_of number before = Commanded (commands.Poll number) ∷ before
 
 -- What blocks take of what had been logged before an earlier time: all, or so many whole blocks of
 -- what is left at most.
-record LeftOf (settings : Settings) (filter most rounds : ℕ) (begin now : Life) : Type 0 where
-  logged : length (log_of begin) ≤ length (log_of now)
-  few :
+pub record LeftOf (settings : Settings) (filter most rounds : ℕ) (begin now : Life) : Type 0 where
+  pub logged : length (log_of begin) ≤ length (log_of now)
+  pub few :
       let left = length (log_of begin) - newest_end settings now in
       1 ≤ left → left * filter + rounds * (settings.per_block * filter) ≤ most
 
@@ -85,38 +85,28 @@ module _ (settings : Settings) (range : AreInRange settings) (first : ℕ) (base
         all_taken = e.all_taken;
       }
 
-  module _ (some_wait : 1 ≤ settings.waiting) (opened filter scans most : ℕ) (nothing : waiting_of settings (life_of base.history) ≡ [])
-      (some : 1 ≤ filter) (enough : opened * scans ≤ settings.per_block * filter)
-      (room : opened * (most + (filter - 1)) ≤ settings.waiting * filter) where
+  -- since few change, in whatever way, the module keeps up while the blocks are not far behind
+  module _ (opened filter scans most : ℕ) (some : 1 ≤ filter) (IsFew : Life → Type 0)
+      (older : (later before : Life) → IsFew (later ++ before) → IsFew before)
+      (ends : newest_end settings (life_of base.history) ≡ length (log_of (life_of base.history)))
+      (keeps : (later : Life) → IsFew later → AtEachTime (λ l. scans_behind scans l (life_of base.history) ≤ most) later
+      → AtEachTime (KeepsUp settings opened filter scans (life_of base.history)) later) where
     abbrev life : Life
     life = life_of base.history
-
-    -- few inputs stay open
-    abbrev IsFew : Life → Type 0
-    IsFew later = FewStayOpen opened filter (filter_events later) (filter_events life)
 
     abbrev IsNear : Life → Type 0
     IsNear later = AtEachTime (λ l. scans_behind scans l life ≤ most) later
 
-    -- it is kept up with
-    kept_up : (later : Life) → IsFew later → IsNear later → IsKeptUp settings opened filter scans most life later
-    kept_up later stay near =
-        record {
-          few_change = record { nothing_waits = nothing; some = some; few_open = stay; enough = enough };
-          behind = near;
-          room = room;
-        }
-
     -- what holds at the end of a round, whose poll was received so many scans before
-    record Reached (behind : ℕ → ℕ) (receipts : List Machine) (receipt last : Machine) (later : Life) : Type 0 where
-      so_far : ℕ
-      since_receipt : scans_of (life_of last.history) ≡ scans_of (life_of receipt.history) + so_far
-      since : life_of last.history ≡ later ++ life
-      near : behind 0 + so_far ≤ most → IsNear later
-      now : scans_behind scans later life ≤ behind 0 + so_far
-      at_end : IsAlong settings range first base last
-      all_taken : HasTakenAll first last
-      through : IsFew later → (rounds : ℕ) (earlier : Machine) → slice_get receipts rounds ≡ Some earlier
+    pub record Reached (behind : ℕ → ℕ) (receipts : List Machine) (receipt last : Machine) (later : Life) : Type 0 where
+      pub so_far : ℕ
+      pub since_receipt : scans_of (life_of last.history) ≡ scans_of (life_of receipt.history) + so_far
+      pub since : life_of last.history ≡ later ++ life
+      pub near : behind 0 + so_far ≤ most → IsNear later
+      pub now : scans_behind scans later life ≤ behind 0 + so_far
+      pub at_end : IsAlong settings range first base last
+      pub all_taken : HasTakenAll first last
+      pub through : IsFew later → (rounds : ℕ) (earlier : Machine) → slice_get receipts rounds ≡ Some earlier
           → LeftOf settings filter (opened * (behind rounds + (filter - 1))) rounds (life_of earlier.history) (life_of last.history)
 
     -- the clean round that has just ended
@@ -124,8 +114,7 @@ module _ (settings : Settings) (range : AreInRange settings) (first : ℕ) (base
         → last ≡ after_it ++ stretch_of number begin → scans_behind scans upto life ≤ behind → IsNear upto → IsFew (after_it ++ upto)
         → LeftOf settings filter (opened * (behind + (filter - 1))) 0 begin last
     left_now behind upto after_it number begin last since rest low near stay =
-        let k = kept_up upto (few_before opened filter after_it upto life stay) near in
-        let here = few_left settings range some_wait opened filter scans most life upto k in
+        let here = few_left settings opened filter scans most life upto ends (keeps upto (older after_it upto stay) near) near in
         let polled = stretch_of number begin in
         let log_polled : length (log_of begin) ≡ length (log_of (upto ++ life)) = ap (λ l. length (log_of l)) since in
         let end_polled : newest_end settings polled ≡ newest_end settings (upto ++ life) = ap (newest_end settings) since in
@@ -210,8 +199,7 @@ module _ (settings : Settings) (range : AreInRange settings) (first : ℕ) (base
             at_end = s.at_end;
             all_taken = s.all_taken;
             through = through upto stretch since_receipt low_then then_near (λ stay.
-                few_before opened filter s.settled later life
-                (few_before opened filter stretch before life (few_before opened filter s.after_it upto life stay)));
+                older s.settled later (older stretch before (older s.after_it upto stay)));
           },
         )
       where
@@ -232,7 +220,7 @@ module _ (settings : Settings) (range : AreInRange settings) (first : ℕ) (base
             s.more (r.through (older stay) rounds begin is)
 
     -- all rounds
-    reached : IsAlong settings range first base base → HasTakenAll first base
+    pub reached : IsAlong settings range first base base → HasTakenAll first base
         → (pauses : List Pause) (receipt last : Machine) → (rounds : RoundsAfter settings first base pauses receipt last) → BeginNear scans most pauses
         → (later : Life) × Reached (behind_at pauses) (receipts_of settings first base pauses receipt last rounds) receipt last later
     reached a taken [] receipt last rounds near =
@@ -272,11 +260,11 @@ module _ (settings : Settings) (range : AreInRange settings) (first : ℕ) (base
     -- all arrives
     module _ (behind : ℕ → ℕ) (receipts : List Machine) (receipt last : Machine) (later : Life)
         (r : Reached behind receipts receipt last later) (near : behind 0 + r.so_far ≤ most) (stay : IsFew later) where
-      abbrev k : IsKeptUp settings opened filter scans most life later
-      k = kept_up later stay (r.near near)
+      abbrev kept : AtEachTime (KeepsUp settings opened filter scans life) later
+      kept = keeps later stay (r.near near)
 
       abbrev made : HasMade settings filter most life later
-      made = made_since settings range some_wait opened filter scans most life later k
+      made = made_since settings opened filter scans most life later ends kept (r.near near)
 
       -- where the record stands
       stands : end_recorded settings last ≡ newest_end settings (later ++ life)
@@ -299,18 +287,18 @@ module _ (settings : Settings) (range : AreInRange settings) (first : ℕ) (base
           ∙ ap (λ n. base.items ++ record_of n o.rest) all
           ∙ ap (λ bs. base.items ++ flat_map recorded_of bs) (take_all (length o.rest) o.rest (omega arith) ∙ new)
 
-      whole : HasGainedAll settings base last
+      pub whole : HasGainedAll settings base last
       whole =
           ap (map piece_of) gained
           ∙ map-append piece_of base.items (flat_map recorded_of made.made)
-          ∙ ap (λ ps. map piece_of base.items ++ ps) (whole_since settings range some_wait opened filter scans most life later k
+          ∙ ap (λ ps. map piece_of base.items ++ ps) (whole_since settings opened filter scans most life later ends kept (r.near near)
           ∙ ap (map (λ transition. EntryPiece (entry_of transition))) are_arrived)
 
-      times : loads_of (life_of last.history) ≡ loads_of life → most + filter ≤ 65537
+      pub times : loads_of (life_of last.history) ≡ loads_of life → most + filter ≤ 65537
           → last.items ≡ base.items ++ map timed_item (transitions_arrived settings base last)
       times none few =
           gained
-          ∙ ap (λ its. base.items ++ its) (times_since settings range some_wait opened filter scans most life later k (ap loads_of (sym r.since) ∙ none) few
+          ∙ ap (λ its. base.items ++ its) (times_since settings opened filter scans most life later ends kept (r.near near) (ap loads_of (sym r.since) ∙ none) few
           ∙ ap (map timed_item) are_arrived)
 
       young : AllByRecursion (IsYoung (behind 0 + r.so_far) filter (life_of last.history)) (drop (end_recorded settings last) (log_of (life_of last.history)))
@@ -318,7 +306,7 @@ module _ (settings : Settings) (range : AreInRange settings) (first : ℕ) (base
           let low = r.now in
           subst (λ l. AllByRecursion (IsYoung (behind 0 + r.so_far) filter l) (drop (end_recorded settings last) (log_of l))) (sym r.since)
           (subst (λ n. AllByRecursion (IsYoung (behind 0 + r.so_far) filter (later ++ life)) (drop n (log_of (later ++ life)))) (sym stands)
-          (each-map _ _ (λ transition is. omega arith) _ (young_now settings range some_wait opened filter scans most life later k)))
+          (each-map _ _ (λ transition is. omega arith) _ (young_now settings opened filter scans most life later ends kept (r.near near))))
 
       module _ (between : ℕ) (now : Machine) (t : LeadsInTime settings first between receipt last now) where
         no_fewer : scans_of (life_of last.history) ≤ scans_of (life_of now.history)
@@ -339,20 +327,21 @@ module _ (settings : Settings) (range : AreInRange settings) (first : ℕ) (base
         abbrev IsLacking : ℕ → ℕ → Type 0
         IsLacking n f = LacksOnlyYoung n f settings now
 
-        late : IsLacking (between + behind 0) filter
+        pub late : IsLacking (between + behind 0) filter
         late =
             subst (λ n. IsLacking n filter) all
             (lacks_only_young_since settings range first filter (behind 0 + r.so_far) left base last now some r.all_taken.answered r.at_end young since_last)
 
         -- and exactly so late
-        exactly : LacksOnlyYoungExactly settings opened filter scans (between + behind 0) now
-        exactly =
+        pub exactly : IsKeptUp settings opened filter scans most life later → 1 ≤ settings.waiting
+            → LacksOnlyYoungExactly settings opened filter scans (between + behind 0) now
+        exactly k some_wait =
             let before = life_of last.history in
             let x = holds_now (KeepsUpExactly settings opened filter scans life) later (kept_up_keeps_up_exactly settings opened filter scans most life later range some_wait k) in
             let gone = filter * (settings.per_block * x.blocks / opened) in
             let made_up = scans * x.blocks in
             let ends : waiting_of settings (later ++ life) ≡ drop (end_recorded settings last) (log_of (later ++ life)) =
-            ap (λ n. drop n (log_of (later ++ life))) (waits_from_end settings range some_wait opened filter scans most life later k ∙ sym stands) in
+            ap (λ n. drop n (log_of (later ++ life))) (waits_from_end settings opened filter scans most life later ends kept (r.near near) ∙ sym stands) in
             let there = subst (λ l. AllByRecursion (λ (transition : Transition). scans_of l + 1 + gone ≤ transition.scans + (made_up + scans_behind scans later life)) (drop (end_recorded settings last) (log_of l))) (sym r.since)
             (subst (AllByRecursion (λ (transition : Transition). scans_of (later ++ life) + 1 + gone ≤ transition.scans + (made_up + scans_behind scans later life))) ends x.young) in
             let low = r.now in
@@ -373,55 +362,34 @@ module _ (settings : Settings) (range : AreInRange settings) (first : ℕ) (base
                   record { blocks = x.blocks; young = each-map (IsYoung (left + rest) 1 (life_of now.history)) _ (λ transition is. omega arith) log old }
             ]
 
-        keeps_up : (stretch : Life) → between + behind 0 ≤ most → life_of now.history ≡ stretch ++ (later ++ life) → IsFew (stretch ++ later)
-            → IsKeptUp settings opened filter scans most life (stretch ++ later)
-        keeps_up stretch few is stay_now =
+        -- and new levels are recorded
+        pub levels : RecordsNewLevels (between + behind 0 + filter) base now ((loads_of (life_of last.history) ≡ loads_of life) × (most + filter ≤ 65537))
+        levels =
+            subst (λ n. RecordsNewLevels (n + filter) base now ((loads_of (life_of last.history) ≡ loads_of life) × (most + filter ≤ 65537))) all
+            (records_new_levels settings range first filter most (behind 0 + r.so_far) left base last now some r.at_end.is_open r.all_taken.answered whole times young since_last)
+
+        -- the blocks are near then
+        pub near_now : (stretch : Life) → between + behind 0 ≤ most → life_of now.history ≡ stretch ++ (later ++ life) → IsNear (stretch ++ later)
+        near_now stretch few is =
             let low = r.now in
             let count : scans_of (life_of now.history) ≡ scans_in (filter_events stretch) + scans_of (later ++ life) =
             ap scans_of is ∙ scans_of-append stretch (later ++ life) in
             let before = ap scans_of r.since in
-            kept_up (stretch ++ later) stay_now (behind_each scans life later most stretch (omega (arith, t.in_time, r.since_receipt)) (r.near near))
+            behind_each scans life later most stretch (omega (arith, t.in_time, r.since_receipt)) (r.near near)
 
-        late_by : IsLateBy settings opened filter scans most (between + behind 0) base last now later
-        late_by =
-            record {
-              late = late;
-              exactly = exactly;
-              levels =
-                  subst (λ n. RecordsNewLevels (n + filter) base now ((loads_of (life_of last.history) ≡ loads_of life) × (most + filter ≤ 65537))) all
-                  (records_new_levels settings range first filter most (behind 0 + r.so_far) left base last now some r.at_end.is_open r.all_taken.answered whole times young since_last);
-              keeps_up = keeps_up;
-            }
-
-      all_arrives : Arrives settings first opened filter scans most behind base receipts receipt last later
-      all_arrives =
-          record {
-            whole = whole;
-            times = times;
-            through = λ rounds earlier few is.
-                let taken = none_left (opened * (behind rounds + (filter - 1))) rounds (life_of earlier.history) (life_of last.history) (r.through stay rounds earlier is) few in
-                omega (arith, recorded_end settings last r.all_taken.answered);
-            at = late_by;
-          }
+      pub through : (rounds : ℕ) (earlier : Machine) → opened * (behind rounds + (filter - 1)) ≤ rounds * (settings.per_block * filter)
+          → slice_get receipts rounds ≡ Some earlier → length (log_of (life_of earlier.history)) ≤ end_recorded settings last
+      through rounds earlier few is =
+          let taken = none_left (opened * (behind rounds + (filter - 1))) rounds (life_of earlier.history) (life_of last.history) (r.through stay rounds earlier is) few in
+          omega (arith, recorded_end settings last r.all_taken.answered)
 
 -- the blocks are never more behind than they may be
 left_within : (scans most : ℕ) (pauses : List Pause) → BeginNear scans most pauses → left_behind scans pauses ≤ most
 left_within scans most [] near = omega arith
 left_within scans most (pause ∷ pauses) near = omega (arith, near.0)
 
--- where a link is kept up with
-pub all_arrives_where_kept_up_with : (settings : Settings) (range : AreInRange settings) (first : ℕ) (machine : Machine) → IsOpen settings range first machine
-    → AllArrivesWhereKeptUpWith settings first machine
-all_arrives_where_kept_up_with settings range first machine o opened filter scans most pauses receipt last later p =
-    let from = p.from in
-    let f = from.few_change in
-    let found = reached settings range first machine p.some_wait opened filter scans most f.nothing_waits f.some f.enough p.room
-    (at_base settings range first machine o from.all_taken) from.all_taken pauses receipt last from.rounds p.near in
-    let same : found.0 ≡ later = append_cancel_right found.0 later (life_of machine.history) (sym found.1.since ∙ from.since) in
-    let r = subst (Reached settings range first machine p.some_wait opened filter scans most f.nothing_waits f.some f.enough p.room (λ rounds. left_behind scans (drop rounds pauses))
-    (receipts_of settings first machine pauses receipt last from.rounds) receipt last) same found.1 in
-    let within = left_within scans most pauses p.near in
-    let order = r.since_receipt in
-    all_arrives settings range first machine p.some_wait opened filter scans most f.nothing_waits f.some f.enough p.room
-    (λ rounds. left_behind scans (drop rounds pauses)) (receipts_of settings first machine pauses receipt last from.rounds) receipt last later r
-    (omega (arith, p.heard_near)) f.few_open
+-- the newest poll's answer is heard near
+pub heard_near : (scans most so_far : ℕ) (pauses : List Pause) (receipt last : Machine) → BeginNear scans most pauses
+    → IsWithin (most - left_behind scans pauses) receipt last → scans_of (life_of last.history) ≡ scans_of (life_of receipt.history) + so_far
+    → left_behind scans pauses + so_far ≤ most
+heard_near scans most so_far pauses receipt last near heard order = let within = left_within scans most pauses near in omega (arith, heard)

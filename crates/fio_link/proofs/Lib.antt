@@ -36,7 +36,9 @@ pub mod Arrivals
 pub mod AnyTime
 pub mod Gained
 pub mod KeptUp
+pub mod AllArrives
 pub mod Pauses
+pub mod ForEach
 pub mod LostRounds
 pub mod NewLevels
 pub mod MovedScans

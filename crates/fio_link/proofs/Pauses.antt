@@ -6,7 +6,7 @@ use Rattle.fio_link.proofs.MadeBlocks.{each-map}
 use Rattle.fio_link.proofs.Grown.{grows, scans_grown, leads_on-then}
 
 -- pauses in time leave no more behind than a lost answer keeps
-left_in_time : (scans untaken : ℕ) (pauses : List Pause) → AreInTime scans untaken pauses → left_behind scans pauses ≤ untaken
+pub left_in_time : (scans untaken : ℕ) (pauses : List Pause) → AreInTime scans untaken pauses → left_behind scans pauses ≤ untaken
 left_in_time scans untaken [] all = omega arith
 left_in_time scans untaken (pause ∷ pauses) all =
     let rest = left_in_time scans untaken pauses all.1 in

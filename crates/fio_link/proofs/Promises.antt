@@ -13,7 +13,7 @@ use Rattle.fio_link.proofs.CleanRounds.{last_were_sent, clean_round_takes_block}
 use Rattle.fio_link.proofs.WithinRounds.{each_clean_round_takes_one}
 use Rattle.fio_link.proofs.Settled.{IsOpen, stands_without_restart, clean_round_takes_all, makes_block}
 use Rattle.fio_link.proofs.CatchingUp.{clean_rounds_catch_up}
-use Rattle.fio_link.proofs.KeptUp.{all_arrives_where_kept_up_with}
+use Rattle.fio_link.proofs.AllArrives.{all_arrives_where_kept_up_with}
 use Rattle.fio_link.proofs.WholeRecords.{whole_unless_full}
 use Rattle.fio_link.proofs.GapMarks.{gaps_name_times}
 use Rattle.fio_link.proofs.TakenSpans.{has_spans}

@@ -12,6 +12,7 @@ pub mod Delivery
 pub mod Settled
 pub mod NewLevels
 pub mod KeptUp
+pub mod ForEach
 pub mod WholeSince
 pub mod StandardLinks
 pub mod LostRounds

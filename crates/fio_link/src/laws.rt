@@ -12,6 +12,7 @@ ghost use Rattle.fio_link.specs.Sound.{HoldsOfRuns, HoldsWhateverRestarts, Holds
 ghost use Rattle.fio_link.specs.Delivery.{RoundWithNothingBetweenIsClean, CleanRoundTakesBlock, EachCleanRoundTakesOne, IsWholeUnlessFull, GapsNameTimes, IsWholeWherePolledOften, IsWholeWherePolledForEach, IsWholeAfterOutage};
 ghost use Rattle.fio_link.specs.Settled.{StandsWithoutRestart, CleanRoundTakesAll, RoundsMakeBlocks, CleanRoundsCatchUp};
 ghost use Rattle.fio_link.specs.KeptUp.{AreInTime, RoundIsInTime, RoundWithNothingBetweenIsAfter, BeginNear, AllArrivesWhereKeptUpWith, AllArrivesInTime, OutagesArePossible, RoundsCatchUp, StandardLimitsHaveRoom};
+ghost use Rattle.fio_link.specs.ForEach.{AllArrivesForEach};
 ghost use Rattle.fio_link.specs.WholeSince.{GainsAllWhere, StaysFew, IsRoomyOutage, IsOftenForEach};
 ghost use Rattle.fio_link.specs.StandardLinks.{StandardLinkIsNeverLater, StandardLinkRecordsNewLevels};
 ghost use Rattle.fio_link.specs.MovedScans.{ScansMoveOut};
@@ -174,6 +175,13 @@ pub fn settled_links_lose_nothing()
     ensures unless_full { HoldsWhateverRestarts (GainsAllWhere StaysFew) }
     ensures outage { (opened filter : ℕ) → HoldsWhateverRestarts (GainsAllWhere (IsRoomyOutage opened filter)) }
     ensures for_each { (scans : ℕ) → HoldsWhateverRestarts (GainsAllWhere (IsOftenForEach scans)) }
+{}
+
+/// So it is where the open inputs' filters differ, without configurations: with the sum of 1 + (n - 1) / f at most
+/// `per_block` none is later than n - 1 scans and no more than a block wait; where answers are lost 2 n - 1, and two
+/// blocks.
+pub fn all_arrives_for_each()
+    ensures { HoldsWhateverRestarts AllArrivesForEach }
 {}
 
 /// Links keep up within a pace of s scans, and after an outage of m scans in it; and rounds that come more

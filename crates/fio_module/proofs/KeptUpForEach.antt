@@ -1,14 +1,12 @@
 -- What waits where a module is kept up with, each input with its own filters: what the latest scans reported.
-use Rattle.fio_module.proofs.Names.{◌≡◌, ℕ, zero, suc, ◌+◌, ◌-◌, ◌*◌, ◌<◌, ◌≤◌, min, Bool, true, false, [], ◌∷◌, ◌++◌, length, drop, Some, slice_get, refl, ap, sym, ◌∙◌, subst, arith, inl, inr, append_assoc, length-append, length-drop, AllByRecursion, cases_lt, Poll, ConfigureInputs, scans_in, NoneIsApplied, Settings, Life, Occurrence, Scanned, Commanded, scans_of, filter_events, Transition, log_of, newest_poll, is_new, blocks_of, next_block, newest_end, waiting_from, waiting_of, AtEachTime, FewBeyond, scans_behind, IsYoung}
+use Rattle.fio_module.proofs.Names.{◌≡◌, ℕ, zero, suc, ◌+◌, ◌-◌, ◌*◌, ◌≤◌, Bool, true, false, [], ◌∷◌, ◌++◌, length, drop, Some, slice_get, refl, ap, sym, ◌∙◌, subst, arith, inl, inr, append_assoc, length-append, length-drop, cases_lt, Poll, ConfigureInputs, scans_in, NoneIsApplied, Settings, Life, Occurrence, Scanned, Commanded, scans_of, filter_events, Transition, log_of, newest_poll, is_new, blocks_of, next_block, newest_end, waiting_from, AtEachTime, scans_behind, IsYoung}
 use Rattle.fio_input.specs.FiltersThatDiffer.{most_reports}
 use Rattle.fio_input.proofs.FiltersThatDiffer.{reports_are_few_of_each, most_reports-more, most_reports-carried}
 use Rattle.fio_module.specs.FiltersThatDiffer.{KeepsUpForEach, IsKeptUpForEach}
 use Rattle.fio_module.proofs.Ages.{scans_in-append, was_logged}
-use Rattle.fio_module.proofs.BlockLaws.{blocks_end_within}
 use Rattle.fio_module.proofs.ExactBounds.{no_scan}
 use Rattle.fio_module.proofs.Growth.{filter_events-append, log-grows}
 use Rattle.fio_module.proofs.ListParts.{each-from_get, get_in_drop}
-use Rattle.fio_module.proofs.Losses.{holds_now}
 use Rattle.fio_module.proofs.Pace.{none_before, none_since, nothing_left}
 use Rattle.fio_module.proofs.Stretches.{blocks_new, behind_new, end_after_block, log-grown}
 

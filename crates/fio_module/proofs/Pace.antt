@@ -1,5 +1,5 @@
 -- Blocks that keep up with the scans leave few entries, and young ones.
-use Rattle.fio_module.proofs.Names.{◌≡◌, ℕ, zero, suc, ◌+◌, ◌-◌, ◌*◌, ◌≤◌, Bool, true, false, [], ◌∷◌, ◌++◌, length, Some, slice_get, refl, ap, sym, subst, ◌∙◌, arith, inl, inr, append_assoc, length-drop, mul-le-mul_left, mul-le-mul_right, le_of_mul-le-mul_right, cases_lt, Poll, ConfigureInputs, scans_in, all_reports_in, HasFewOpen, FewStayOpen, NoneIsApplied, at_each_scan-back, at_each_scan-front, reports_times_filter, Settings, AreInRange, Life, Occurrence, Scanned, Commanded, scans_of, filter_events, Transition, log_of, newest_poll, is_new, blocks_of, next_block, newest_end, start_after, count_from, waiting_from, waiting_of, AtEachTime, FewBeyond, scans_behind, IsYoung, KeepsUp}
+use Rattle.fio_module.proofs.Names.{◌≡◌, ℕ, zero, suc, ◌+◌, ◌-◌, ◌*◌, ◌≤◌, Bool, true, false, [], ◌∷◌, ◌++◌, length, Some, slice_get, refl, ap, sym, subst, ◌∙◌, arith, inl, inr, append_assoc, length-drop, mul-le-mul_left, mul-le-mul_right, le_of_mul-le-mul_right, cases_lt, Poll, ConfigureInputs, scans_in, all_reports_in, HasFewOpen, FewStayOpen, NoneIsApplied, at_each_scan-back, at_each_scan-front, reports_times_filter, Settings, Life, Occurrence, Scanned, Commanded, scans_of, filter_events, Transition, log_of, newest_poll, is_new, blocks_of, next_block, newest_end, start_after, count_from, waiting_from, waiting_of, AtEachTime, FewBeyond, scans_behind, IsYoung, KeepsUp}
 use Rattle.fio_module.proofs.Ends.{last_end-append}
 use Rattle.fio_module.proofs.BlockLaws.{blocks_end_within}
 use Rattle.fio_module.proofs.Losses.{holds_now}
