@@ -90,6 +90,8 @@ def check_numbers(check):
                 json.loads(fiolog('plan', '--json', '--inputs', str(row[0]), '--filter', str(row[1])).out)}
         check.equal('plan for %d inputs with filters of %d' % tuple(row[:2]), row[2:8], [plan[name] for name in names])
     rounds = fiolog('plan', '--inputs', '64', '--filter', '5', '--outage', '80').out
+    check.equal('a round every 12 ms with 5 of each 100 lost, none later than 75', ['12', '75'],
+                re.findall(r'5 of each 100 rounds lost +(\d+) ms', rounds))
     check.holds('6 rounds after the longest outage', re.search(r'nothing between the rounds +6 rounds', rounds), rounds)
 
 

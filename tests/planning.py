@@ -8,6 +8,7 @@ Last line: `N passed, M failed`."""
 
 import itertools
 import os
+import random
 import re
 import sys
 
@@ -176,6 +177,71 @@ def check_configured_search(check):
                         logged_in(opened, filter_length, scans), most_reported(inputs, filter_length, opened, scans))
 
 
+def lossy_run(inputs, filter_length, every, is_lost, seed):
+    """The most that wait and how long the record lacks one at most, in the densest traffic with a round begun so often, of
+    which these are lost: the poll or, as the seed has it, the answer."""
+    choose, waiting, kept, most, late = random.Random(seed), [], None, 0, 0
+    for number, lost in enumerate(is_lost):
+        for scan in range(number * every, (number + 1) * every):
+            waiting += [scan] * (inputs if scan % filter_length == 0 else 0)
+            oldest = (kept or waiting)[:1]
+            most, late = max(most, len(waiting)), max([late] + [scan - one for one in oldest])
+        if lost and choose.random() < 0.5:
+            continue
+        if kept is None:
+            kept, waiting = waiting[:PER_BLOCK], waiting[PER_BLOCK:]
+        kept = kept if lost else None
+    return most, late
+
+
+def losses(seed):
+    """Which rounds are lost: at most 5 of each 100 in a row, as close together as the seed has it."""
+    choose, is_lost, close = random.Random(seed), [], seed % 5 / 5
+    while len(is_lost) < 1000:
+        is_lost.append(sum(is_lost[-99:]) < 5 and (choose.random() < close or choose.random() < 0.06))
+    return is_lost
+
+
+def check_lossy(check):
+    """A round each 12 scans of which at most 5 of each 100 are lost, with 64 inputs and filters of 5: nothing is pushed out,
+    and none is later than 75 scans."""
+    found = [lossy_run(64, 5, 12, losses(seed), seed) for seed in range(200)]
+    check.holds('lost rounds push none out', max(most for most, _ in found) <= WAITING[0], found)
+    check.holds('with lost rounds none is later than 75', max(late for _, late in found) <= 75, max(late for _, late in found))
+    check.holds('with lost rounds one is later than 64', max(late for _, late in found) > 64, max(late for _, late in found))
+
+
+def differing_run(filters, per_block, every, lost_answer, seed):
+    """The most that wait and the longest that the record lacks one, where each input changes as often as its own filter lets
+    it, with clean rounds so far apart; where an answer may be lost one is, at a time between them."""
+    choose, waiting, kept, most, late = random.Random(seed), [], None, 0, 0
+    phases = [choose.randrange(length) for length in filters]
+    for scan in range(40 * every):
+        waiting += [scan for length, phase in zip(filters, phases) if scan % length == phase]
+        oldest = (kept or waiting)[:1]
+        most, late = max(most, len(waiting)), max([late] + [scan - one for one in oldest])
+        if (scan + 1) % every == 0:
+            if kept is None:
+                waiting = waiting[per_block:]
+            kept = None
+        elif lost_answer and kept is None and choose.random() < 0.2:
+            kept, waiting = waiting[:per_block], waiting[per_block:]
+    return most, late
+
+
+def check_filters_that_differ(check):
+    """Filters that differ: no more than a block waits, and none is later than n - 1; with answers lost twice as many."""
+    for seed in range(300):
+        choose = random.Random(seed)
+        filters = [choose.randint(1, 7) for _ in range(choose.randint(1, 6))]
+        every = choose.randint(1, 9)
+        per_block = sum(1 + (every - 1) // length for length in filters)
+        for times in (1, 2):
+            most, late = differing_run(filters, per_block, every, times == 2, seed)
+            check.holds('filters of %s, a round every %d, %d blocks' % (filters, every, times),
+                        most <= times * per_block and late <= times * every - 1, (most, late))
+
+
 class Densest:
     """A script in which the open inputs change as often as their filters let them, and what it logs."""
 
@@ -336,6 +402,8 @@ def main():
     check_polling(check)
     check_room(check)
     check_restart(check)
+    check_lossy(check)
+    check_filters_that_differ(check)
     for inputs in INPUTS:
         for filter_length in FILTERS:
             check_rounds(check, inputs, filter_length, False)

@@ -11,6 +11,8 @@ from .protocol import BLOCK_ENTRIES, INPUTS, MOST_WAITING, STANDARD_WAITING
 WAITING = {'standard': STANDARD_WAITING, 'largest': MOST_WAITING}
 COMPUTED = 'computed, not proved'
 MOST_ROUNDS = 10_000
+# Of each so many rounds in a row at most so many are lost.
+EACH, LOST = 100, 5
 MOST_FILTER, MOST_SCANS = 255, 1 << 31
 
 
@@ -38,6 +40,12 @@ def most_exact(inputs, filter_length, per_block, every, behind):
     waiting = max(inputs * -(-(j * every + behind) // filter_length) - per_block * j for j in range(filter_length + 1))
     late = max(j * every - filter_length * (per_block * j // inputs) for j in range(inputs))
     return waiting, behind - 1 + late
+
+
+def lossy_pace(every, within):
+    """How far apart rounds may begin of which at most `LOST` of each `EACH` are lost, where a clean one makes up for `every`
+    scans and the blocks may be `within` behind."""
+    return min((EACH - 1 - LOST) * every // (EACH - 1), within // (LOST + 1))
 
 
 def paces(inputs, filter_length, per_block, waiting, left):
@@ -68,12 +76,17 @@ def row(option):
     yield 'late, at most', '%d ms' % late, '`young` of `KeepsUpExactly`'
     waits, late = most_exact(inputs, length, per_block, every, 2 * every)
     yield 'entries that wait, at most, answers lost', waits, '`few_wait` of `KeepsUpExactly`'
-    yield 'late, at most, answers lost', '%d ms' % late, '`exactly` of `Delivers`'
+    yield 'late, at most, answers lost', '%d ms' % late, '`exactly` of `IsLateBy`'
     longest = waiting // inputs * length
-    yield 'outage without loss, at most', '%d ms' % longest, '`room` of `IsOutage`; `outage` of `Delivers`'
+    yield 'outage without loss, at most', '%d ms' % longest, '`room` of `IsOutage`; `outage` of `settled_links_lose_nothing`'
     within = waiting * length // inputs - (length - 1)
     if within >= every:
         yield 'outage within the pace, at most', '%d ms' % within, '`possible` of `outages_within_a_pace`'
+        apart = lossy_pace(every, within)
+        if apart > 0:
+            name = '%d of each %d rounds lost' % (LOST, EACH)
+            yield 'begin a round every, ' + name, '%d ms' % apart, '`lost_rounds`'
+            yield 'late, at most, ' + name, '%d ms' % ((LOST + 1) * apart + length - 2), '`late` of `IsLateBy`'
     if option.every is not None:
         fits = 'nothing is lost' if option.every <= every else 'some may be lost in the densest traffic'
         yield 'a poll every %d ms' % option.every, fits, ('`enough` of `FewChange`' if option.every <= every
@@ -88,7 +101,7 @@ def outage(option, inputs, length, per_block, waiting, longest):
     left = min(logged, waiting)
     yield 'wait after an outage of %d ms, at most' % option.outage, left, COMPUTED
     if option.outage <= longest:
-        yield 'lost in it', 0, '`outage` of `Delivers`'
+        yield 'lost in it', 0, '`outage` of `settled_links_lose_nothing`'
     else:
         yield 'lost in it, at most', logged - left, COMPUTED
     rounds = 1 + -(-left // per_block)

@@ -375,7 +375,7 @@ some_entries : (limits : Limits) → are_limits limits ≡ true → 1 ≤ limits
 some_entries limits are = grind (arith, nat_tests)
 
 pub calls_are_runs : CallsAreRuns
-calls_are_runs id first limits device ring calls last id_low first_low few are many room started called =
+calls_are_runs id first limits device ring calls last id_low first_low few are started called =
     let settings = settings_of id limits in
     let begin : Follows settings first start (caller_at_start device ring first) = record {
       history = [];
@@ -392,7 +392,6 @@ calls_are_runs id first limits device ring calls last id_low first_low few are m
       id_fits = omega arith;
       some_per_block = some_entries limits are;
       few_per_block = omega arith;
-      many_waiting = many;
     } in
     let run = follow_all settings first calls start (caller_at_start device ring first) last begin called in
     record {

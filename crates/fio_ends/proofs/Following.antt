@@ -1,5 +1,5 @@
 -- What a prompt run keeps of its transcript and its machine.
-use Rattle.fio_ends.proofs.Names.{◌≡◌, ◌+◌, ◌<◌, ◌≤◌, ◌⊎◌, inl, inr, ℕ, Bool, true, false, List, [], ◌∷◌, length, Some, refl, sym, subst, arith, slice_get, Command, block_in, command_in, says_again, Settings, life_of, MadeBlock, blocks_of, facts_with, no_facts, number_due, answer_type_to, names_absent, Facts, SentFrame, Machine, start, number_of, HasPoll, next_round, CpuFrame}
+use Rattle.fio_ends.proofs.Names.{◌≡◌, ◌+◌, ◌<◌, ◌≤◌, ◌⊎◌, inl, inr, ℕ, Bool, true, false, List, [], ◌∷◌, length, Some, refl, sym, subst, arith, slice_get, Command, block_in, command_in, says_again, Settings, HasRoom, life_of, MadeBlock, blocks_of, facts_with, no_facts, number_due, answer_type_to, names_absent, Facts, SentFrame, Machine, start, number_of, HasPoll, next_round, CpuFrame}
 use Rattle.fio_message.specs.declared.commands.Command.TheVariants as commands
 use Rattle.fio_message.specs.Blocks.{Block as BlockOf}
 use Rattle.fio_module.specs.Life.{History}
@@ -99,10 +99,10 @@ abbrev pub facts_below : Facts → List CpuFrame → Facts
 facts_below facts [] = facts
 facts_below facts (frame ∷ frames) = facts_below (facts_with facts (said_by frame)) frames
 
--- what an event keeps: the lines that it adds break no rule, where a block takes 255 entries, and all is kept
+-- what an event keeps: the lines that it adds break no rule, where a block takes 255 entries and there is room, and all is kept
 -- below them
 pub record Keeps (settings : Settings) (first : ℕ) (facts : Facts) (frames : List CpuFrame) (machine : Machine) (due : ℕ) : Type 0 where
-  pub rules : settings.per_block ≡ 255 → KeepRules facts frames
+  pub rules : HasRoom settings → settings.per_block ≡ 255 → KeepRules facts frames
   pub follows : Follows settings first machine due (facts_below facts frames)
 
 -- an event after which only the history of the module is another

@@ -1,5 +1,5 @@
 -- The CPU hears the answer that is due: its line breaks no rule.
-use Rattle.fio_ends.proofs.Names.{◌≡◌, ◌∙◌, ◌+◌, ◌%◌, ◌<◌, ◌≤◌, ◌&&◌, ◌||◌, inl, inr, ℕ, Bool, true, false, List, [], ◌∷◌, length, map, Option, Some, None, refl, ap, sym, subst, arith, if◌then◌else◌, ◌==◌, not, nat_le, option_map, slice_get, AllByRecursion, list_any, option_map_or, nat_tests, same_Some, Answer, Command, answer_in, answered_block, block_in, says_again, says_lost, says_more, Settings, AreInRange, Life, life_of, Transition, entry_of, MadeBlock, blocks_of, facts_with, answer_type_to, is_absent, observation_in, observation_of, first_broken, Facts, ToCpu, SentFrame, Machine, number_of, after_delivered_block, after_delivery_to_cpu, refusal, after, item_numbered, HasBlock, next_round, CarriesBlockOf, number_of-next, HasInput, each-at, after_taken, same_round, after_delivery, IsKept, carries_own, frame_heard}
+use Rattle.fio_ends.proofs.Names.{◌≡◌, ◌∙◌, ◌+◌, ◌%◌, ◌<◌, ◌≤◌, ◌&&◌, ◌||◌, inl, inr, ℕ, Bool, true, false, List, [], ◌∷◌, length, map, Option, Some, None, refl, ap, sym, subst, arith, if◌then◌else◌, ◌==◌, not, nat_le, option_map, slice_get, AllByRecursion, list_any, option_map_or, nat_tests, same_Some, Answer, Command, answer_in, answered_block, block_in, says_again, says_lost, says_more, Settings, AreInRange, HasRoom, Life, life_of, Transition, entry_of, MadeBlock, blocks_of, facts_with, answer_type_to, is_absent, observation_in, observation_of, first_broken, Facts, ToCpu, SentFrame, Machine, number_of, after_delivered_block, after_delivery_to_cpu, refusal, after, item_numbered, HasBlock, next_round, CarriesBlockOf, number_of-next, HasInput, each-at, after_taken, same_round, after_delivery, IsKept, carries_own, frame_heard}
 use Rattle.std.specs.Prelude.{is_some}
 use Rattle.std.proofs.lemmas.List.{length-map}
 use Rattle.fio_message.specs.declared.answers.Answer.TheVariants as answers
@@ -118,7 +118,7 @@ module _ (settings : Settings) (range : AreInRange settings) (first : ℕ) (mach
         stage = inl (record { all = r.all; past = past });
       } in
       record {
-        rules = λ full. (ap (first_broken facts) h.heard ∙ kept, tt);
+        rules = λ wide full. (ap (first_broken facts) h.heard ∙ kept, tt);
         follows = subst (λ found. Follows settings first (after_delivered_block first (record machine { last_to_cpu = place + 1 }) found) due (facts_with facts (observation_in false octets))) (sym none)
             (subst (λ o. Follows settings first (record machine { last_to_cpu = place + 1 }) due (facts_with facts o)) (sym h.heard) follows);
       }
@@ -130,21 +130,21 @@ module _ (settings : Settings) (range : AreInRange settings) (first : ℕ) (mach
   entries_of_made b c = ap length c.carried.entries ∙ length-map c.block.transitions entry_of
 
   -- what the rules ask of a block answer that carries the block of the CPU's round
-  block_keeps : settings.per_block ≡ 255 → (number : ℕ) (b : BlockOf) → IsAsked first facts machine.round (commands.Poll number)
+  block_keeps : HasRoom settings → settings.per_block ≡ 255 → (number : ℕ) (b : BlockOf) → IsAsked first facts machine.round (commands.Poll number)
       → b.number ≡ number → (facts.advanced ≡ true → says_again b.status ≡ false)
       → CarriesBlockOf first blocks b machine.round
       → KeepsRules facts (seen.Block b.number b.status (length b.entries) (list_any (λ entry. is_absent entry.input) b.entries))
-  block_keeps full number b asked numbered again c tried.Pair = is_asked facts.awaited 182 asked.awaited
-  block_keeps full number b asked numbered again c tried.Number =
+  block_keeps wide full number b asked numbered again c tried.Pair = is_asked facts.awaited 182 asked.awaited
+  block_keeps wide full number b asked numbered again c tried.Number =
       let polled = asked.polled number refl in
       has_number facts.polled number b.number polled.0 numbered
-  block_keeps full number b asked numbered again c tried.Same = not_both facts.advanced (says_again b.status) again
-  block_keeps full number b asked numbered again c tried.Sequence =
+  block_keeps wide full number b asked numbered again c tried.Same = not_both facts.advanced (says_again b.status) again
+  block_keeps wide full number b asked numbered again c tried.Sequence =
       ap (λ out. out && (says_again b.status || is_some facts.more)) c.in_sequence
-  block_keeps full number b asked numbered again c tried.Limits =
+  block_keeps wide full number b asked numbered again c tried.Limits =
       let m = c.block in
       let limits = each-at (KeepsLimits settings.per_block) blocks machine.round m
-      (blocks_keep settings (omega (arith, range.many_waiting)) life) c.is_made in
+      (blocks_keep settings (omega (arith, full, wide)) life) c.is_made in
       let over : is_overfull b.status (length b.entries) ≡ false =
       within_limits (says_lost b.status) (says_more b.status) (length b.entries)
       (λ lost. c.carried.more ∙ limits.lost (sym c.carried.lost ∙ lost))
@@ -152,15 +152,15 @@ module _ (settings : Settings) (range : AreInRange settings) (first : ℕ) (mach
       let absent : list_any (λ entry. is_absent entry.input) b.entries ≡ false =
       ap (list_any (λ entry. is_absent entry.input)) c.carried.entries ∙ none_absent m.transitions limits.inputs in
       ap (λ o. o || list_any (λ entry. is_absent entry.input) b.entries) over ∙ absent
-  block_keeps full number b asked numbered again c tried.Rest =
+  block_keeps wide full number b asked numbered again c tried.Rest =
       let m = c.block in
-      let leaves = blocks_leave settings range.some_per_block (omega (arith, range.many_waiting)) life in
+      let leaves = blocks_leave settings range.some_per_block (omega (arith, wide)) life in
       let count = entries_of_made b c in
       has_rest facts.more (length b.entries) (λ is.
       (let t = f.more true is in
       let some = leaves.next t.earlier t.block m t.at_place (ap (slice_get blocks) (sym t.next) ∙ c.is_made) t.same in
       omega (arith, count, some)))
-  block_keeps full number b asked numbered again c rule = refl
+  block_keeps wide full number b asked numbered again c rule = refl
 
   follows-block : (number : ℕ) (place : ℕ) (b : BlockOf) (entries : ℕ) (absent : Bool) → IsReceived first facts machine.to_module machine.to_cpu machine.last_to_module machine.round due (commands.Poll number)
       → due ≤ place + 1
@@ -210,10 +210,10 @@ module _ (settings : Settings) (range : AreInRange settings) (first : ℕ) (mach
       ap (after_delivered_block first (record machine { last_to_cpu = place + 1 })) h.spells
       ∙ ap (λ is. if is then after_taken machine place b else record machine { last_to_cpu = place + 1 }) met in
       record {
-        rules = λ full. (
+        rules = λ wide full. (
           ap (first_broken facts) said
               ∙ no_rule_broken facts (seen.Block b.number b.status entries absent)
-              (block_keeps full number b r.asked h.numbered h.again c),
+              (block_keeps wide full number b r.asked h.numbered h.again c),
           tt,
         );
         follows = subst (λ m. Follows settings first m due (facts_with facts (observation_in false frame.octets))) (sym taken)

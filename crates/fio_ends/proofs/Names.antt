@@ -29,7 +29,7 @@ pub use Rattle.fio_module.specs.Blocks.{MadeBlock, newest_poll, blocks_of, end_o
 pub use Rattle.fio_module.specs.Life.{Life, Occurrence, Scanned, LineSynced, Raised, filter_events, life_after_command, life_of, Commanded, scans_of, counter_events, loads_of}
 pub use Rattle.fio_module.specs.Log.{Transition, entry_of, log_of}
 pub use Rattle.fio_module.specs.Replies.{answer_to}
-pub use Rattle.fio_module.specs.Settings.{Settings, AreInRange}
+pub use Rattle.fio_module.specs.Settings.{Settings, AreInRange, HasRoom}
 pub use Rattle.fio_cpu.specs.Hearing.{after_hearing}
 pub use Rattle.fio_cpu.specs.Poller.{Polling}
 pub use Rattle.fio_cpu.specs.Record.{item_of, items_of_block}

@@ -1,5 +1,5 @@
 -- The transcript of a prompt run is good.
-use Rattle.fio_ends.proofs.Names.{◌≡◌, arith, ℕ, List, [], ◌∷◌, ◌++◌, None, refl, sym, subst, AllByRecursion, Settings, AreInRange, facts_with, no_facts, Facts, Event, Machine, start, refusal, after, Leads, IsNotRestart, HaveNoRestart, IsKept, kept_all, kept, CpuFrame, frames_at, frames_from, due_after, IsPrompt, ArePrompt, IsWithinRanges}
+use Rattle.fio_ends.proofs.Names.{◌≡◌, arith, ℕ, List, [], ◌∷◌, ◌++◌, None, refl, sym, subst, AllByRecursion, Settings, AreInRange, HasRoom, facts_with, no_facts, Facts, Event, Machine, start, refusal, after, Leads, IsNotRestart, HaveNoRestart, IsKept, kept_all, kept, CpuFrame, frames_at, frames_from, due_after, IsPrompt, ArePrompt, IsWithinRanges}
 use Rattle.fio_module.specs.Life as module_events
 use Rattle.fio_link.specs.declared.event.Event.TheVariants as events
 use Rattle.fio_ends.specs.PromptRuns.{NeverAccuses}
@@ -13,7 +13,7 @@ module _ (settings : Settings) (range : AreInRange settings) (first : ℕ) where
   -- an event that adds no line
   no_line : (facts : Facts) (machine : Machine) (due : ℕ) → Follows settings first machine due facts
       → Keeps settings first facts [] machine due
-  no_line facts machine due f = record { rules = λ full. tt; follows = f }
+  no_line facts machine due f = record { rules = λ wide full. tt; follows = f }
 
   -- each event keeps it
   pub keeps-event : (machine : Machine) (due : ℕ) (facts : Facts) → IsKept settings first machine
@@ -45,23 +45,23 @@ module _ (settings : Settings) (range : AreInRange settings) (first : ℕ) where
       (above.0, both_keep (facts_with facts (said_by frame)) frames more above.1 rest)
 
   -- so all events do
-  all_keep : settings.per_block ≡ 255 → (events : List Event) (machine last : Machine) (due : ℕ) (facts : Facts) → IsKept settings first machine
+  all_keep : HasRoom settings → settings.per_block ≡ 255 → (events : List Event) (machine last : Machine) (due : ℕ) (facts : Facts) → IsKept settings first machine
       → Follows settings first machine due facts
       → Leads settings first machine events last → HaveNoRestart events → AllByRecursion IsWithinRanges events
       → ArePrompt settings first machine due events
       → KeepRules facts (frames_from settings first machine events)
-  all_keep full [] machine last due facts k f leads none within prompt = tt
-  all_keep full (event ∷ events) machine last due facts k f leads none within prompt =
+  all_keep wide full [] machine last due facts k f leads none within prompt = tt
+  all_keep wide full (event ∷ events) machine last due facts k f leads none within prompt =
       let here = keeps-event machine due facts k f event leads.0 none.0 within.0 prompt.0 in
       let now : IsKept settings first (after settings first machine event) =
       kept_all settings range first (event ∷ []) machine (after settings first machine event) (none.0, tt) (leads.0, refl) k in
-      both_keep facts (frames_at first machine event) (frames_from settings first (after settings first machine event) events) (here.rules full)
-      (all_keep full events (after settings first machine event) last (due_after machine due event)
+      both_keep facts (frames_at first machine event) (frames_from settings first (after settings first machine event) events) (here.rules wide full)
+      (all_keep wide full events (after settings first machine event) last (due_after machine due event)
       (facts_below facts (frames_at first machine event)) now here.follows leads.1 none.1 within.1 prompt.1)
 
 -- no false accusation
 pub never_accuses : NeverAccuses 255
-never_accuses settings first events machine range full run lines has =
+never_accuses settings first events machine range wide full run lines has =
     lines_are_good lines (subst (KeepRules no_facts) (sym has)
-    (all_keep settings range first full events start machine 0 no_facts
+    (all_keep settings range first wide full events start machine 0 no_facts
     (kept settings range first [] start refl tt) (follows-start settings first) run.is_run run.no_restart run.within run.prompt))

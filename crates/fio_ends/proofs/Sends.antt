@@ -136,7 +136,7 @@ module _ (settings : Settings) (first : ℕ) (machine : Machine) (due : ℕ) (fa
       let kept : first_broken facts (seen.Poll number) ≡ None =
       no_rule_broken facts (seen.Poll number) (poll_keeps facts number f.number) in
       record {
-        rules = λ full. (ap (first_broken facts) said ∙ kept, tt);
+        rules = λ wide full. (ap (first_broken facts) said ∙ kept, tt);
         follows = subst (λ o. Follows settings first (after_sending machine (commands.Poll number)) 0 (facts_with facts o)) (sym said) follows-poll;
       }
 
@@ -164,7 +164,7 @@ module _ (settings : Settings) (first : ℕ) (machine : Machine) (due : ℕ) (fa
   sends-other command fine within =
       let said = said_of command within ∙ other_said command fine in
       record {
-        rules = λ full. (ap (first_broken facts) said ∙ refl, tt);
+        rules = λ wide full. (ap (first_broken facts) said ∙ refl, tt);
         follows = subst (λ o. Follows settings first (after_sending machine command) 0 (facts_with facts o)) (sym said)
             (follows-other command fine within);
       }

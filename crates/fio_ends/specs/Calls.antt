@@ -8,7 +8,6 @@ use Rattle.fio_message.specs.Decoding.{command_in}
 use Rattle.fio_module.specs.Settings.{Settings}
 use Rattle.fio_module.specs.Life as lives
 use Rattle.fio_module.specs.Replies.{longest_answer}
-use Rattle.fio_module.specs.declared.limits.TheConstants.{STANDARD_WAITING}
 use Rattle.fio_link.specs.declared.event.Event.{Event}
 use Rattle.fio_link.specs.declared.event.Event.TheVariants.{Scan, LineSync, Raise, Poll, Send, ToModule, ToCpu, Restart}
 use Rattle.fio_link.specs.Link.{Machine, item_numbered, delivery_refusal, sending_refusal}
@@ -165,7 +164,6 @@ CallsAreRuns =
     (id first : ℕ) (limits : Limits) (device : SizedModule) (ring : List (List ℕ)) (calls : List Call)
     (last : CallerState)
     → id < 256 → first < 256 → limits.per_block < 256 → are_limits limits ≡ true
-    → STANDARD_WAITING ≤ limits.waiting → length ring ≡ limits.waiting
     → IsDeviceAfter (settings_of id limits) device ring []
     → AreCalled calls (caller_at_start device ring first) last
     → AreRun (settings_of id limits) first (link_events calls) last

@@ -2,7 +2,7 @@
 use Rattle.std.specs.Prelude.{◌≡◌, ℕ, ◌+◌, ◌<◌, ◌==◌, List, [], ◌∷◌, length, if◌then◌else◌}
 use Rattle.std.specs.List.{AllByRecursion}
 use Rattle.fio_message.specs.Commands.{IsCommand}
-use Rattle.fio_module.specs.Settings.{Settings, AreInRange}
+use Rattle.fio_module.specs.Settings.{Settings, AreInRange, HasRoom}
 use Rattle.fio_check.specs.Lines.{TranscriptLine}
 use Rattle.fio_check.specs.Verdicts.{verdict_on}
 use Rattle.fio_check.specs.declared.verdict.Verdict.TheVariants.{Good}
@@ -53,7 +53,7 @@ pub record IsPromptRun (settings : Settings) (first : ℕ) (events : List Event)
 abbrev pub NeverAccuses : ℕ → Type 0
 NeverAccuses per_block =
     (settings : Settings) (first : ℕ) (events : List Event) (machine : Machine) →
-    AreInRange settings → settings.per_block ≡ per_block →
+    AreInRange settings → HasRoom settings → settings.per_block ≡ per_block →
     IsPromptRun settings first events machine →
     (lines : List TranscriptLine) → HaveFrames lines (transcript_of settings first events) →
     verdict_on lines ≡ Good (length lines)

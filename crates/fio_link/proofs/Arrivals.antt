@@ -1,20 +1,16 @@
--- What a link that is polled in time delivers.
-use Rattle.fio_link.proofs.Names.{◌≡◌, ℕ, zero, suc, ◌+◌, ◌-◌, ◌*◌, ◌%◌, ◌^◌, ◌≤◌, Bool, true, false, List, [], ◌∷◌, ◌++◌, length, take, drop, map, Option, Some, None, refl, ap, sym, subst, ◌∙◌, arith, length-drop, if◌then◌else◌, AllByRecursion, flat_map, mul-le-mul_left, flat_map-append, map-append, take_all, drop-append-le, Poll, asked_number, one_more_if_loaded, is_reported, Settings, AreInRange, Life, Scanned, LineSynced, Commanded, life_of, counter_events, loads_of, filter_events, Transition, entry_of, log_of, transition_at, MadeBlock, newest_poll, is_new, blocks_of, next_block, end_of_blocks, newest_end, waiting_from, waiting_of, AtEachTime, FewBeyond, scans_behind, IsKeptUp, IsYoung, holds_now, ends-grow, nothing_left, log-grown, item_of, Machine, blocks_in, IsInTime, EntryPiece, piece_of, end_taken, timed_item, transitions_arrived}
+-- What blocks hold that a module makes while it is kept up with.
+use Rattle.fio_link.proofs.Names.{◌≡◌, ℕ, zero, suc, ◌+◌, ◌-◌, ◌*◌, ◌%◌, ◌^◌, ◌≤◌, Bool, true, false, List, [], ◌∷◌, ◌++◌, length, take, drop, map, Option, Some, None, refl, ap, sym, subst, ◌∙◌, arith, length-drop, if◌then◌else◌, AllByRecursion, flat_map, map-append, drop-append-le, Poll, asked_number, one_more_if_loaded, is_reported, Settings, Life, Scanned, LineSynced, Commanded, counter_events, loads_of, filter_events, Transition, entry_of, log_of, transition_at, MadeBlock, newest_poll, is_new, blocks_of, next_block, newest_end, waiting_from, waiting_of, AtEachTime, scans_behind, IsYoung, holds_now, ends-grow, log-grown, item_of, IsInTime, EntryPiece, piece_of, timed_item}
 use Rattle.std.proofs.Math.Seq.{drop-length}
 use Rattle.std.proofs.lemmas.List.{drop-take}
 use Rattle.fio_message.specs.declared.commands.Command.TheVariants as commands
 use Rattle.fio_module.specs.Log.{transitions_below}
 use Rattle.fio_module.specs.KeepingUp.{KeepsUp}
 use Rattle.fio_module.proofs.ListParts.{each-front, each-back}
-use Rattle.fio_module.proofs.Polling.{kept_up_keeps_up}
 use Rattle.fio_module.proofs.Stretches.{transitions_in, IsPunctual, HasMade, has_made, each-push}
 use Rattle.fio_cpu.specs.declared.record.Item.TheVariants as items
-use Rattle.fio_link.specs.StartingAnew.{in_blocks_since}
 use Rattle.fio_link.proofs.MadeBlocks.{each-append, each-take, each-map}
 use Rattle.fio_link.proofs.OneLife.{recorded_of}
 use Rattle.fio_link.proofs.Times.{BlockTimely, IsTimely, blocks_timely, wide_time}
-use Rattle.fio_link.proofs.CatchingUp.{IsBetween}
-use Rattle.fio_link.proofs.CleanRoundsInTime.{IsReached}
 
 -- the blocks of a life were made after no more loads than it has
 loads-later : (life : Life) (asked : Option ℕ) (loads : ℕ) → loads ≤ one_more_if_loaded asked loads
@@ -140,91 +136,54 @@ timed_punctual most filter least (block ∷ blocks) few all timely low loads =
     ∙ ap (λ its. map timed_item block.transitions ++ its) (timed_punctual most filter least blocks few all.1 timely.1 low.1 rest)
     ∙ sym (map-append timed_item block.transitions (transitions_in blocks))
 
--- a machine that has taken all blocks
-all_recorded : (settings : Settings) (first : ℕ) (machine : Machine) → IsBetween settings first machine
-    → machine.round ≡ length (blocks_in settings machine) → machine.items ≡ flat_map recorded_of (blocks_in settings machine)
-all_recorded settings first machine b taken =
-    let blocks = blocks_in settings machine in
-    b.kept.one_life.kept
-    ∙ ap (λ n. flat_map recorded_of (take n blocks)) taken
-    ∙ ap (flat_map recorded_of) (take_all (length blocks) blocks (omega arith))
-
-pub taken_end : (settings : Settings) (machine : Machine) → machine.round ≡ length (blocks_in settings machine)
-    → end_taken settings machine ≡ newest_end settings (life_of machine.history)
-taken_end settings machine taken =
-    let blocks = blocks_in settings machine in
-    ap end_of_blocks (ap (λ n. take n blocks) taken ∙ take_all (length blocks) blocks (omega arith))
-
--- Blocks that are made while a module is kept up with, and what a record gains from them.
-module _ (settings : Settings) (range : AreInRange settings) (opened filter scans most behind : ℕ) (machine last : Machine) (later : Life)
-    (since : life_of last.history ≡ later ++ life_of machine.history)
-    (near : AtEachTime (λ l. scans_behind scans l (life_of machine.history) ≤ most) later)
-    (few_behind : scans_behind scans later (life_of machine.history) ≤ behind)
-    (k : IsKeptUp settings opened filter scans most (life_of machine.history) later) where
-  abbrev life : Life
-  life = life_of machine.history
-
+-- What is in blocks since a time, while a module is kept up with.
+module _ (settings : Settings) (opened filter scans most : ℕ) (life later : Life)
+    (ends : newest_end settings life ≡ length (log_of life)) (keeps : AtEachTime (KeepsUp settings opened filter scans life) later)
+    (near : AtEachTime (λ l. scans_behind scans l life ≤ most) later) where
   abbrev now : Life
-  now = life_of last.history
+  now = later ++ life
 
-  keeps : AtEachTime (KeepsUp settings opened filter scans life) later
-  keeps = kept_up_keeps_up settings opened filter scans most life later range k
+  -- the transitions logged since then, through the end of the newest block
+  abbrev pub in_blocks : List Transition
+  in_blocks = drop (length (log_of life)) (take (newest_end settings now) (log_of now))
 
   pub made_since : HasMade settings filter most life later
   made_since = has_made settings opened filter scans most life later keeps near
 
-  ends : newest_end settings life ≡ length (log_of life)
-  ends = nothing_left settings range life (ap length k.few_change.nothing_waits)
-
   -- the transitions of the blocks made since are those that they hold of the log
-  are_logged : transitions_in made_since.made ≡ in_blocks_since settings machine last
-  are_logged =
-      made_since.entries
-      ∙ ap (λ l. drop (newest_end settings life) (take (newest_end settings l) (log_of l))) (sym since)
-      ∙ ap (λ n. drop n (take (newest_end settings now) (log_of now))) ends
+  are_logged : transitions_in made_since.made ≡ in_blocks
+  are_logged = made_since.entries ∙ ap (λ n. drop n (take (newest_end settings now) (log_of now))) ends
 
-  pub blocks_now : blocks_of settings now ≡ blocks_of settings life ++ made_since.made
-  blocks_now = ap (blocks_of settings) since ∙ made_since.blocks
-
-  -- where the record has gained what those blocks are, it has gained those transitions
-  pub whole_since : last.items ≡ machine.items ++ flat_map recorded_of made_since.made
-      → map piece_of last.items
-      ≡ map piece_of machine.items ++ map (λ transition. EntryPiece (entry_of transition)) (in_blocks_since settings machine last)
-  whole_since gained =
-      ap (map piece_of) gained
-      ∙ map-append piece_of machine.items (flat_map recorded_of made_since.made)
-      ∙ ap (λ ps. map piece_of machine.items ++ ps) (got_punctual most filter made_since.made made_since.punctual)
-      ∙ ap (λ ts. map piece_of machine.items ++ map (λ transition. EntryPiece (entry_of transition)) ts) are_logged
+  -- what those blocks are in the record
+  pub whole_since : map piece_of (flat_map recorded_of made_since.made) ≡ map (λ transition. EntryPiece (entry_of transition)) in_blocks
+  whole_since =
+      got_punctual most filter made_since.made made_since.punctual
+      ∙ ap (λ ts. map (λ transition. EntryPiece (entry_of transition)) ts) are_logged
 
   -- each of them was logged after as many loads at least as there had been
-  logged_loads : AllByRecursion (HasLoadsSince (loads_of life)) (in_blocks_since settings machine last)
+  logged_loads : AllByRecursion (HasLoadsSince (loads_of life)) in_blocks
   logged_loads =
       let start = length (log_of life) in
       let end = newest_end settings now in
       let grown = ends-grow settings later life in
-      let now_end = ap (newest_end settings) since in
       let some : end ≡ start + (end - start) = omega (arith, ends) in
       let parts : drop start (take end (log_of now)) ≡ take (end - start) (drop start (log_of now)) =
       ap (λ n. drop start (take n (log_of now))) some ∙ drop-take start (end - start) (log_of now) in
       subst (AllByRecursion (HasLoadsSince (loads_of life))) (sym parts)
-      (each-take (HasLoadsSince (loads_of life)) (end - start) (drop start (log_of now))
-      (subst (λ l. AllByRecursion (HasLoadsSince (loads_of life)) (drop start (log_of l))) (sym since) (logged_since later life)))
+      (each-take (HasLoadsSince (loads_of life)) (end - start) (drop start (log_of now)) (logged_since later life))
 
   -- what holds of all blocks holds of those made since
   of_made : (P : MadeBlock → Type 0) → AllByRecursion P (blocks_of settings now) → AllByRecursion P made_since.made
-  of_made P all = each-back P (blocks_of settings life) made_since.made (subst (AllByRecursion P) blocks_now all)
+  of_made P all = each-back P (blocks_of settings life) made_since.made (subst (AllByRecursion P) made_since.blocks all)
 
-  pub times_since : last.items ≡ machine.items ++ flat_map recorded_of made_since.made
-      → loads_of now ≡ loads_of life → most + filter ≤ 65537
-      → last.items ≡ machine.items ++ map timed_item (in_blocks_since settings machine last)
-  times_since gained none few =
+  pub times_since : loads_of now ≡ loads_of life → most + filter ≤ 65537
+      → flat_map recorded_of made_since.made ≡ map timed_item in_blocks
+  times_since none few =
       let low = subst (λ n. AllByRecursion (HasLoads n) (blocks_of settings now)) none (blocks_have_loads settings now) in
       let loads = subst (AllByRecursion (HasLoadsSince (loads_of life))) (sym are_logged) logged_loads in
-      gained
-      ∙ ap (λ its. machine.items ++ its)
-      (timed_punctual most filter (loads_of life) made_since.made few made_since.punctual
-      (of_made BlockTimely (blocks_timely settings now)) (of_made (HasLoads (loads_of life)) low) loads)
-      ∙ ap (λ ts. machine.items ++ map timed_item ts) are_logged
+      timed_punctual most filter (loads_of life) made_since.made few made_since.punctual
+      (of_made BlockTimely (blocks_timely settings now)) (of_made (HasLoads (loads_of life)) low) loads
+      ∙ ap (map timed_item) are_logged
 
   -- what holds now
   keeps_now : KeepsUp settings opened filter scans life later
@@ -232,71 +191,18 @@ module _ (settings : Settings) (range : AreInRange settings) (opened filter scan
 
   -- what waits begins at the end of the newest block
   pub waits_from_end : waiting_from settings now ≡ newest_end settings now
-  waits_from_end =
-      let few = subst (FewBeyond settings) (sym since) keeps_now.few_beyond in
-      omega arith
+  waits_from_end = omega (arith, keeps_now.few_beyond)
 
-  pub young_since_blocks : AllByRecursion (IsYoung behind filter now) (drop (newest_end settings now) (log_of now))
-  young_since_blocks =
-      let there = subst (λ l. AllByRecursion (IsYoung (scans_behind scans later life) filter l) (waiting_of settings l)) (sym since) keeps_now.young in
-      subst (λ n. AllByRecursion (IsYoung behind filter now) (drop n (log_of now))) waits_from_end
-      (each-map (IsYoung (scans_behind scans later life) filter now) (IsYoung behind filter now) (λ t is. omega arith)
-      (waiting_of settings now) there)
+  -- and is young
+  pub young_now : AllByRecursion (IsYoung (scans_behind scans later life) filter now) (drop (newest_end settings now) (log_of now))
+  young_now =
+      subst (λ n. AllByRecursion (IsYoung (scans_behind scans later life) filter now) (drop n (log_of now))) waits_from_end keeps_now.young
 
   -- few are left at the end of a clean round
-  pub few_left_since : (length (log_of now) - newest_end settings now) * filter
-      ≤ opened * (behind + (filter - 1))
-  few_left_since =
-      let few = subst (λ l. length (waiting_of settings l) * filter ≤ opened * (scans_behind scans later life + (filter - 1))) (sym since) keeps_now.few_wait in
+  pub few_left : (length (log_of now) - newest_end settings now) * filter
+      ≤ opened * (scans_behind scans later life + (filter - 1))
+  few_left =
       let count = length-drop (waiting_from settings now) (log_of now) in
       let left : length (waiting_of settings now) ≡ length (log_of now) - newest_end settings now = omega (arith, waits_from_end) in
       let product : length (waiting_of settings now) * filter ≡ (length (log_of now) - newest_end settings now) * filter = ap (λ n. n * filter) left in
-      let more : opened * (scans_behind scans later life + (filter - 1)) ≤ opened * (behind + (filter - 1)) = mul-le-mul_left opened (omega arith) in
-      omega arith
-
-module _ (settings : Settings) (range : AreInRange settings) (first opened filter scans most behind : ℕ) (machine last : Machine) (later : Life)
-    (b : IsBetween settings first machine) (taken : machine.round ≡ length (blocks_in settings machine))
-    (r : IsReached settings first scans most behind machine last later)
-    (k : IsKeptUp settings opened filter scans most (life_of machine.history) later) where
-  abbrev then_life : Life
-  then_life = life_of machine.history
-
-  abbrev last_life : Life
-  last_life = life_of last.history
-
-  abbrev made : HasMade settings filter most then_life later
-  made = made_since settings range opened filter scans most behind machine last later r.since r.near r.now k
-
-  -- what those blocks hold is what arrived
-  are_arrived : in_blocks_since settings machine last ≡ transitions_arrived settings machine last
-  are_arrived = ap (λ n. drop (length (log_of then_life)) (take n (log_of last_life))) (sym (taken_end settings last r.all_taken))
-
-  -- the record has gained what those blocks are
-  gained : last.items ≡ machine.items ++ flat_map recorded_of made.made
-  gained =
-      all_recorded settings first last r.between r.all_taken
-      ∙ ap (flat_map recorded_of) (blocks_now settings range opened filter scans most behind machine last later r.since r.near r.now k)
-      ∙ flat_map-append recorded_of (blocks_of settings then_life) made.made
-      ∙ ap (λ its. its ++ flat_map recorded_of made.made) (sym (all_recorded settings first machine b taken))
-
-  pub whole : map piece_of last.items
-      ≡ map piece_of machine.items ++ map (λ transition. EntryPiece (entry_of transition)) (transitions_arrived settings machine last)
-  whole =
-      whole_since settings range opened filter scans most behind machine last later r.since r.near r.now k gained
-      ∙ ap (λ ts. map piece_of machine.items ++ map (λ transition. EntryPiece (entry_of transition)) ts) are_arrived
-
-  pub times : loads_of last_life ≡ loads_of then_life → most + filter ≤ 65537
-      → last.items ≡ machine.items ++ map timed_item (transitions_arrived settings machine last)
-  times none few =
-      times_since settings range opened filter scans most behind machine last later r.since r.near r.now k gained none few
-      ∙ ap (λ ts. machine.items ++ map timed_item ts) are_arrived
-
-  pub young : AllByRecursion (IsYoung behind filter last_life) (drop (end_taken settings last) (log_of last_life))
-  young =
-      subst (λ n. AllByRecursion (IsYoung behind filter last_life) (drop n (log_of last_life))) (sym (taken_end settings last r.all_taken))
-      (young_since_blocks settings range opened filter scans most behind machine last later r.since r.near r.now k)
-
-  -- few are left at the end of a clean round
-  pub few_left : (length (log_of last_life) - newest_end settings last_life) * filter
-      ≤ opened * (behind + (filter - 1))
-  few_left = few_left_since settings range opened filter scans most behind machine last later r.since r.near r.now k
+      omega (arith, keeps_now.few_wait)

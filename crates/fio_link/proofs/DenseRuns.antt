@@ -2,7 +2,7 @@
 use Rattle.fio_link.proofs.Names.{ℕ, zero, suc, ◌+◌, ◌≤◌, List, [], ◌∷◌, refl, arith, Settings, Event, Machine, after, Leads, HaveNoRestart, IsWithin, LeadsInTime}
 use Rattle.fio_module.proofs.Densest.{levels_at}
 use Rattle.fio_link.specs.declared.event.Event.TheVariants as events
-use Rattle.fio_link.proofs.CleanRoundsInTime.{scans_among, few_in_time}
+use Rattle.fio_link.proofs.Grown.{scans_among, few_in_time}
 
 -- the machine after these events
 unfoldable pub done : Settings → Machine → List Event → Machine

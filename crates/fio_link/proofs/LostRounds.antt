@@ -225,5 +225,5 @@ module _ (scans pace each lost : ℕ) (slow : pace ≤ scans) (enough : each * p
 
 -- so many lost rounds are possible
 pub lost_rounds_are_possible : LostRoundsArePossible
-lost_rounds_are_possible scans pace each lost pauses losses all few slow enough =
-    begin_near scans pace each lost slow enough pauses losses all few
+lost_rounds_are_possible scans pace each lost pauses l slow enough =
+    begin_near scans pace each lost slow enough pauses l.0 l.1 l.2

@@ -2,7 +2,7 @@
 use Rattle.fio_link.proofs.Names.{◌≡◌, ℕ, ◌==◌, Bool, true, false, List, [], ◌∷◌, ◌++◌, Option, Some, None, refl, sym, subst, AllByRecursion, Block, block_in, Settings, Event, Scan, ToModule, ToCpu, SentFrame, Machine, number_of, item_numbered, after_module_event, after_delivered_block, after_delivery_to_cpu, after, Leads}
 use Rattle.fio_module.specs.Life as module_events
 use Rattle.fio_link.specs.declared.event.Event.TheVariants.{LineSync, Raise, Poll}
-use Rattle.fio_link.specs.InTime.{ReachesModule, ScansMoveOut}
+use Rattle.fio_link.specs.MovedScans.{ReachesModule, ScansMoveOut}
 
 -- what reaches the module and what the CPU hears may change places
 heard-block : (first : ℕ) (machine : Machine) (event : module_events.Event) (block : Block) (index : ℕ)

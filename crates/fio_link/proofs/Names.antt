@@ -40,22 +40,20 @@ pub use Rattle.fio_module.specs.Life.{Received, Restart, History, Life, life_of,
 pub use Rattle.fio_module.specs.Log.{Transition, log_of, whole_log, entry_of, transition_at}
 pub use Rattle.fio_module.specs.Replies.{answer_if}
 pub use Rattle.fio_module.specs.Sendings.{Sending, answer_of_sending, latest_sending, is_out_of_sequence, first_sending, repeat_of}
-pub use Rattle.fio_module.specs.Settings.{Settings, AreInRange, standard_settings}
+pub use Rattle.fio_module.specs.Settings.{Settings, AreInRange, HasRoom, standard_settings}
 pub use Rattle.fio_cpu.specs.Record.{item_of, items_of_block}
 pub use Rattle.fio_cpu.specs.declared.record.Item.{Item}
-pub use Rattle.fio_link.specs.AnyTime.{LacksOnlyYoung}
 pub use Rattle.fio_link.specs.Claims.{blocks_in, IsInTime, IsTimed, sources_of}
 pub use Rattle.fio_link.specs.Delivery.{clean_round, IsCleanRound, CleanRoundTakesBlock, EachCleanRoundTakesOne}
 pub use Rattle.fio_link.specs.Frames.{HasBlock, HasPoll, received_numbers, with_poll_number}
 pub use Rattle.fio_link.specs.Headline.{end_taken, IsNotRestart, HaveNoRestart}
-pub use Rattle.fio_link.specs.InTime.{LeadsInTime, newest_of, IsPolledInTime, behind_after, HasArrived, timed_item, transitions_arrived, IsWithin, IsRoundInTime, RoundsInTime}
+pub use Rattle.fio_link.specs.Settled.{newest_number, HasTakenAll, IsSettled, end_recorded, IsWithin, LeadsOn, LeadsInTime, timed_item, transitions_arrived, HasGainedAll}
 pub use Rattle.fio_link.specs.Link.{SentFrame, Machine, number_of, Leads, start, item_numbered, delivery_refusal, refusal, answer_frames, after_sending, after_delivery_to_module, after_delivered_block, after_delivery_to_cpu, after, IsRun, after_module_event, polls_with}
-pub use Rattle.fio_link.specs.LossyLinks.{Pause, left_behind, BeginNear}
+pub use Rattle.fio_link.specs.KeptUp.{Pause, left_behind, BeginNear, LacksOnlyYoung}
 pub use Rattle.fio_link.specs.Pieces.{EntryPiece, piece_of, Gap, Piece, pieces_of, pieces_of_blocks, ArePieces}
 pub use Rattle.fio_link.specs.Restarts.{TakenLife, IsOneStretch, AtEachRestart, taken_in, past_lives}
 pub use Rattle.fio_link.specs.Rising.{IsRising}
 pub use Rattle.fio_link.specs.Rounds.{next_round, PollsAreInOrder, PollsOf, BlockAnswersOf, CarriesBlock}
 pub use Rattle.fio_link.specs.Sound.{Delivers}
-pub use Rattle.fio_link.specs.StartingAnew.{DeliveryStartsAnew}
 pub use Rattle.fio_link.specs.declared.event.Event.{Event}
 pub use Rattle.fio_link.specs.declared.event.Event.TheVariants.{Scan, ToModule, ToCpu}

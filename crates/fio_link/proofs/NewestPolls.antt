@@ -1,7 +1,6 @@
 -- While nothing is restarted, the latest poll of the module's life is the newest that it has received.
-use Rattle.fio_link.proofs.Names.{◌≡◌, ℕ, ◌+◌, ◌≤◌, List, Option, Some, slice_get, refl, ap, Command, command_in, polled_number, Settings, AreInRange, Life, life_of, life_after_command, newest_poll, Event, SentFrame, Machine, polls_with, after_delivery_to_module, Leads, HaveNoRestart}
+use Rattle.fio_link.proofs.Names.{◌≡◌, ℕ, ◌+◌, ◌≤◌, List, Option, Some, slice_get, refl, ap, Command, command_in, polled_number, Settings, AreInRange, Life, life_of, life_after_command, newest_poll, Event, SentFrame, Machine, polls_with, after_delivery_to_module, Leads, HaveNoRestart, newest_number}
 use Rattle.fio_message.specs.declared.commands.Command.TheVariants as commands
-use Rattle.fio_link.proofs.OneLife.{newest_number}
 use Rattle.fio_link.proofs.Kept.{HasInvariant}
 use Rattle.fio_link.proofs.Rows.{kept_without_restart}
 

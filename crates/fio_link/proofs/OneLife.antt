@@ -1,5 +1,5 @@
 -- What runs without restarts keep besides.
-use Rattle.fio_link.proofs.Names.{◌≡◌, ◌≢◌, ℕ, ◌+◌, ◌≤◌, Bool, true, false, List, [], ◌∷◌, ◌++◌, length, take, map, Option, Some, None, slice_get, refl, ap, sym, ◌∙◌, arith, inl, inr, length-append, append-nil, if◌then◌else◌, flat_map, flat_map-append, take-append-le, nat_tests, Answer, answer_octets, Block, says_again, block_in, poll_in, Settings, History, life_of, Transition, entry_of, MadeBlock, is_new, blocks_of, Item, item_of, items_of_block, SentFrame, Machine, number_of, answer_frames, HasPoll, next_round, CarriesBlock}
+use Rattle.fio_link.proofs.Names.{◌≡◌, ◌≢◌, ℕ, ◌+◌, ◌≤◌, Bool, true, false, List, [], ◌∷◌, ◌++◌, length, take, map, Option, Some, None, slice_get, refl, ap, sym, ◌∙◌, arith, inl, inr, length-append, append-nil, if◌then◌else◌, flat_map, flat_map-append, take-append-le, nat_tests, Answer, answer_octets, Block, says_again, block_in, poll_in, Settings, History, life_of, Transition, entry_of, MadeBlock, is_new, blocks_of, Item, item_of, items_of_block, SentFrame, Machine, number_of, answer_frames, HasPoll, next_round, CarriesBlock, newest_number}
 use Rattle.fio_cpu.specs.declared.record.Item.TheVariants as items
 use Rattle.fio_link.specs.Frames.{is_repeated, repeats, answer_before, block_answers}
 use Rattle.fio_link.proofs.Places.{get_after_push, take_one_more}
@@ -15,11 +15,6 @@ recorded_of block =
 -- the first m blocks in the record
 abbrev pub record_of : ℕ → List MadeBlock → List Item
 record_of m blocks = flat_map recorded_of (take m blocks)
-
--- the number of the newest of these polls
-abbrev pub newest_number : ℕ → List ℕ → Option ℕ
-newest_number first [] = None
-newest_number first (round ∷ older) = Some (number_of first round)
 
 -- What runs without restarts keep besides, for the log and the blocks of the lives before, the blocks of the one life, its
 -- latest poll, the rounds that made the blocks and those of the polls, the CPU's round and record, and the frames sent

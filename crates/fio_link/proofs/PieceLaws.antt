@@ -78,7 +78,7 @@ block_pieces settings life block part is_made false is =
     subst (λ n. ArePieces settings life n (got block.transitions) block.end) same (block_run settings life block part)
 
 -- blocks that follow one another are pieces of the log
-blocks_pieces : (settings : Settings) (life : Life) (before : ℕ) (blocks : List MadeBlock)
+pub blocks_pieces : (settings : Settings) (life : Life) (before : ℕ) (blocks : List MadeBlock)
     → FollowOneAnother (log_of life) settings.per_block before blocks
     → ((k : ℕ) (block : MadeBlock) → slice_get blocks k ≡ Some block → Contains (blocks_of settings life) block)
     → ArePieces settings life before (flat_map pieces_of blocks) (last_end before blocks)
@@ -90,7 +90,7 @@ blocks_pieces settings life before (block ∷ blocks) follow made =
     (subst (λ n. ArePieces settings life n (pieces_of block) block.end) follow.0 first) rest
 
 -- the first of blocks that follow one another do so
-follow-take : (log : List Transition) (per_block before m : ℕ) (blocks : List MadeBlock)
+pub follow-take : (log : List Transition) (per_block before m : ℕ) (blocks : List MadeBlock)
     → FollowOneAnother log per_block before blocks → FollowOneAnother log per_block before (take m blocks)
 follow-take log per_block before zero blocks follow = tt
 follow-take log per_block before (suc m) [] follow = tt
@@ -98,7 +98,7 @@ follow-take log per_block before (suc m) (block ∷ blocks) follow =
     (follow.0, follow.1, follow-take log per_block block.end m blocks follow.2)
 
 -- what is among the first elements is among all
-get_in_take : {A : Type 0} (m : ℕ) (xs : List A) (k : ℕ) (x : A) → slice_get (take m xs) k ≡ Some x
+pub get_in_take : {A : Type 0} (m : ℕ) (xs : List A) (k : ℕ) (x : A) → slice_get (take m xs) k ≡ Some x
     → slice_get xs k ≡ Some x
 get_in_take zero xs k x is = absurd (cc is)
 get_in_take (suc m) [] k x is = is

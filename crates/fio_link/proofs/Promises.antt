@@ -1,5 +1,5 @@
 -- The promises, from what every run keeps.
-use Rattle.fio_link.proofs.Names.{◌≡◌, ℕ, ◌+◌, ◌≤◌, ◌⊎◌, length, take, map, refl, ap, sym, subst, ◌∙◌, arith, inl, inr, length-drop, flat_map, AllZip, cases_lt, take_all, Settings, AreInRange, Life, life_of, log_of, blocks_of, end_of_blocks, newest_end, waiting_from, blocks_end_within, Machine, piece_of, pieces_of_blocks, ArePieces, blocks_in, IsTimed, sources_of, next_round, PollsOf, BlockAnswersOf, IsRising, CleanRoundTakesBlock, EachCleanRoundTakesOne, DeliveryStartsAnew, Delivers}
+use Rattle.fio_link.proofs.Names.{◌≡◌, ℕ, ◌+◌, ◌≤◌, ◌⊎◌, length, take, map, refl, ap, sym, subst, ◌∙◌, arith, inl, inr, length-drop, flat_map, AllZip, cases_lt, take_all, Settings, AreInRange, Life, life_of, log_of, blocks_of, end_of_blocks, newest_end, waiting_from, blocks_end_within, Machine, piece_of, pieces_of_blocks, ArePieces, blocks_in, IsTimed, sources_of, next_round, PollsOf, BlockAnswersOf, IsRising, List, Event, IsRun}
 use Rattle.fio_link.specs.Headline.{RecordIsLog, Headline}
 use Rattle.fio_link.specs.Claims.{StandsAtTaken, RestIsLostOrWaits, HasTimes}
 use Rattle.fio_link.specs.Rounds.{PollsReceivedHaveRounds, NewestPollMadeNewestBlock, AnswersCarryBlocks}
@@ -9,16 +9,12 @@ use Rattle.fio_link.proofs.PieceLaws.{taken_are_pieces, pieces_begin_log}
 use Rattle.fio_link.proofs.Rows.{invariant}
 use Rattle.fio_link.proofs.Runs.{rising, in_sequence, takes}
 use Rattle.fio_link.proofs.OneLifeRows.{IsKept, kept, carries_own}
-use Rattle.fio_link.proofs.CleanRounds.{LastWereSent, last_were_sent, clean_round_takes_block}
+use Rattle.fio_link.proofs.CleanRounds.{last_were_sent, clean_round_takes_block}
 use Rattle.fio_link.proofs.WithinRounds.{each_clean_round_takes_one}
-use Rattle.fio_link.proofs.CatchingUp.{IsBetween, clean_round_takes_all, clean_rounds_catch_up}
-use Rattle.fio_link.proofs.InAllRounds.{arrives, keeps_up}
-use Rattle.fio_link.proofs.CleanRoundsInTime.{has_stretch, makes_block}
-use Rattle.fio_link.proofs.AnyTime.{never_late, never_late_exactly}
-use Rattle.fio_link.proofs.LossyLinks.{all_arrives}
-use Rattle.fio_link.proofs.NewLevels.{new_levels_are_recorded}
-use Rattle.fio_link.proofs.StartingAnew.{starts_anew}
-use Rattle.fio_link.proofs.WholeRecords.{whole_unless_full, whole_where_polled_often, whole_where_polled_for_each, whole_after_outage}
+use Rattle.fio_link.proofs.Settled.{IsOpen, stands_without_restart, clean_round_takes_all, makes_block}
+use Rattle.fio_link.proofs.CatchingUp.{clean_rounds_catch_up}
+use Rattle.fio_link.proofs.AllArrives.{all_arrives_where_kept_up_with}
+use Rattle.fio_link.proofs.WholeRecords.{whole_unless_full}
 use Rattle.fio_link.proofs.GapMarks.{gaps_name_times}
 use Rattle.fio_link.proofs.TakenSpans.{has_spans}
 use Rattle.fio_link.proofs.WholeLives.{got_blocks, takes_stretches}
@@ -48,7 +44,7 @@ rest_is_lost_or_waits settings life =
       few_wait = omega (arith, waiting);
     }
 
-module _ (settings : Settings) (range : AreInRange settings) (first : ℕ) (machine : Machine) (s : LastWereSent machine) (k : IsKept settings first machine) where
+module _ (settings : Settings) (range : AreInRange settings) (first : ℕ) (machine : Machine) (k : IsKept settings first machine) where
   -- the CPU has taken no more blocks than were made
   behind : machine.round ≤ length (blocks_in settings machine)
   behind = let made = k.one_life.made in omega (arith, k.always.answers.behind)
@@ -82,33 +78,6 @@ module _ (settings : Settings) (range : AreInRange settings) (first : ℕ) (mach
       (blocks_timed (take machine.round blocks)
       (each-take BlockTimely machine.round blocks (blocks_timely settings (life_of machine.history))))
 
-  -- what arrives
-  delivers : Delivers settings first machine
-  delivers =
-      let between : IsBetween settings first machine = record { sent = s; kept = k } in
-      let pieces = record_is_log.pieces in
-      record {
-        takes_all = clean_round_takes_all settings range first machine between;
-        catches_up = clean_rounds_catch_up settings range first machine between;
-        unless_full = whole_unless_full settings machine pieces;
-        gaps = gaps_name_times settings machine taken_items;
-        polled_often = whole_where_polled_often settings range machine pieces;
-        polled_for_each = whole_where_polled_for_each settings range machine pieces;
-        outage = whole_after_outage settings machine pieces;
-        rounds_make_blocks = λ begin receipt last taken t c.
-            makes_block settings first machine receipt last (has_stretch settings range first machine begin receipt last between taken t c).0;
-        rounds_keep_up = λ opened filter untaken scans begins last now later stretch p t is stay.
-            keeps_up settings range first opened filter untaken scans machine between p.all_taken p.few_change.nothing_waits p.inputs p.few_change.some p.few_change.enough
-            begins last now later stretch p.rounds p.since t is stay;
-        in_time = λ opened filter untaken scans begins last later p.
-            arrives settings range first opened filter untaken scans machine between p.all_taken p.few_change.nothing_waits p.inputs p.few_change.some p.few_change.enough
-            begins last later p.rounds p.since p.few_change.few_open;
-        never_late = never_late settings range first machine between;
-        exactly = never_late_exactly settings range first machine between;
-        new_levels = new_levels_are_recorded settings range first machine between;
-        kept_up_with = all_arrives settings range first machine between;
-      }
-
   -- all that is promised without restarts
   pub sound : IsSound settings first machine
   sound =
@@ -116,28 +85,39 @@ module _ (settings : Settings) (range : AreInRange settings) (first : ℕ) (mach
         headline = record_is_log;
         stands = stands;
         rest = rest_is_lost_or_waits settings (life_of machine.history);
-        takes = takes settings range first machine k.always;
-        in_sequence = in_sequence settings first machine k.always;
         again = k.one_life.again;
         times = times;
-        delivers = delivers;
+        unless_full = whole_unless_full settings machine record_is_log.pieces;
+        gaps = gaps_name_times settings machine taken_items;
+        settles = stands_without_restart settings first machine k;
       }
+
+-- what every run keeps
+pub opens : (settings : Settings) (first : ℕ) (events : List Event) (machine : Machine) (range : AreInRange settings)
+    → IsRun settings first events machine → IsOpen settings range first machine
+opens settings first events machine range run =
+    record { sent = last_were_sent settings first events machine run; always = invariant settings range first events machine run }
 
 -- every run is sound
 pub runs_are_sound : HoldsOfRuns IsSoundRun
 runs_are_sound settings first events machine range run =
-    let i = invariant settings range first events machine run in
-    let s = last_were_sent settings first events machine run in
+    let o = opens settings first events machine range run in
+    let i = o.always in
     record {
       is_run = run;
       rising = rising settings first machine i;
       takes = takes settings range first machine i;
       in_sequence = in_sequence settings first machine i;
-      clean_round = clean_round_takes_block settings range first machine s;
-      each_clean_round = each_clean_round_takes_one settings range first machine i;
-      starts_anew = starts_anew settings range first machine (record { sent = s; always = i });
+      delivers = record {
+        takes_block = clean_round_takes_block settings range first machine o.sent;
+        takes_one = each_clean_round_takes_one settings range first machine i;
+        takes_all = clean_round_takes_all settings range first machine o;
+        makes_blocks = makes_block settings range first machine o;
+        catches_up = clean_rounds_catch_up settings range first machine o;
+        kept_up_with = all_arrives_where_kept_up_with settings range first machine o;
+      };
       lives = takes_stretches settings machine (has_spans settings range first events machine run);
-      sound = λ none. sound settings range first machine s (kept settings range first events machine run none);
+      sound = λ none. sound settings range first machine (kept settings range first events machine run none);
     }
 
 -- the headline
@@ -169,20 +149,3 @@ pub answers_carry_blocks : HoldsWithoutRestart AnswersCarryBlocks
 answers_carry_blocks settings first events machine range run none place answer round has =
     let k = kept settings range first events machine run none in
     carries_own settings range first machine k.always k.one_life place answer round has
-
--- what arrives
-pub clean_rounds_take_blocks : HoldsOfRuns (λ settings first events machine. CleanRoundTakesBlock settings first machine)
-clean_rounds_take_blocks settings first events machine range run =
-    (runs_are_sound settings first events machine range run).clean_round
-
-pub each_clean_round_takes_a_block : HoldsOfRuns (λ settings first events machine. EachCleanRoundTakesOne settings first machine)
-each_clean_round_takes_a_block settings first events machine range run =
-    (runs_are_sound settings first events machine range run).each_clean_round
-
-pub delivery_starts_anew : HoldsOfRuns (λ settings first events machine. DeliveryStartsAnew settings first machine)
-delivery_starts_anew settings first events machine range run =
-    (runs_are_sound settings first events machine range run).starts_anew
-
-pub what_arrives : HoldsWithoutRestart Delivers
-what_arrives settings first events machine range run none =
-    ((runs_are_sound settings first events machine range run).sound none).delivers

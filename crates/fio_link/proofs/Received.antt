@@ -1,5 +1,5 @@
 -- What a frame that the module receives does to its life and gets as its answer.
-use Rattle.fio_link.proofs.Names.{◌≡◌, ℕ, ◌^◌, ◌<◌, ◌≤◌, false, List, [], ◌∷◌, ◌++◌, length, map, Option, Some, None, refl, ap, sym, subst, ◌∙◌, arith, option_map, AllByRecursion, nat_tests, same_Some, length-map, Command, Answer, IsEntry, answer_octets, says_again, says_out_of_sequence, command_in, polled_number, answered_block, block_in, Settings, Received, Restart, History, Life, life_of, life_after_command, entry_of, MadeBlock, newest_poll, is_new, blocks_of, next_block, Sending, answer_of_sending, first_sending, repeat_of, latest_sending, answer_if, with_poll_number, received_numbers, CarriesBlock}
+use Rattle.fio_link.proofs.Names.{◌≡◌, ℕ, ◌^◌, ◌<◌, ◌≤◌, false, List, [], ◌∷◌, ◌++◌, length, map, Option, Some, None, refl, ap, sym, subst, ◌∙◌, arith, option_map, AllByRecursion, nat_tests, same_Some, length-map, Command, Answer, IsEntry, answer_octets, says_again, says_out_of_sequence, polled_number, answered_block, block_in, Settings, Life, entry_of, MadeBlock, newest_poll, is_new, blocks_of, next_block, Sending, answer_of_sending, first_sending, repeat_of, latest_sending, answer_if, CarriesBlock}
 use Rattle.fio_message.specs.declared.commands.Command.TheVariants as commands
 use Rattle.fio_message.proofs.StatusBits.{status_back}
 use Rattle.fio_module.specs.Replies.{answer_to}

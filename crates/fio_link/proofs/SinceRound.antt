@@ -1,5 +1,5 @@
 -- What runs keep since a clean round, whatever came before it, while nothing is restarted.
-use Rattle.fio_link.proofs.Names.{◌≡◌, ℕ, ◌+◌, ◌-◌, ◌≤◌, Bool, true, false, List, [], ◌∷◌, ◌++◌, length, Option, Some, None, slice_get, refl, ap, sym, subst, ◌∙◌, arith, length-append, append-nil, append_assoc, option_map, flat_map, take-append-le, Answer, Command, answer_octets, Block, command_in, polled_number, block_in, Settings, AreInRange, Life, life_of, life_after_command, MadeBlock, newest_poll, is_new, blocks_of, next_block, Sending, answer_of_sending, first_sending, repeat_of, answer_if, items_of_block, Event, SentFrame, Machine, number_of, refusal, answer_frames, after_delivery_to_module, after_delivery_to_cpu, after, Leads, HasBlock, IsNotRestart, HaveNoRestart, blocks_in, next_round, CarriesBlock}
+use Rattle.fio_link.proofs.Names.{◌≡◌, ℕ, ◌+◌, ◌-◌, ◌≤◌, Bool, true, false, List, [], ◌∷◌, ◌++◌, length, Option, Some, None, slice_get, refl, ap, sym, subst, ◌∙◌, arith, length-append, append-nil, append_assoc, option_map, flat_map, take-append-le, Answer, Command, answer_octets, Block, command_in, polled_number, block_in, Settings, AreInRange, Life, life_of, life_after_command, MadeBlock, newest_poll, is_new, blocks_of, next_block, Sending, answer_of_sending, first_sending, repeat_of, answer_if, items_of_block, Event, SentFrame, Machine, number_of, refusal, answer_frames, after_delivery_to_module, after_delivery_to_cpu, after, Leads, HasBlock, IsNotRestart, HaveNoRestart, blocks_in, next_round, CarriesBlock, newest_number}
 use Rattle.fio_message.specs.declared.commands.Command.TheVariants as commands
 use Rattle.fio_module.proofs.ListParts.{get_in_back, get_last}
 use Rattle.fio_link.specs.declared.event.Event.TheVariants as events
@@ -12,7 +12,7 @@ use Rattle.fio_link.proofs.Kept.{after_frame, HasInvariant, after_poll, after_ot
 use Rattle.fio_link.proofs.HeardRows.{after_taken, after_heard}
 use Rattle.fio_link.proofs.Events.{after_delivery}
 use Rattle.fio_link.proofs.Rows.{keeps}
-use Rattle.fio_link.proofs.OneLife.{recorded_of, record_of, newest_number, Continues, poll_continues, record_of-next}
+use Rattle.fio_link.proofs.OneLife.{recorded_of, record_of, Continues, poll_continues, record_of-next}
 
 -- a block answer of a round carries the block that is so many after these
 pub record CarriesSince (blocks : List MadeBlock) (place : ℕ) (answer : Block) : Type 0 where

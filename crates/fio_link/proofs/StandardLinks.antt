@@ -1,108 +1,79 @@
 -- The standard link is never late.
-use Rattle.fio_link.proofs.Names.{◌≡◌, ℕ, ◌+◌, ◌*◌, ◌≤◌, Bool, List, [], drop, arith, AreInRange, standard_settings, Life, life_of, scans_of, filter_events, log_of, newest_end, waiting_of, IsYoung, Event, Machine, end_taken, IsPolledInTime, behind_after, left_behind, Delivers}
-use Rattle.fio_input.specs.Delivery.{OpenKeepFiltersOf}
+use Rattle.fio_link.proofs.Names.{ℕ, ◌+◌, ◌≤◌, List, ◌∷◌, drop, arith, AreInRange, standard_settings, Life, life_of, filter_events, Event, Machine, LeadsInTime, Pause, left_behind, BeginNear}
 use Rattle.fio_input.proofs.FewStayOpen.{all_may_open}
-use Rattle.fio_module.specs.Delivery.{FewChange}
-use Rattle.fio_link.specs.AnyTime.{IsStandardLink, StandardLinkIsNeverLater}
-use Rattle.fio_link.specs.NewLevels.{StandardLinkRecordsNewLevels}
-use Rattle.fio_link.specs.LossyLinks.{StandardLinkKeptUpIsNeverLater}
-use Rattle.fio_link.specs.StartingAnew.{StandardLinkStartsAnew}
-use Rattle.fio_link.proofs.LossyLinks.{standard_limits_have_room}
+use Rattle.fio_link.specs.KeptUp.{scans_of_pause, AreInTime, Arrives, receipts_of}
+use Rattle.fio_link.specs.StandardLinks.{IsStandardLink, StandardLinkIsNeverLater, StandardLinkRecordsNewLevels}
+use Rattle.fio_link.proofs.Grown.{grows, scans_grown}
+use Rattle.fio_link.specs.LostRounds.{LoseFewRounds}
+use Rattle.fio_link.proofs.LostRounds.{lost_rounds_are_possible}
+use Rattle.fio_link.proofs.Pauses.{begin_in_time}
 use Rattle.fio_link.proofs.MadeBlocks.{each-map}
-use Rattle.fio_link.proofs.Promises.{delivery_starts_anew, what_arrives}
+use Rattle.fio_link.proofs.Promises.{runs_are_sound}
 
 -- the standard settings are in their ranges
 pub standard_in_range : (id : ℕ) → id ≤ 255 → AreInRange (standard_settings id)
-standard_in_range id fits =
-    record { id_fits = fits; some_per_block = omega arith; few_per_block = omega arith; many_waiting = omega arith }
+standard_in_range id fits = record { id_fits = fits; some_per_block = omega arith; few_per_block = omega arith }
 
--- with filters of 5, however many inputs are open, few change
-few_change_of_5 : (id scans : ℕ) → 64 * scans ≤ 255 * 5 → (life later : Life) → waiting_of (standard_settings id) life ≡ []
-    → OpenKeepFiltersOf 5 (filter_events later) (filter_events life) → FewChange (standard_settings id) 64 5 scans life later
-few_change_of_5 id scans enough life later nothing filters =
-    record {
-      nothing_waits = nothing;
-      some = omega arith;
-      few_open = all_may_open 5 (filter_events later) (filter_events life) filters;
-      enough = enough;
-    }
+-- where the rounds leave the blocks no more behind than there is room for
+module _ (AreSuch : List Pause → Type 0) (most late : ℕ) (few : most ≤ 76) (long : most + 3 ≤ late)
+    (near : (pauses : List Pause) → AreSuch pauses → BeginNear 19 most pauses) where
+  -- all arrives
+  arrives : (id first : ℕ) (events : List Event) (pauses : List Pause) (machine receipt last now : Machine)
+      (later : Life) (next : Pause) (l : IsStandardLink id first events machine pauses receipt last later) → AreSuch (next ∷ pauses)
+      → LeadsInTime (standard_settings id) first (scans_of_pause next) receipt last now
+      → Arrives (standard_settings id) first 64 5 19 most (λ rounds. left_behind 19 (drop rounds pauses)) machine
+      (receipts_of (standard_settings id) first machine pauses receipt last l.rounds) receipt last later
+  arrives id first events pauses machine receipt last now later next l such t =
+      let settings = standard_settings id in
+      let begin = near (next ∷ pauses) such in
+      let g = grows settings first last now t.leads_on.events t.leads_on.no_restart t.leads_on.leads in
+      let count = scans_grown last now g.stretch g.life in
+      (runs_are_sound settings first events machine (standard_in_range id l.id_fits) l.is_run).delivers.kept_up_with 64 5 19 most pauses receipt last later (record {
+        some_wait = omega arith;
+        room = omega arith;
+        near = begin.1;
+        from = record {
+          all_taken = l.settled.all_taken;
+          rounds = l.rounds;
+          since = l.since;
+          few_change = record {
+            nothing_waits = l.settled.nothing_waits;
+            some = omega arith;
+            few_open = all_may_open 5 (filter_events later) (filter_events (life_of machine.history)) l.filters;
+            enough = omega arith;
+          };
+        };
+        heard_near = omega (arith, begin.0, t.in_time);
+      })
 
-module _ (scans : ℕ) (untaken : Bool) (few : 64 * scans ≤ 255 * 5) (id first : ℕ) (events : List Event) (receipts : List Machine)
-    (machine last now : Machine) (later : Life) (l : IsStandardLink id first events untaken scans machine receipts last later now) where
-  -- it is polled in time
-  pub polled : IsPolledInTime (standard_settings id) first 64 5 untaken scans machine receipts last later
-  polled =
+  -- so it is never later
+  pub never_later : StandardLinkIsNeverLater AreSuch late
+  never_later id first events pauses machine receipt last now later next l such t =
+      let a = arrives id first events pauses machine receipt last now later next l such t in
+      let low = (near (next ∷ pauses) such).0 in
+      (a.whole, each-map _ _ (λ transition is. omega arith) _ (a.at (scans_of_pause next) now t).late)
+
+  -- and records new levels
+  pub records_levels : StandardLinkRecordsNewLevels AreSuch late
+  records_levels id first events pauses machine receipt last now later next l such t input level before samples after is new old =
+      let a = arrives id first events pauses machine receipt last now later next l such t in
+      let low = (near (next ∷ pauses) such).0 in
+      let r = (a.at (scans_of_pause next) now t).levels input level before samples after is new (omega arith) in
+      let g = r.gained in
       record {
-        all_taken = l.all_taken;
-        inputs = omega arith;
-        rounds = l.rounds;
-        since = l.since;
-        few_change = few_change_of_5 id scans few (life_of machine.history) later l.nothing_waits l.filters;
+        place = r.place;
+        transition = r.transition;
+        logged = r.logged;
+        gained = record { place = g.place; since = g.since; there = g.there; timed = λ same. g.timed (same, omega arith) };
       }
 
-  pub delivers : Delivers (standard_settings id) first machine
-  delivers = what_arrives (standard_settings id) first events machine (standard_in_range id l.id_fits) l.is_run l.no_restart
+-- in time
+pub near_in_time : (pauses : List Pause) → AreInTime 19 0 pauses → BeginNear 19 19 pauses
+near_in_time = begin_in_time 19 0 19 (omega arith)
 
--- so many scans after another, and their filter
-pub standard_late : (scans : ℕ) (untaken : Bool) (late : ℕ) → 64 * scans ≤ 255 * 5
-    → scans + behind_after untaken scans + 5 ≤ late + 2 → StandardLinkIsNeverLater scans untaken late
-standard_late scans untaken late few old id first events receipts machine last now later l =
-    let p = polled scans untaken few id first events receipts machine last now later l in
-    let d = delivers scans untaken few id first events receipts machine last now later l in
-    let now_life = life_of now.history in
-    each-map (IsYoung (scans + behind_after untaken scans) 5 now_life) (λ transition. scans_of now_life ≤ transition.scans + late)
-    (λ transition is. omega arith) (drop (end_taken (standard_settings id) now) (log_of now_life))
-    (d.never_late 64 5 untaken scans receipts last now later p l.until)
+pub near_where_answers_are_lost : (pauses : List Pause) → AreInTime 19 19 pauses → BeginNear 19 38 pauses
+near_where_answers_are_lost = begin_in_time 19 19 38 (omega arith)
 
--- and so many after the last sample of a new level
-pub standard_records : (scans : ℕ) (untaken : Bool) (late : ℕ) → 64 * scans ≤ 255 * 5
-    → scans + behind_after untaken scans + 5 ≤ late + 2 → late ≤ 65535 → StandardLinkRecordsNewLevels scans untaken late
-standard_records scans untaken late few old small id first events receipts machine last now later l input level before samples after is new long =
-    let p = polled scans untaken few id first events receipts machine last now later l in
-    let d = delivers scans untaken few id first events receipts machine last now later l in
-    let r = d.new_levels 64 5 untaken scans receipts last now later p l.until input level before samples after is new (omega arith) in
-    let g = r.gained in
-    record {
-      place = r.place;
-      transition = r.transition;
-      logged = r.logged;
-      gained = record { place = g.place; since = g.since; there = g.there; timed = λ same. g.timed (same, omega arith) };
-    }
-
--- a standard link that is kept up with
-pub standard_kept_up : StandardLinkKeptUpIsNeverLater 19 76 79
-standard_kept_up id first events pauses machine receipt last now later between l t near =
-    let settings = standard_settings id in
-    let d = what_arrives settings first events machine (standard_in_range id l.id_fits) l.is_run l.no_restart in
-    let has = standard_limits_have_room id 64 (omega arith) in
-    let a = d.kept_up_with 64 5 19 76 pauses receipt last later (record {
-      all_taken = l.all_taken;
-      room = has.1;
-      near = l.near;
-      rounds = l.rounds;
-      heard_near = l.heard_near;
-      since = l.since;
-      few_change = few_change_of_5 id 19 (omega arith) (life_of machine.history) later l.nothing_waits l.filters;
-    }) in
-    let now_life = life_of now.history in (
-      a.whole,
-      each-map (IsYoung (between + left_behind 19 pauses) 5 now_life) (λ transition. scans_of now_life ≤ transition.scans + 79)
-          (λ transition is. omega arith) (drop (end_taken settings now) (log_of now_life)) (a.late between now t),
-    )
-
--- a standard link after restarts
-pub standard_starts_anew : StandardLinkStartsAnew 19 41
-standard_starts_anew id first events begin receipt machine receipts last now later fits run ended nothing rounds since filters t =
-    let settings = standard_settings id in
-    let a = delivery_starts_anew settings first events begin (standard_in_range id fits) run 64 5 19 receipt machine receipts last later (record {
-      ended = ended;
-      inputs = omega arith;
-      rounds = rounds;
-      since = since;
-      few_change = few_change_of_5 id 19 (omega arith) (life_of machine.history) later nothing filters;
-    }) in
-    let now_life = life_of now.history in (
-      a.whole,
-      each-map (IsYoung (19 + 19) 5 now_life) (λ transition. scans_of now_life ≤ transition.scans + 41)
-          (λ transition is. omega arith) (drop (newest_end settings (life_of last.history)) (log_of now_life)) (a.young now t),
-    )
+-- where at most 5 of each 100 rounds are lost, begun at least every 12 scans
+pub near_where_rounds_are_lost : (pauses : List Pause) → LoseFewRounds 12 100 5 pauses → BeginNear 19 72 pauses
+near_where_rounds_are_lost pauses few = lost_rounds_are_possible 19 12 99 5 pauses few (omega arith) (omega arith)

@@ -1,5 +1,5 @@
 -- Each row of the link machine keeps which rounds the CPU has taken of each life.
-use Rattle.fio_link.proofs.Names.{◌≡◌, ℕ, zero, suc, ◌+◌, ◌≤◌, ◌⊎◌, Bool, true, false, List, [], ◌∷◌, ◌++◌, length, map, Option, Some, None, slice_get, refl, ap, sym, subst, ◌∙◌, arith, inl, inr, append_assoc, append-nil, option_map, flat_map, flat_map-append, map-append, slice_get-map, Command, Block, command_in, polled_number, Settings, AreInRange, Restart, History, Life, Commanded, life_of, life_after_command, MadeBlock, newest_poll, is_new, blocks_of, next_block, Item, items_of_block, Event, SentFrame, Machine, start, number_of, polls_with, after_module_event, after_delivery_to_module, IsRun, HasPoll, HasBlock, next_round, past_lives}
+use Rattle.fio_link.proofs.Names.{◌≡◌, ℕ, zero, suc, ◌+◌, ◌≤◌, ◌⊎◌, Bool, true, false, List, [], ◌∷◌, ◌++◌, length, map, Option, Some, None, slice_get, refl, ap, sym, subst, ◌∙◌, arith, inl, inr, append_assoc, append-nil, option_map, flat_map, flat_map-append, map-append, slice_get-map, Command, Block, command_in, polled_number, Settings, AreInRange, Restart, History, Life, Commanded, life_of, life_after_command, MadeBlock, newest_poll, is_new, blocks_of, next_block, Item, items_of_block, Event, SentFrame, Machine, start, number_of, polls_with, after_module_event, after_delivery_to_module, IsRun, HasPoll, HasBlock, next_round, past_lives, newest_number}
 use Rattle.fio_message.specs.declared.commands.Command.TheVariants as commands
 use Rattle.fio_link.proofs.AllLives.{past_log, behind, past_blocks, all_blocks}
 use Rattle.fio_link.proofs.Makers.{makers_of, makers_after}
@@ -7,7 +7,7 @@ use Rattle.fio_link.proofs.Kept.{HasInvariant, meets, blocks_if, makers_if}
 use Rattle.fio_link.proofs.HeardRows.{after_taken}
 use Rattle.fio_link.proofs.Events.{IsKeptByEvents}
 use Rattle.fio_link.proofs.Rows.{keeps-start, kept_along}
-use Rattle.fio_link.proofs.OneLife.{recorded_of, newest_number, continues, items_of_block-carried}
+use Rattle.fio_link.proofs.OneLife.{recorded_of, continues, items_of_block-carried}
 use Rattle.fio_link.proofs.Spans.{Span, Of, made_in, blocks_in, rounds_in, taken_from, Chain, took}
 use Rattle.fio_link.proofs.GrownSpans.{base_with, grown, begun, ends_with}
 

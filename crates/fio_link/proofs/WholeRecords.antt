@@ -1,5 +1,5 @@
 -- The record is whole where no block says that entries were lost.
-use Rattle.fio_link.proofs.Names.{◌≡◌, ℕ, suc, ◌+◌, ◌-◌, ◌≤◌, false, List, [], ◌∷◌, length, take, drop, map, refl, ap, sym, subst, ◌∙◌, arith, Contains, AllByRecursion, Settings, AreInRange, Life, life_of, entry_of, log_of, MadeBlock, blocks_of, NeverTooMany, nothing_is_lost, Machine, Piece, Gap, EntryPiece, piece_of, ArePieces, end_taken}
+use Rattle.fio_link.proofs.Names.{◌≡◌, ℕ, suc, ◌+◌, ◌-◌, ◌≤◌, false, List, [], ◌∷◌, length, take, drop, map, refl, ap, sym, subst, ◌∙◌, arith, Contains, AllByRecursion, Settings, AreInRange, HasRoom, Life, life_of, entry_of, log_of, MadeBlock, blocks_of, NeverTooMany, nothing_is_lost, Machine, Piece, Gap, EntryPiece, piece_of, ArePieces, end_taken}
 use Rattle.std.proofs.lemmas.Option.{slice_get_read}
 use Rattle.fio_module.specs.Delivery.{NoBlockLost}
 use Rattle.fio_module.proofs.Polling.{polled_often_stays_few}
@@ -16,18 +16,23 @@ each-contained P blocks block all here =
     each-at P blocks here.0 block all (slice_get_read blocks (length blocks) here.0 block refl here.1 (sym here.2))
 
 -- pieces without gap marks, from one place of a list of entries to another
-abbrev ArePart : Settings → Life → ℕ → List Piece → ℕ → Type 0
+abbrev pub ArePart : Settings → Life → ℕ → List Piece → ℕ → Type 0
 ArePart settings life from pieces to =
     (from ≤ to) × (pieces ≡ map EntryPiece (take (to - from) (drop from (map entry_of (log_of life)))))
 
--- where no block says that entries were lost, pieces are a part of the log
-part_of_log : (settings : Settings) (life : Life) (from : ℕ) (pieces : List Piece) (to : ℕ) → NoBlockLost settings life
+-- a piece that is no gap mark
+abbrev pub IsEntry : Piece → Type 0
+IsEntry Gap = ⊥
+IsEntry (EntryPiece entry) = Unit {0}
+
+-- pieces without gap marks are a part of the log
+pub part_of_entries : (settings : Settings) (life : Life) (from : ℕ) (pieces : List Piece) (to : ℕ) → AllByRecursion IsEntry pieces
     → ArePieces settings life from pieces to → ArePart settings life from pieces to
-part_of_log settings life from [] to none p =
+part_of_entries settings life from [] to none p =
     let nothing : to - from ≡ 0 = omega arith in
     (omega arith, ap (λ n. map EntryPiece (take n (drop from (map entry_of (log_of life))))) (sym nothing))
-part_of_log settings life from (EntryPiece entry ∷ pieces) to none p =
-    let rest = part_of_log settings life (from + 1) pieces to none p.1 in
+part_of_entries settings life from (EntryPiece entry ∷ pieces) to none p =
+    let rest = part_of_entries settings life (from + 1) pieces to none.1 p.1 in
     let further : from + 1 ≤ to = rest.0 in
     let count : to - from ≡ suc (to - (from + 1)) = omega arith in
     let entries = map entry_of (log_of life) in
@@ -35,7 +40,14 @@ part_of_log settings life from (EntryPiece entry ∷ pieces) to none p =
     ap (λ n. map EntryPiece (take n (drop from entries))) count
     ∙ ap (λ es. map EntryPiece (take (suc (to - (from + 1))) es)) (drop_found entries from entry p.0) in
     (omega arith, ap (λ ps. EntryPiece entry ∷ ps) rest.1 ∙ sym whole)
-part_of_log settings life from (Gap ∷ pieces) to none p =
+part_of_entries settings life from (Gap ∷ pieces) to none p = absurd none.0
+
+-- where no block says that entries were lost, no piece is a gap mark
+no_gaps : (settings : Settings) (life : Life) (from : ℕ) (pieces : List Piece) (to : ℕ) → NoBlockLost settings life
+    → ArePieces settings life from pieces to → AllByRecursion IsEntry pieces
+no_gaps settings life from [] to none p = tt
+no_gaps settings life from (EntryPiece entry ∷ pieces) to none p = (tt, no_gaps settings life (from + 1) pieces to none p.1)
+no_gaps settings life from (Gap ∷ pieces) to none p =
     let loss = p.1 in
     absurd (cc (loss.said, each-contained (λ block. block.lost ≡ false) (blocks_of settings life) loss.block none loss.is_made))
 
@@ -51,22 +63,22 @@ whole_unless_full settings machine pieces few =
     let life = life_of machine.history in
     let to = end_taken settings machine in
     let all : to - 0 ≡ to = omega arith in
-    (part_of_log settings life 0 (map piece_of machine.items) to (nothing_is_lost settings life few) pieces).1
+    (part_of_entries settings life 0 (map piece_of machine.items) to (no_gaps settings life 0 (map piece_of machine.items) to (nothing_is_lost settings life few) pieces) pieces).1
     ∙ ap (λ n. map EntryPiece (take n (map entry_of (log_of life)))) all
 
 -- where the module is polled often
-pub whole_where_polled_often : (settings : Settings) → AreInRange settings → (machine : Machine)
+pub whole_where_polled_often : (settings : Settings) → AreInRange settings → HasRoom settings → (machine : Machine)
     → RecordIsPieces settings machine → IsWholeWherePolledOften settings machine
-whole_where_polled_often settings range machine pieces opened filter scans life later is few often =
+whole_where_polled_often settings range wide machine pieces opened filter scans life later is few often =
     whole_unless_full settings machine pieces
-    (subst (NeverTooMany settings) (sym is) (polled_often_stays_few settings opened filter scans life later range often few))
+    (subst (NeverTooMany settings) (sym is) (polled_often_stays_few settings opened filter scans life later range wide often few))
 
 -- where it is polled often for each input
-pub whole_where_polled_for_each : (settings : Settings) → AreInRange settings → (machine : Machine)
+pub whole_where_polled_for_each : (settings : Settings) → AreInRange settings → settings.per_block ≤ settings.waiting → (machine : Machine)
     → RecordIsPieces settings machine → IsWholeWherePolledForEach settings machine
-whole_where_polled_for_each settings range machine pieces scans life later is few often =
+whole_where_polled_for_each settings range wide machine pieces scans life later is few often =
     whole_unless_full settings machine pieces
-    (subst (NeverTooMany settings) (sym is) ((polled_for_each_loses_none settings scans life later range often).stays few))
+    (subst (NeverTooMany settings) (sym is) ((polled_for_each_loses_none settings scans life later range wide often).stays few))
 
 -- after an outage
 pub whole_after_outage : (settings : Settings) (machine : Machine)

@@ -1,13 +1,13 @@
 -- What arrives: clean rounds deliver blocks, nothing is lost unless the buffer was full, and it never
 -- is where the module is polled often.
-use Rattle.std.specs.Prelude.{◌≡◌, ℕ, zero, suc, ◌+◌, ◌*◌, ◌<◌, ◌≤◌, true, List, [], ◌∷◌, ◌++◌, map, length, take, slice_get, Some}
+use Rattle.std.specs.Prelude.{◌≡◌, ℕ, ◌+◌, ◌<◌, true, List, [], ◌∷◌, ◌++◌, map, length, take, slice_get, Some}
 use Rattle.std.specs.List.{AllByRecursion, flat_map}
 use Rattle.fio_message.specs.declared.commands.Command.TheVariants as commands
 use Rattle.fio_message.specs.Blocks.{Block}
 use Rattle.fio_module.specs.Settings.{Settings}
 use Rattle.fio_module.specs.Life.{Life, Commanded, life_of}
 use Rattle.fio_module.specs.Log.{entry_of, log_of}
-use Rattle.fio_module.specs.Blocks.{MadeBlock, newest_poll, is_new, blocks_of, next_block, newest_end, waiting_of}
+use Rattle.fio_module.specs.Blocks.{MadeBlock, newest_poll, is_new, blocks_of, next_block, newest_end}
 use Rattle.fio_module.specs.Delivery.{NeverTooMany, IsPolledOften, IsOutage}
 use Rattle.fio_module.specs.FiltersThatDiffer.{IsPolledForEach}
 use Rattle.fio_cpu.specs.declared.record.Item.TheVariants as items
@@ -95,34 +95,6 @@ pub record TakesOne (machine later : Machine) : Type 0 where
 abbrev pub EachCleanRoundTakesOne : Settings → ℕ → Machine → Type 0
 EachCleanRoundTakesOne settings first machine = (receipt later : Machine) →
     IsCleanRound settings first machine receipt later → TakesOne machine later
-
--- after one clean round the CPU has taken every block that was made
-abbrev pub CleanRoundTakesAll : Settings → ℕ → Machine → Type 0
-CleanRoundTakesAll settings first machine = (receipt later : Machine) →
-    IsCleanRound settings first machine receipt later →
-    later.round ≡ length (blocks_in settings later)
-
--- so many clean rounds with nothing between lead from one machine to another
-abbrev pub CleanRounds : Settings → ℕ → ℕ → Machine → Machine → Type 0
-CleanRounds settings first zero machine last = last ≡ machine
-CleanRounds settings first (suc n) machine last =
-    (next : Machine) × Leads settings first machine (clean_round machine) next
-    × CleanRounds settings first n next last
-
--- nothing waits, and the record goes through the end of the transition log, which is still that of
--- the machine before
-pub record HasCaughtUp (settings : Settings) (before machine : Machine) : Type 0 where
-  pub same_log : log_of (life_of machine.history) ≡ log_of (life_of before.history)
-  pub nothing_waits : waiting_of settings (life_of machine.history) ≡ []
-  pub all_taken : end_taken settings machine ≡ length (log_of (life_of machine.history))
-
--- after 1 + k clean rounds with nothing between, where at most k times `per_block` entries waited,
--- the CPU has caught up
-abbrev pub CleanRoundsCatchUp : Settings → ℕ → Machine → Type 0
-CleanRoundsCatchUp settings first machine = (k : ℕ) →
-    length (waiting_of settings (life_of machine.history)) ≤ k * settings.per_block →
-    (later : Machine) × CleanRounds settings first (suc k) machine later
-    × HasCaughtUp settings machine later
 
 -- the record has no gap mark, and is the front of the transition log, whole, through the last block
 -- taken

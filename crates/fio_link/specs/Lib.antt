@@ -9,11 +9,13 @@ pub mod Rounds
 pub mod Rising
 pub mod Restarts
 pub mod Delivery
-pub mod InTime
-pub mod AnyTime
+pub mod Settled
 pub mod NewLevels
-pub mod LossyLinks
+pub mod KeptUp
+pub mod ForEach
+pub mod WholeSince
+pub mod StandardLinks
 pub mod LostRounds
+pub mod MovedScans
 pub mod Sharpness
-pub mod StartingAnew
 pub mod Sound

@@ -1,7 +1,7 @@
 -- How many rounds may be lost, of so many in a row.
 use Rattle.std.specs.Prelude.{ℕ, ◌+◌, ◌*◌, ◌≤◌, Bool, true, false, List, [], ◌∷◌, ◌++◌, take, replicate}
 use Rattle.std.specs.List.{AllZip}
-use Rattle.fio_link.specs.LossyLinks.{Pause, BeginNear}
+use Rattle.fio_link.specs.KeptUp.{Pause, BeginNear}
 
 -- how many of these rounds are lost, where true is a clean one
 abbrev pub lost_among : List Bool → ℕ
@@ -26,12 +26,17 @@ pub record HasLost (pace : ℕ) (pause : Pause) (lost : ℕ) : Type 0 where
   pub settled : pause.settled ≤ pace
   pub untaken : pause.untaken ≤ lost * pace
 
+-- the pauses of a link on which a round begins at least every n scans, and of each so many in a row at most so many are
+-- lost
+abbrev pub LoseFewRounds : ℕ → ℕ → ℕ → List Pause → Type 0
+LoseFewRounds pace each lost pauses =
+    (losses : List ℕ) × AllZip (HasLost pace) pauses losses × FewAreLost each lost (rounds_of losses)
+
 -- A round begins at least every n scans, and each clean one makes up for s. Of each c + 1 rounds in a row
 -- at most l are lost, with c n ≤ (c - l) s. Then the blocks are never more than (l + 1) n scans behind.
 abbrev pub LostRoundsArePossible : Type 0
 LostRoundsArePossible =
-    (scans pace each lost : ℕ) (pauses : List Pause) (losses : List ℕ) →
-    AllZip (HasLost pace) pauses losses →
-    FewAreLost (each + 1) lost (rounds_of losses) →
+    (scans pace each lost : ℕ) (pauses : List Pause) →
+    LoseFewRounds pace (each + 1) lost pauses →
     pace ≤ scans → each * pace + lost * scans ≤ each * scans →
     BeginNear scans ((lost + 1) * pace) pauses

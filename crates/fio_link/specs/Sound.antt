@@ -8,28 +8,17 @@ use Rattle.fio_link.specs.Headline.{RecordIsLog, HaveNoRestart}
 use Rattle.fio_link.specs.Claims.{StandsAtTaken, RestIsLostOrWaits, TakesPresentRound, IsInSequence, SaysAgainWhereRepeated, HasTimes}
 use Rattle.fio_link.specs.Rising.{IsRising}
 use Rattle.fio_link.specs.Restarts.{TakesStretchOfEachLife}
-use Rattle.fio_link.specs.Delivery.{CleanRoundTakesBlock, EachCleanRoundTakesOne, CleanRoundTakesAll, CleanRoundsCatchUp, IsWholeUnlessFull, GapsNameTimes, IsWholeWherePolledOften, IsWholeWherePolledForEach, IsWholeAfterOutage}
-use Rattle.fio_link.specs.InTime.{RoundsMakeBlocks, RoundsKeepUp, AllArrivesInTime}
-use Rattle.fio_link.specs.AnyTime.{IsNeverLate, IsNeverLateExactly}
-use Rattle.fio_link.specs.NewLevels.{NewLevelsAreRecorded}
-use Rattle.fio_link.specs.LossyLinks.{AllArrivesWhereKeptUpWith}
-use Rattle.fio_link.specs.StartingAnew.{DeliveryStartsAnew}
+use Rattle.fio_link.specs.Delivery.{CleanRoundTakesBlock, EachCleanRoundTakesOne, IsWholeUnlessFull, GapsNameTimes}
+use Rattle.fio_link.specs.Settled.{StandsWithoutRestart, CleanRoundTakesAll, RoundsMakeBlocks, CleanRoundsCatchUp}
+use Rattle.fio_link.specs.KeptUp.{AllArrivesWhereKeptUpWith}
 
--- all that is promised of what arrives without restarts
+-- all that is promised of what arrives, whatever restarts
 pub record Delivers (settings : Settings) (first : ℕ) (machine : Machine) : Type 0 where
+  pub takes_block : CleanRoundTakesBlock settings first machine
+  pub takes_one : EachCleanRoundTakesOne settings first machine
   pub takes_all : CleanRoundTakesAll settings first machine
+  pub makes_blocks : RoundsMakeBlocks settings first machine
   pub catches_up : CleanRoundsCatchUp settings first machine
-  pub unless_full : IsWholeUnlessFull settings machine
-  pub gaps : GapsNameTimes settings machine
-  pub polled_often : IsWholeWherePolledOften settings machine
-  pub polled_for_each : IsWholeWherePolledForEach settings machine
-  pub outage : IsWholeAfterOutage settings machine
-  pub rounds_make_blocks : RoundsMakeBlocks settings first machine
-  pub rounds_keep_up : RoundsKeepUp settings first machine
-  pub in_time : AllArrivesInTime settings first machine
-  pub never_late : IsNeverLate settings first machine
-  pub exactly : IsNeverLateExactly settings first machine
-  pub new_levels : NewLevelsAreRecorded settings first machine
   pub kept_up_with : AllArrivesWhereKeptUpWith settings first machine
 
 -- what holds of a machine without restarts
@@ -38,11 +27,11 @@ pub record IsSound (settings : Settings) (first : ℕ) (machine : Machine) : Typ
   pub headline : RecordIsLog settings machine
   pub stands : StandsAtTaken settings machine
   pub rest : RestIsLostOrWaits settings (life_of machine.history)
-  pub takes : TakesPresentRound settings first machine
-  pub in_sequence : IsInSequence machine
   pub again : SaysAgainWhereRepeated machine
   pub times : HasTimes settings machine
-  pub delivers : Delivers settings first machine
+  pub unless_full : IsWholeUnlessFull settings machine
+  pub gaps : GapsNameTimes settings machine
+  pub settles : StandsWithoutRestart settings first machine
 
 -- what holds of the machine to which these events lead
 pub record IsSoundRun (settings : Settings) (first : ℕ) (events : List Event) (machine : Machine)
@@ -53,9 +42,7 @@ pub record IsSoundRun (settings : Settings) (first : ℕ) (events : List Event) 
   pub lives : TakesStretchOfEachLife settings machine
   pub takes : TakesPresentRound settings first machine
   pub in_sequence : IsInSequence machine
-  pub clean_round : CleanRoundTakesBlock settings first machine
-  pub each_clean_round : EachCleanRoundTakesOne settings first machine
-  pub starts_anew : DeliveryStartsAnew settings first machine
+  pub delivers : Delivers settings first machine
   -- without restarts
   pub sound : HaveNoRestart events → IsSound settings first machine
 
@@ -63,6 +50,10 @@ pub record IsSoundRun (settings : Settings) (first : ℕ) (events : List Event) 
 abbrev pub HoldsOfRuns : (Settings → ℕ → List Event → Machine → Type 0) → Type 0
 HoldsOfRuns Holds = (settings : Settings) (first : ℕ) (events : List Event) (machine : Machine) →
     AreInRange settings → IsRun settings first events machine → Holds settings first events machine
+
+-- the same of the machine alone
+abbrev pub HoldsWhateverRestarts : (Settings → ℕ → Machine → Type 0) → Type 0
+HoldsWhateverRestarts Holds = HoldsOfRuns (λ settings first events machine. Holds settings first machine)
 
 -- the same for every run without restarts
 abbrev pub HoldsWithoutRestart : (Settings → ℕ → Machine → Type 0) → Type 0

@@ -1,22 +1,23 @@
 //! Laws of the link machine: each function states some in its contract, and does nothing.
 ghost use Rattle.std.specs.Prelude.{◌≡◌, ℕ, ◌≤◌, true, false};
 ghost use Rattle.fio_module.specs.Limits.{Limits, are_limits};
-ghost use Rattle.fio_module.specs.Settings.{Settings, standard_settings, settings_with, AreInRange};
+ghost use Rattle.fio_module.specs.Settings.{Settings, standard_settings, settings_with, AreInRange, HasRoom};
 ghost use Rattle.fio_link.specs.Link.{Machine};
 ghost use Rattle.fio_link.specs.Pieces.{TakenArePieces, PiecesBeginLog};
 ghost use Rattle.fio_link.specs.Headline.{Headline};
 ghost use Rattle.fio_link.specs.Rounds.{PollsOf, PollsReceivedHaveRounds, NewestPollMadeNewestBlock, BlockAnswersOf, AnswersCarryBlocks};
 ghost use Rattle.fio_link.specs.Rising.{IsRising};
 ghost use Rattle.fio_link.specs.Restarts.{TakesStretchOfEachLife};
-ghost use Rattle.fio_link.specs.Sound.{HoldsOfRuns, HoldsWithoutRestart, IsSoundRun, LeadToOneMachine};
-ghost use Rattle.fio_link.specs.Delivery.{RoundWithNothingBetweenIsClean, CleanRoundTakesBlock, EachCleanRoundTakesOne, CleanRoundTakesAll, CleanRoundsCatchUp, IsWholeUnlessFull, GapsNameTimes, IsWholeWherePolledOften, IsWholeWherePolledForEach, IsWholeAfterOutage};
-ghost use Rattle.fio_link.specs.InTime.{RoundWithNothingBetweenIsInTime, RoundsMakeBlocks, RoundsKeepUp, AllArrivesInTime, ScansMoveOut};
-ghost use Rattle.fio_link.specs.AnyTime.{IsNeverLate, IsNeverLateExactly, StandardLinkIsNeverLater};
-ghost use Rattle.fio_link.specs.NewLevels.{NewLevelsAreRecorded, StandardLinkRecordsNewLevels};
-ghost use Rattle.fio_link.specs.LossyLinks.{AllArrivesWhereKeptUpWith, OutagesArePossible, RoundsCatchUp, StandardLimitsHaveRoom, StandardLinkKeptUpIsNeverLater};
+ghost use Rattle.fio_link.specs.Sound.{HoldsOfRuns, HoldsWhateverRestarts, HoldsWithoutRestart, IsSoundRun, LeadToOneMachine};
+ghost use Rattle.fio_link.specs.Delivery.{RoundWithNothingBetweenIsClean, CleanRoundTakesBlock, EachCleanRoundTakesOne, IsWholeUnlessFull, GapsNameTimes, IsWholeWherePolledOften, IsWholeWherePolledForEach, IsWholeAfterOutage};
+ghost use Rattle.fio_link.specs.Settled.{StandsWithoutRestart, CleanRoundTakesAll, RoundsMakeBlocks, CleanRoundsCatchUp};
+ghost use Rattle.fio_link.specs.KeptUp.{AreInTime, RoundIsInTime, RoundWithNothingBetweenIsAfter, BeginNear, AllArrivesWhereKeptUpWith, AllArrivesInTime, OutagesArePossible, RoundsCatchUp, StandardLimitsHaveRoom};
+ghost use Rattle.fio_link.specs.ForEach.{AllArrivesForEach};
+ghost use Rattle.fio_link.specs.WholeSince.{GainsAllWhere, StaysFew, IsRoomyOutage, IsOftenForEach};
+ghost use Rattle.fio_link.specs.StandardLinks.{StandardLinkIsNeverLater, StandardLinkRecordsNewLevels};
+ghost use Rattle.fio_link.specs.MovedScans.{ScansMoveOut};
 ghost use Rattle.fio_link.specs.Sharpness.{StandardLinkIsAsLate, LosesWhereAScanLater};
-ghost use Rattle.fio_link.specs.StartingAnew.{DeliveryStartsAnew, StandardLinkStartsAnew};
-ghost use Rattle.fio_link.specs.LostRounds.{LostRoundsArePossible};
+ghost use Rattle.fio_link.specs.LostRounds.{LoseFewRounds, LostRoundsArePossible};
 
 /// What the first m blocks of a life are in the record are pieces of its transition log from the
 /// start through the end of the m-th.
@@ -91,37 +92,39 @@ pub fn answers_carry_blocks()
     ensures { HoldsWithoutRestart AnswersCarryBlocks }
 {}
 
+/// Without restarts a machine is settled where the CPU has taken as many blocks as were made and nothing waits.
+pub fn settled_points()
+    ensures { HoldsWithoutRestart StandsWithoutRestart }
+{}
+
 /// After any events, restarts included, a clean round takes a block: with nothing between none of its
 /// events is refused, the module answers, and the CPU takes the answer; and in each one the CPU takes one
 /// block, whatever else comes between.
 pub fn clean_rounds_take_blocks()
-    ensures possible { HoldsOfRuns (λ settings first events machine.
-        CleanRoundTakesBlock settings first machine) }
-    ensures each { HoldsOfRuns (λ settings first events machine.
-        EachCleanRoundTakesOne settings first machine) }
+    ensures possible { HoldsWhateverRestarts CleanRoundTakesBlock }
+    ensures each { HoldsWhateverRestarts EachCleanRoundTakesOne }
 {}
 
-/// A clean round with nothing between is a clean round, and where it begins in time it is one in time.
+/// A clean round with nothing between is a clean round, and one after the pause before it.
 pub fn rounds_with_nothing_between_are_clean()
     ensures clean { (settings : Settings) (first : ℕ) (machine : Machine)
         → RoundWithNothingBetweenIsClean settings first machine }
-    ensures in_time { (settings : Settings) (first : ℕ) (machine : Machine)
-        → RoundWithNothingBetweenIsInTime settings first machine }
+    ensures after { (settings : Settings) (first : ℕ) (machine : Machine)
+        → RoundWithNothingBetweenIsAfter settings first machine }
 {}
 
-/// Without restarts: after one clean round the CPU has taken every block that was made, and after
+/// After any events, restarts included: after one clean round the CPU has taken all blocks, and after
 /// 1 + k of them with nothing between, where at most k times as many entries waited as a block
-/// takes, nothing waits and the record goes through the end of the transition log.
+/// takes, the link is settled and the record goes through the end of the transition log.
 pub fn clean_rounds_catch_up()
-    ensures taken { HoldsWithoutRestart CleanRoundTakesAll }
-    ensures caught_up { HoldsWithoutRestart CleanRoundsCatchUp }
+    ensures taken { HoldsWhateverRestarts CleanRoundTakesAll }
+    ensures caught_up { HoldsWhateverRestarts CleanRoundsCatchUp }
 {}
 
 /// Without restarts nothing is lost unless the buffer was full: where never more transitions stood
 /// beyond the newest block than may wait, the record is the front of the transition log, whole; and
 /// each gap mark has its own block, before which the record is what all blocks before it are, and when
 /// that block was made more did.
-#[tactic(auto, using(crate::proofs::Promises::what_arrives))]
 pub fn nothing_is_lost()
     ensures whole { HoldsWithoutRestart (λ settings first machine.
         IsWholeUnlessFull settings machine) }
@@ -132,88 +135,53 @@ pub fn nothing_is_lost()
 /// Without restarts: where the module is polled often enough, from a time on at which nothing waits,
 /// the record is the front of the transition log, whole, also where each input counts with its own
 /// filters; and so it is after an outage for which the buffer has room.
-#[tactic(auto, using(crate::proofs::Promises::what_arrives))]
 pub fn polled_often_is_whole()
     ensures polled_often { HoldsWithoutRestart (λ settings first machine.
-        IsWholeWherePolledOften settings machine) }
+        HasRoom settings → IsWholeWherePolledOften settings machine) }
     ensures for_each { HoldsWithoutRestart (λ settings first machine.
-        IsWholeWherePolledForEach settings machine) }
+        settings.per_block ≤ settings.waiting → IsWholeWherePolledForEach settings machine) }
     ensures outage { HoldsWithoutRestart (λ settings first machine.
         IsWholeAfterOutage settings machine) }
 {}
 
-/// Without restarts each clean round, with what comes before it since the one before, makes a block,
-/// whatever was lost or repeated. So the blocks are never more scans behind than lie between the polls
-/// of two clean rounds as the module receives them, and twice as many where answers are lost.
+/// Each clean round, with what comes before it since the one before, makes a block, whatever was lost or
+/// repeated. It is in time if the module receives its poll in time.
 pub fn clean_rounds_keep_up()
-    ensures blocks { HoldsWithoutRestart RoundsMakeBlocks }
-    ensures behind { HoldsWithoutRestart RoundsKeepUp }
+    ensures blocks { HoldsWhateverRestarts RoundsMakeBlocks }
+    ensures in_time { (settings : Settings) (first : ℕ) (machine : Machine)
+        → RoundIsInTime settings first machine }
 {}
 
-/// Where the module receives the poll of a clean round at least every n scans, with k * n at most
-/// `per_block` * f, from a time on at which the CPU has taken all blocks and nothing waits, and no more than
-/// k inputs stay open, with filters of at least f, whatever configurations come: the record gains each transition once, in order, with its time, and no gap
-/// mark; and at the end of a clean round it lacks none that had been logged when the module received the
-/// poll of the one two rounds earlier, or more than n + f - 2 scans before it received that of this one.
-/// Where no answer is lost it is one round, and f - 2 scans.
-pub fn all_arrives_in_time()
-    ensures { HoldsWithoutRestart AllArrivesInTime }
-{}
-
-/// The record is never late where a link is polled in time: at any time what the log has and the record
-/// has not is at most n + f - 2 scans old, or 2 n + f - 2 where a clean round may repeat a block, until n
-/// scans after the module received the poll of the latest. With blocks counted whole it is at most so many as the
-/// largest of n - 1 + j n - f (j b / k) over all j, and n more where a clean round may.
-#[tactic(auto, using(crate::proofs::Promises::what_arrives))]
-pub fn records_are_never_late()
-    ensures late { HoldsWithoutRestart IsNeverLate }
-    ensures exactly { HoldsWithoutRestart IsNeverLateExactly }
-{}
-
-/// Under the standard limits, with up to 64 open inputs, filters of at least 5 and a clean round at least
-/// every 19 scans, a transition is in the record at most 22 scans after its own; and at most 41 where
-/// answers are lost.
-pub fn standard_links_are_never_late()
-    ensures no_answer_lost { StandardLinkIsNeverLater 19 false 22 }
-    ensures answers_lost { StandardLinkIsNeverLater 19 true 41 }
-{}
-
-/// Both are reached: there are such links that lack a transition which is 22 scans old, and 41 where answers
-/// are lost.
-#[tactic(auto, using(crate::proofs::Sharpness::late_22, crate::proofs::Sharpness::late_41))]
-pub fn standard_links_are_as_late()
-    ensures no_answer_lost { StandardLinkIsAsLate 19 false 22 }
-    ensures answers_lost { StandardLinkIsAsLate 19 true 41 }
-{}
-
-/// With a scan more between two clean rounds than is often enough, a link can lose transitions: with 64 open
-/// inputs, filters of 1, and blocks of 64, a clean round every scan is often enough, and every 2 scans is not.
-#[tactic(auto, using(crate::proofs::PolledTooSeldom::loses))]
-pub fn links_polled_too_seldom_lose()
-    ensures { LosesWhereAScanLater (record { id = 0; per_block = 64; waiting = 1024 }) 1 1 }
-{}
-
-/// Where a link is polled in time, an open input that keeps a new level for as many samples in a row as
-/// its filter asks for is in the record once more than n + f - 2 scans came after the last of them, or
-/// 2 n + f - 2 where a clean round may repeat a block.
-#[tactic(auto, using(crate::proofs::Promises::what_arrives))]
-pub fn new_levels_are_recorded()
-    ensures { HoldsWithoutRestart NewLevelsAreRecorded }
-{}
-
-/// Under the standard limits, with up to 64 open inputs, filters of at least 5 and a clean round at least
-/// every 19 scans, an input that has a new level for as many samples in a row as its filter f is in the
-/// record at most f - 1 + 22 scans after the first of them; and at most f - 1 + 41 where answers are lost.
-pub fn standard_links_record_new_levels()
-    ensures no_answer_lost { StandardLinkRecordsNewLevels 19 false 22 }
-    ensures answers_lost { StandardLinkRecordsNewLevels 19 true 41 }
-{}
-
-/// Where clean rounds each make up for s scans, with k s at most `per_block` * f, and the blocks are never
-/// more than m behind, with k (m + f - 1) at most w f for w that may wait: the record gains each transition
-/// once, in order, with its time, and no gap mark; and lacks none that is more than m + f - 2 scans old.
+/// From a settled point on, after restarts too: where clean rounds each make up for s scans, with k s at most
+/// `per_block` * f, and the blocks are never more than m behind, with k (m + f - 1) at most w f for w that may
+/// wait: the record gains each transition once, in order, with its time, and no gap mark; and at any time lacks
+/// none that is more than b + f - 2 scans old, for b scans that the blocks may be behind.
 pub fn all_arrives_where_kept_up_with()
-    ensures { HoldsWithoutRestart AllArrivesWhereKeptUpWith }
+    ensures { HoldsWhateverRestarts AllArrivesWhereKeptUpWith }
+{}
+
+/// So it is with b of n + u where the module receives the poll of a clean round at least every n scans, of which u
+/// come after the CPU had last taken all: none where no answer is lost. At the end of a clean round the record then
+/// lacks none that had been logged when the module received the poll of the one two rounds earlier, and one round
+/// where no answer is lost.
+pub fn all_arrives_in_time()
+    ensures { HoldsWhateverRestarts AllArrivesInTime }
+{}
+
+/// From a settled point on, after restarts too, the record gains each transition once, in order, and no gap mark,
+/// up to the last block taken: where never more stand beyond the newest block than may wait, after an outage for
+/// which the buffer has room, and where blocks are made often enough for each input with its own filters.
+pub fn settled_links_lose_nothing()
+    ensures unless_full { HoldsWhateverRestarts (GainsAllWhere StaysFew) }
+    ensures outage { (opened filter : ℕ) → HoldsWhateverRestarts (GainsAllWhere (IsRoomyOutage opened filter)) }
+    ensures for_each { (scans : ℕ) → HoldsWhateverRestarts (GainsAllWhere (IsOftenForEach scans)) }
+{}
+
+/// So it is where the open inputs' filters differ, without configurations: with the sum of 1 + (n - 1) / f at most
+/// `per_block` none is later than n - 1 scans and no more than a block wait; where answers are lost 2 n - 1, and two
+/// blocks.
+pub fn all_arrives_for_each()
+    ensures { HoldsWhateverRestarts AllArrivesForEach }
 {}
 
 /// Links keep up within a pace of s scans, and after an outage of m scans in it; and rounds that come more
@@ -225,13 +193,6 @@ pub fn outages_within_a_pace()
     ensures standard { StandardLimitsHaveRoom 19 76 }
 {}
 
-/// Under the standard limits, with up to 64 open inputs, filters of at least 5 and clean rounds that each make
-/// up for 19 scans, a link whose blocks are never more than 76 scans behind loses nothing, and a transition is
-/// in the record at most 79 scans after its own.
-pub fn standard_links_kept_up_are_never_late()
-    ensures { StandardLinkKeptUpIsNeverLater 19 76 79 }
-{}
-
 /// A round begins at least every n scans, and each clean one makes up for s. Where of each c + 1 rounds in a
 /// row at most l are lost, with c n at most (c - l) s, the blocks are never more than (l + 1) n behind.
 #[tactic(auto, using(crate::proofs::LostRounds::lost_rounds_are_possible))]
@@ -239,14 +200,40 @@ pub fn lost_rounds()
     ensures { LostRoundsArePossible }
 {}
 
-/// After any events, restarts included, delivery starts anew with a clean round that leaves nothing waiting:
-/// where clean rounds come in time from then on, the record gains each transition once, in order, with its time,
-/// and no gap mark, and none is more than 2 n + f - 2 scans late. Under the standard limits, with up to 64 open
-/// inputs, filters of at least 5 and a clean round at least every 19 scans, that is 41.
-pub fn delivery_starts_anew()
-    ensures anew { HoldsOfRuns (λ settings first events machine.
-        DeliveryStartsAnew settings first machine) }
-    ensures standard { StandardLinkStartsAnew 19 41 }
+/// Under the standard limits, with up to 64 open inputs and filters of at least 5, from a settled point on, after
+/// restarts too, nothing is lost. A transition is in the record at most 22 scans after its own, with a clean round
+/// at least every 19 scans; at most 41 where answers are lost; at most 79 where rounds each make up for 19
+/// scans and the blocks are never more than 76 behind; and at most 75 where a round begins at least every 12 scans
+/// and at most 5 of each 100 in a row are lost.
+pub fn standard_links_are_never_late()
+    ensures no_answer_lost { StandardLinkIsNeverLater (AreInTime 19 0) 22 }
+    ensures answers_lost { StandardLinkIsNeverLater (AreInTime 19 19) 41 }
+    ensures kept_up { StandardLinkIsNeverLater (BeginNear 19 76) 79 }
+    ensures rounds_lost { StandardLinkIsNeverLater (LoseFewRounds 12 100 5) 75 }
+{}
+
+/// Then an input that has a new level for as many samples in a row as its filter f is in the record at most f - 1
+/// scans later than that, counted from the first of them.
+pub fn standard_links_record_new_levels()
+    ensures no_answer_lost { StandardLinkRecordsNewLevels (AreInTime 19 0) 22 }
+    ensures answers_lost { StandardLinkRecordsNewLevels (AreInTime 19 19) 41 }
+    ensures kept_up { StandardLinkRecordsNewLevels (BeginNear 19 76) 79 }
+    ensures rounds_lost { StandardLinkRecordsNewLevels (LoseFewRounds 12 100 5) 75 }
+{}
+
+/// Two of these are reached: there are such links that lack a transition which is 22 scans old, and 41 where answers
+/// are lost.
+#[tactic(auto, using(crate::proofs::Sharpness::late_22, crate::proofs::Sharpness::late_41))]
+pub fn standard_links_are_as_late()
+    ensures no_answer_lost { StandardLinkIsAsLate 19 0 22 }
+    ensures answers_lost { StandardLinkIsAsLate 19 19 41 }
+{}
+
+/// With a scan more between two clean rounds than is often enough, a link can lose transitions: with 64 open
+/// inputs, filters of 1, and blocks of 64, a clean round every scan is often enough, and every 2 scans is not.
+#[tactic(auto, using(crate::proofs::PolledTooSeldom::loses))]
+pub fn links_polled_too_seldom_lose()
+    ensures { LosesWhereAScanLater (record { id = 0; per_block = 64; waiting = 1024 }) 1 1 }
 {}
 
 /// Scans that come while a poll or its answer is under way lead where they lead before the poll is
@@ -263,9 +250,13 @@ pub fn runs_lead_to_one_machine()
     ensures { LeadToOneMachine }
 {}
 
-/// The promises are for settings in their ranges: the standard ones and those with any limits are.
+/// The promises are for settings in their ranges, those on delivery where there is room: the standard ones and
+/// those with any limits are, and have it.
 pub fn settings_are_in_range()
     ensures standard { (id : ℕ) → id ≤ 255 → AreInRange (standard_settings id) }
     ensures limits { (id : ℕ) (limits : Limits) → id ≤ 255
         → are_limits limits.per_block limits.waiting ≡ true → AreInRange (settings_with id limits) }
+    ensures room { (id : ℕ) → HasRoom (standard_settings id) }
+    ensures room_by_limits { (id : ℕ) (limits : Limits) → are_limits limits.per_block limits.waiting ≡ true
+        → HasRoom (settings_with id limits) }
 {}

@@ -8,9 +8,9 @@
 //! of every run: polls and block answers among the frames (`Frames`), the record as pieces of the transition
 //! log (`Pieces`), the headline (`Headline`), what else is promised (`Claims`), the order of rounds that it
 //! rests on (`Rounds`), the rising record, through restarts too (`Rising`, `Restarts`), what arrives
-//! (`Delivery`), how soon (`InTime`, `AnyTime`), also from the raw sample on (`NewLevels`), where rounds are
-//! lost (`LossyLinks`, `LostRounds`), how sharp that is (`Sharpness`), after a restart (`StartingAnew`), all
-//! of it for one run (`Sound`). The laws are the contracts of the module `laws`.
+//! (`Delivery`), from which points on (`Settled`, `WholeSince`), how soon (`KeptUp`, `StandardLinks`), also from
+//! the raw sample on (`NewLevels`), which rounds may be lost (`LostRounds`), what may take time (`MovedScans`),
+//! how sharp that is (`Sharpness`), all of it for one run (`Sound`). The laws are the contracts of the module `laws`.
 #![tactic(auto)]
 
 mod event;

@@ -36,7 +36,7 @@ no_scan (Scanned raw ∷ later) life none = absurd (omega arith)
 no_scan (Commanded (ConfigureInputs items) ∷ later) life none = no_scan later life none
 no_scan (other ∷ later) life none = no_scan later life none
 
-module _ (settings : Settings) (range : AreInRange settings) (opened filter scans most : ℕ) (life : Life) where
+module _ (settings : Settings) (range : AreInRange settings) (roomy : 1 ≤ settings.waiting) (opened filter scans most : ℕ) (life : Life) where
   abbrev IsFew : Life → Type 0
   IsFew later = FewStayOpen opened filter (filter_events later) (filter_events life)
 
@@ -53,8 +53,8 @@ module _ (settings : Settings) (range : AreInRange settings) (opened filter scan
   exactly later k =
       let here = later ++ life in
       let p = paced settings opened filter scans most life k.few_change.some k.few_change.enough k.room later
-      (nothing_left settings range life (ap length k.few_change.nothing_waits)) k.few_change.few_open k.behind in
-      let keeps = holds_now (KeepsUp settings opened filter scans life) later (kept_up_keeps_up settings opened filter scans most life later range k) in
+      (nothing_left settings roomy life (ap length k.few_change.nothing_waits)) k.few_change.few_open k.behind in
+      let keeps = holds_now (KeepsUp settings opened filter scans life) later (kept_up_keeps_up settings opened filter scans most life later range roomy k) in
       let rest = p.before ++ life in
       let whole : here ≡ p.since ++ rest = ap (λ l. l ++ life) p.split ∙ append_assoc p.since p.before life in
       let stay = subst IsFew p.split k.few_change.few_open in
@@ -124,4 +124,4 @@ module _ (settings : Settings) (range : AreInRange settings) (opened filter scan
 
 -- a module that is kept up with
 pub kept_up_keeps_up_exactly : KeptUpKeepsUpExactly
-kept_up_keeps_up_exactly settings opened filter scans most life later range k = at_each settings range opened filter scans most life later k
+kept_up_keeps_up_exactly settings opened filter scans most life later range roomy k = at_each settings range roomy opened filter scans most life later k

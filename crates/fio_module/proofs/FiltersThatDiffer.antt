@@ -11,7 +11,7 @@ use Rattle.fio_module.proofs.Pace.{none_before, none_since, nothing_left}
 use Rattle.fio_module.proofs.Polling.{each_time-append}
 use Rattle.fio_module.proofs.ExactBounds.{no_scan}
 
-module _ (settings : Settings) (range : AreInRange settings) (scans : ℕ) (life : Life)
+module _ (settings : Settings) (range : AreInRange settings) (wide : settings.per_block ≤ settings.waiting) (scans : ℕ) (life : Life)
     (enough : most_reports (filter_events life) scans ≤ settings.per_block) where
   -- nothing was left at the newest block, or at the start
   record IsTaken (later : Life) : Type 0 where
@@ -44,7 +44,7 @@ module _ (settings : Settings) (range : AreInRange settings) (scans : ℕ) (life
 
   few_beyond : (later : Life) → length (log_of (later ++ life)) ≤ newest_end settings (later ++ life) + settings.per_block
       → FewBeyond settings (later ++ life)
-  few_beyond later few = let most = range.few_per_block in let room = range.many_waiting in omega arith
+  few_beyond later few = omega arith
 
   taken-other : (later : Life) (occurrence : Occurrence)
       → newest_end settings (occurrence ∷ (later ++ life)) ≡ newest_end settings (later ++ life)
@@ -111,15 +111,15 @@ module _ (settings : Settings) (range : AreInRange settings) (scans : ℕ) (life
   at_each (occurrence ∷ later) ends none often =
       (waits_for_one (occurrence ∷ later) ends none often, at_each later ends (none_before (occurrence ∷ []) later none) often.1)
 
-each_few : (settings : Settings) (life later : Life) → AtEachTime (λ l. WaitsForOneBlock settings (l ++ life)) later
+pub each_few : (settings : Settings) (life later : Life) → AtEachTime (λ l. WaitsForOneBlock settings (l ++ life)) later
     → AtEachTime (λ l. FewBeyond settings (l ++ life)) later
 each_few settings life [] each = each.few_beyond
 each_few settings life (occurrence ∷ later) each = (each.0.few_beyond, each_few settings life later each.1)
 
 -- polled often for each, the module loses none
 pub polled_for_each_loses_none : PolledForEachLosesNone
-polled_for_each_loses_none settings scans life later range p =
-    let each = at_each settings range scans life (omega (arith, p.enough)) later (nothing_left settings range life (ap length p.nothing_waits)) p.not_applied p.often in
+polled_for_each_loses_none settings scans life later range wide p =
+    let each = at_each settings range wide scans life (omega (arith, p.enough)) later (nothing_left settings (let some = range.some_per_block in omega arith) life (ap length p.nothing_waits)) p.not_applied p.often in
     record {
       each = each;
       stays = λ few. each_time-append (FewBeyond settings) later life (each_few settings life later each) few;

@@ -1,5 +1,5 @@
 -- Blocks that keep up with the scans leave few entries, and young ones.
-use Rattle.fio_module.proofs.Names.{◌≡◌, ℕ, zero, suc, ◌+◌, ◌-◌, ◌*◌, ◌≤◌, Bool, true, false, [], ◌∷◌, ◌++◌, length, Some, slice_get, refl, ap, sym, subst, ◌∙◌, arith, inl, inr, append_assoc, length-drop, mul-le-mul_left, mul-le-mul_right, le_of_mul-le-mul_right, cases_lt, Poll, ConfigureInputs, scans_in, all_reports_in, HasFewOpen, FewStayOpen, NoneIsApplied, at_each_scan-back, at_each_scan-front, reports_times_filter, Settings, AreInRange, Life, Occurrence, Scanned, Commanded, scans_of, filter_events, Transition, log_of, newest_poll, is_new, blocks_of, next_block, newest_end, start_after, count_from, waiting_from, waiting_of, AtEachTime, FewBeyond, scans_behind, IsYoung, KeepsUp}
+use Rattle.fio_module.proofs.Names.{◌≡◌, ℕ, zero, suc, ◌+◌, ◌-◌, ◌*◌, ◌≤◌, Bool, true, false, [], ◌∷◌, ◌++◌, length, Some, slice_get, refl, ap, sym, subst, ◌∙◌, arith, inl, inr, append_assoc, length-drop, mul-le-mul_left, mul-le-mul_right, le_of_mul-le-mul_right, cases_lt, Poll, ConfigureInputs, scans_in, all_reports_in, HasFewOpen, FewStayOpen, NoneIsApplied, at_each_scan-back, at_each_scan-front, reports_times_filter, Settings, Life, Occurrence, Scanned, Commanded, scans_of, filter_events, Transition, log_of, newest_poll, is_new, blocks_of, next_block, newest_end, start_after, count_from, waiting_from, waiting_of, AtEachTime, FewBeyond, scans_behind, IsYoung, KeepsUp}
 use Rattle.fio_module.proofs.Ends.{last_end-append}
 use Rattle.fio_module.proofs.BlockLaws.{blocks_end_within}
 use Rattle.fio_module.proofs.Losses.{holds_now}
@@ -31,12 +31,11 @@ few_since opened filter later before life few =
     (subst (λ es. FewStayOpen opened filter es (filter_events life)) (filter_events-append later before) few))
 
 -- where nothing waits, the newest block ends the log
-pub nothing_left : (settings : Settings) → AreInRange settings → (life : Life) → length (waiting_of settings life) ≡ 0
+pub nothing_left : (settings : Settings) → 1 ≤ settings.waiting → (life : Life) → length (waiting_of settings life) ≡ 0
     → newest_end settings life ≡ length (log_of life)
-nothing_left settings range life none =
+nothing_left settings some life none =
     let rest = length-drop (waiting_from settings life) (log_of life) in
     let within : newest_end settings life ≤ length (log_of life) = blocks_end_within settings life in
-    let some = range.many_waiting in
     omega arith
 
 -- Since a time at which all were taken, `full` whole blocks were taken, each of which made up for so

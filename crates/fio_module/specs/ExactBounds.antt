@@ -27,5 +27,5 @@ pub record KeepsUpExactly (settings : Settings) (opened filter scans : ℕ) (lif
 abbrev pub KeptUpKeepsUpExactly : Type 0
 KeptUpKeepsUpExactly =
     (settings : Settings) (opened filter scans most : ℕ) (life later : Life) →
-    AreInRange settings → IsKeptUp settings opened filter scans most life later →
+    AreInRange settings → 1 ≤ settings.waiting → IsKeptUp settings opened filter scans most life later →
     AtEachTime (KeepsUpExactly settings opened filter scans life) later

@@ -1,11 +1,13 @@
 -- How often to poll where the filters of the open inputs differ.
-use Rattle.std.specs.Prelude.{◌≡◌, ℕ, ◌≤◌, [], ◌++◌, length}
+use Rattle.std.specs.Prelude.{◌≡◌, ℕ, ◌*◌, ◌≤◌, [], ◌++◌, length}
 use Rattle.fio_input.specs.Delivery.{NoneIsApplied}
 use Rattle.fio_input.specs.FiltersThatDiffer.{most_reports}
 use Rattle.fio_module.specs.Settings.{Settings, AreInRange}
 use Rattle.fio_module.specs.Life.{Life, filter_events}
 use Rattle.fio_module.specs.Blocks.{waiting_of}
+use Rattle.std.specs.List.{AllByRecursion}
 use Rattle.fio_module.specs.Delivery.{AtEachTime, FewBeyond, NeverTooMany, scans_since_block}
+use Rattle.fio_module.specs.KeepingUp.{scans_behind, IsYoung}
 
 -- Polled often for each: from a time on at which nothing waits, while no configuration is applied, never
 -- more than so many scans lie from one new block to the next; and a block takes all that the open inputs
@@ -30,5 +32,30 @@ pub record LosesNoneOfEach (settings : Settings) (life later : Life) : Type 0 wh
 abbrev pub PolledForEachLosesNone : Type 0
 PolledForEachLosesNone =
     (settings : Settings) (scans : ℕ) (life later : Life) →
-    AreInRange settings → IsPolledForEach settings scans life later →
+    AreInRange settings → settings.per_block ≤ settings.waiting → IsPolledForEach settings scans life later →
     LosesNoneOfEach settings life later
+
+-- Few change, each input with its own filters: nothing waits at the end of a life. Since then no configuration is
+-- applied, and a block takes all that the open inputs can report in so many scans, 1 + (n - 1) / f each.
+pub record FewChangeEach (settings : Settings) (scans : ℕ) (life later : Life) : Type 0 where
+  pub nothing_waits : waiting_of settings life ≡ []
+  pub not_applied : NoneIsApplied (filter_events later)
+  pub enough : most_reports (filter_events life) scans ≤ settings.per_block
+
+-- Kept up with, each input with its own filters: few change, and the blocks are never more scans behind than so many
+-- of them make up for, which may wait.
+pub record IsKeptUpForEach (settings : Settings) (scans blocks : ℕ) (life later : Life) : Type 0 where
+  pub few_change : FewChangeEach settings scans life later
+  pub behind : AtEachTime (λ l. scans_behind scans l life ≤ blocks * scans) later
+  pub room : blocks * settings.per_block ≤ settings.waiting
+
+-- What holds then, for b scans behind: no more wait than so many blocks take as make up for b scans, none are pushed
+-- out, and none that waits is older than b - 1 scans.
+pub record KeepsUpForEach (settings : Settings) (scans : ℕ) (life later : Life) : Type 0 where
+  pub few_wait :
+      (blocks : ℕ) → scans_behind scans later life ≤ blocks * scans
+      → length (waiting_of settings (later ++ life)) ≤ blocks * settings.per_block
+  pub few_beyond : FewBeyond settings (later ++ life)
+  pub young :
+      AllByRecursion (IsYoung (scans_behind scans later life) 1 (later ++ life))
+      (waiting_of settings (later ++ life))

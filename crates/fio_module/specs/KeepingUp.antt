@@ -50,7 +50,7 @@ pub record KeepsUp (settings : Settings) (opened filter scans : ℕ) (life later
 abbrev pub KeptUpKeepsUp : Type 0
 KeptUpKeepsUp =
     (settings : Settings) (opened filter scans most : ℕ) (life later : Life) →
-    AreInRange settings → IsKeptUp settings opened filter scans most life later →
+    AreInRange settings → 1 ≤ settings.waiting → IsKeptUp settings opened filter scans most life later →
     AtEachTime (KeepsUp settings opened filter scans life) later
 
 -- Where a block takes as many entries as there are inputs, or more, one takes what the open inputs can report in the scans of a

@@ -19,9 +19,12 @@ settings_with id limits =
 abbrev pub standard_settings : ℕ → Settings
 standard_settings id = settings_with id standard_limits
 
--- what holds of the standard settings and of those with any limits that there are
+-- what holds of the standard settings and of those with any limits that there are, however many may wait
 pub record AreInRange (settings : Settings) : Type 0 where
   pub id_fits : settings.id ≤ 255
   pub some_per_block : 1 ≤ settings.per_block
   pub few_per_block : settings.per_block ≤ BLOCK_ENTRIES
-  pub many_waiting : STANDARD_WAITING ≤ settings.waiting
+
+-- as many may wait as in the standard settings, or more
+abbrev pub HasRoom : Settings → Type 0
+HasRoom settings = STANDARD_WAITING ≤ settings.waiting

@@ -75,10 +75,10 @@ export class PlanView {
       ['start a round at least every', plan.startEvery + ' ms', 'k n ≤ b f: enough of FewChange' + (lost ? ', r + 1 times as often' : '')],
       ...plan.isInTime ? [
         ['entries that wait, at most', withCommas(plan.waits), 'few_wait of KeepsUpExactly'],
-        ['a transition is in a block at most', plan.late + ' ms late', lost ? 'never_late of Delivers' : 'young of KeepsUpExactly'],
+        ['a transition is in a block at most', plan.late + ' ms late', lost ? 'late of IsLateBy' : 'young of KeepsUpExactly'],
       ] : [],
       ['the longest outage, where nothing waits', withCommas(plan.longestOutage) + ' ms',
-        plan.hasRoom ? 'room of IsOutage, outage of Delivers' : `k (1 + (n - 1) / f) ≤ ${waiting} does not hold: not proved`],
+        plan.hasRoom ? 'room of IsOutage, outage of settled_links_lose_nothing' : `k (1 + (n - 1) / f) ≤ ${waiting} does not hold: not proved`],
       [`entries that wait after ${withCommas(outage)} ms, at most`, withCommas(plan.after), 'computed, not proved'],
       ['clean rounds until these are in the record', String(plan.caughtUpIn), 'caught_up of clean_rounds_catch_up'],
     ];

@@ -1,10 +1,8 @@
-use Rattle.fio_link.proofs.Promises.{what_arrives}
+use Rattle.fio_link.proofs.Promises.{runs_are_sound}
 use Rattle.fio_link.proofs.laws.clean_rounds_catch_up.Goals as goal
 
 pub returns-clause-taken : goal.returns-clause-taken
-returns-clause-taken c settings first events machine range run none =
-    (what_arrives settings first events machine range run none).takes_all
+returns-clause-taken c = λ settings first events machine range run. (runs_are_sound settings first events machine range run).delivers.takes_all
 
 pub returns-clause-caught_up : goal.returns-clause-caught_up
-returns-clause-caught_up c settings first events machine range run none =
-    (what_arrives settings first events machine range run none).catches_up
+returns-clause-caught_up c = λ settings first events machine range run. (runs_are_sound settings first events machine range run).delivers.catches_up

@@ -1,4 +1,4 @@
-use Rattle.fio_link.proofs.LossyLinks.{outages_are_possible, rounds_catch_up, standard_limits_have_room}
+use Rattle.fio_link.proofs.Pauses.{outages_are_possible, rounds_catch_up, standard_limits_have_room}
 use Rattle.fio_link.proofs.laws.outages_within_a_pace.Goals as goal
 
 pub returns-clause-possible : goal.returns-clause-possible

@@ -1,0 +1,127 @@
+-- Links that are kept up with for each input deliver all.
+use Rattle.fio_link.proofs.Names.{◌≡◌, ℕ, ◌+◌, ◌-◌, ◌*◌, ◌≤◌, List, [], ◌∷◌, ◌++◌, length, drop, ap, sym, subst, ◌∙◌, arith, inl, inr, append_assoc, cases_lt, mul-le-mul_left, append_cancel_right, NoneIsApplied, Settings, AreInRange, Life, life_of, filter_events, log_of, newest_end, waiting_of, nothing_left, AtEachTime, scans_behind, holds_now, Machine, Pause, left_behind}
+use Rattle.fio_module.specs.KeepingUp.{KeepsUp}
+use Rattle.fio_module.specs.FiltersThatDiffer.{KeepsUpForEach}
+use Rattle.fio_module.proofs.Pace.{none_before}
+use Rattle.fio_module.proofs.KeptUpForEach.{kept_up_for_each}
+use Rattle.fio_link.specs.KeptUp.{receipts_of}
+use Rattle.fio_link.specs.ForEach.{IsPolledInTimeForEach, ArrivesForEach, AllArrivesForEach}
+use Rattle.fio_link.proofs.MadeBlocks.{each-map}
+use Rattle.fio_link.proofs.Settled.{IsOpen, at_base}
+use Rattle.fio_link.proofs.Pauses.{left_in_time, begin_in_time}
+use Rattle.fio_link.proofs.KeptUp.{Reached, reached, whole, times, late, levels, near_now}
+
+-- what waits for each input, as if each scan reported a block of changes
+as_one : (settings : Settings) (scans : ℕ) (life later : Life) → scans_behind scans later life ≤ 2 * scans
+    → KeepsUpForEach settings scans life later → KeepsUp settings settings.per_block 1 scans life later
+as_one settings scans life later near k =
+    let behind = scans_behind scans later life in
+    let turned : settings.per_block * (behind + (1 - 1)) ≡ behind * settings.per_block = grind arith in
+    record {
+      few_wait = elim (cases_lt 0 scans) as (λ _. length (waiting_of settings (later ++ life)) * 1 ≤ settings.per_block * (behind + (1 - 1))) [
+        | inl once ↦
+            let more : behind * 1 ≤ behind * scans = mul-le-mul_left behind once in
+            omega (arith, k.few_wait behind (omega arith))
+        | inr never ↦
+            let none : 0 * scans ≡ 0 = grind arith in
+            let nothing : 0 * settings.per_block ≡ 0 = grind arith in
+            omega (arith, k.few_wait 0 (omega arith))
+      ];
+      few_beyond = k.few_beyond;
+      young = k.young;
+    }
+
+module _ (settings : Settings) (range : AreInRange settings) (first : ℕ) (machine : Machine) (o : IsOpen settings range first machine)
+    (scans untaken : ℕ) (pauses : List Pause) (receipt last : Machine) (later : Life)
+    (p : IsPolledInTimeForEach settings first scans untaken machine pauses receipt last later) where
+  abbrev life : Life
+  life = life_of machine.history
+
+  abbrev most : ℕ
+  most = scans + untaken
+
+  abbrev IsFew : Life → Type 0
+  IsFew l = NoneIsApplied (filter_events l)
+
+  abbrev IsNear : Life → Type 0
+  IsNear l = AtEachTime (λ l. scans_behind scans l life ≤ most) l
+
+  some_wait : 1 ≤ settings.waiting
+  some_wait = omega (arith, p.room, range.some_per_block)
+
+  nearer : (l : Life) → IsNear l → AtEachTime (λ l. scans_behind scans l life ≤ 2 * scans) l
+  nearer [] near = omega (arith, p.few_untaken)
+  nearer (occurrence ∷ l) near = (let here = near.0 in omega (arith, p.few_untaken), nearer l near.1)
+
+  for_each : (l : Life) → IsFew l → IsNear l → AtEachTime (KeepsUpForEach settings scans life) l
+  for_each l none near =
+      kept_up_for_each settings scans 2 life l some_wait (record {
+        few_change = record { nothing_waits = p.few_change.nothing_waits; not_applied = none; enough = p.few_change.enough };
+        behind = nearer l near;
+        room = p.room;
+      })
+
+  each_as_one : (l : Life) → AtEachTime (λ l. scans_behind scans l life ≤ 2 * scans) l → AtEachTime (KeepsUpForEach settings scans life) l
+      → AtEachTime (KeepsUp settings settings.per_block 1 scans life) l
+  each_as_one [] near each = as_one settings scans life [] near each
+  each_as_one (occurrence ∷ l) near each = (as_one settings scans life (occurrence ∷ l) near.0 each.0, each_as_one l near.1 each.1)
+
+  keeps : (l : Life) → IsFew l → IsNear l → AtEachTime (KeepsUp settings settings.per_block 1 scans life) l
+  keeps l none near = each_as_one l (nearer l near) (for_each l none near)
+
+  older : (l before : Life) → IsFew (l ++ before) → IsFew before
+  older l before none = none_before l before none
+
+  ends : newest_end settings life ≡ length (log_of life)
+  ends = nothing_left settings some_wait life (ap length p.few_change.nothing_waits)
+
+  some : 1 ≤ 1
+  some = omega arith
+
+  abbrev behinds : ℕ → ℕ
+  behinds rounds = left_behind scans (drop rounds pauses)
+
+  abbrev receipts : List Machine
+  receipts = receipts_of settings first machine pauses receipt last p.rounds
+
+  abbrev IsReached : Life → Type 0
+  IsReached l = Reached settings range first machine settings.per_block 1 scans most some IsFew older ends keeps behinds receipts receipt last l
+
+  reached_later : IsReached later
+  reached_later =
+      let found = reached settings range first machine settings.per_block 1 scans most some IsFew older ends keeps
+      (at_base settings range first machine o p.all_taken) p.all_taken pauses receipt last p.rounds (begin_in_time scans untaken most (omega arith) pauses p.in_time) in
+      subst IsReached (append_cancel_right found.0 later life (sym found.1.since ∙ p.since)) found.1
+
+  near : left_behind scans pauses + reached_later.so_far ≤ most
+  near =
+      let left = left_in_time scans untaken pauses p.in_time in
+      let order = reached_later.since_receipt in
+      omega (arith, p.heard_in_time)
+
+  all_arrives_for : ArrivesForEach settings first scans untaken machine receipt last later
+  all_arrives_for =
+      let stay = p.few_change.not_applied in
+      let r = reached_later in
+      let left = left_in_time scans untaken pauses p.in_time in
+      record {
+        whole = whole settings range first machine settings.per_block 1 scans most some IsFew older ends keeps behinds receipts receipt last later r near stay;
+        times = times settings range first machine settings.per_block 1 scans most some IsFew older ends keeps behinds receipts receipt last later r near stay;
+        at = λ now t. record {
+          late = each-map _ _ (λ transition is. omega arith) _ (late settings range first machine settings.per_block 1 scans most some IsFew older ends keeps behinds receipts receipt last later r near stay scans now t);
+          levels = λ input level before samples after is new long.
+              levels settings range first machine settings.per_block 1 scans most some IsFew older ends keeps behinds receipts receipt last later r near stay scans now t
+              input level before samples after is new (omega arith);
+          few_wait = λ stretch blocks few is none.
+              let near_then = near_now settings range first machine settings.per_block 1 scans most some IsFew older ends keeps behinds receipts receipt last later r near stay scans now t stretch (omega arith) is in
+              let here = holds_now (λ l. scans_behind scans l life ≤ most) (stretch ++ later) near_then in
+              let k = holds_now (KeepsUpForEach settings scans life) (stretch ++ later) (for_each (stretch ++ later) none near_then) in
+              let same : life_of now.history ≡ (stretch ++ later) ++ life = is ∙ sym (append_assoc stretch later life) in
+              subst (λ l. length (waiting_of settings l) ≤ blocks * settings.per_block) (sym same) (k.few_wait blocks (omega arith));
+        };
+      }
+
+-- where a link is polled in time for each input
+pub all_arrives_for_each : (settings : Settings) (range : AreInRange settings) (first : ℕ) (machine : Machine) → IsOpen settings range first machine
+    → AllArrivesForEach settings first machine
+all_arrives_for_each settings range first machine o = all_arrives_for settings range first machine o

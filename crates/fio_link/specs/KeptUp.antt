@@ -1,0 +1,226 @@
+-- Links that are kept up with: clean rounds after pauses, of whatever length, whatever is lost between.
+use Rattle.std.specs.Prelude.{◌≡◌, ℕ, ◌+◌, ◌-◌, ◌*◌, ◌/◌, ◌≤◌, max, List, [], ◌∷◌, ◌++◌, length, drop, slice_get, Some}
+use Rattle.std.specs.List.{AllByRecursion}
+use Rattle.fio_message.specs.declared.limits.TheConstants.{INPUTS}
+use Rattle.fio_input.specs.Delivery.{FewStayOpen}
+use Rattle.fio_module.specs.Settings.{Settings, HasRoom, standard_settings}
+use Rattle.fio_module.specs.Life.{Life, life_of, scans_of, loads_of, filter_events}
+use Rattle.fio_module.specs.Log.{log_of}
+use Rattle.fio_module.specs.Delivery.{FewChange}
+use Rattle.fio_module.specs.KeepingUp.{IsKeptUp, IsYoung}
+use Rattle.fio_link.specs.declared.event.Event.TheVariants as events
+use Rattle.fio_link.specs.Link.{Machine, after, Leads}
+use Rattle.fio_link.specs.Rounds.{next_round}
+use Rattle.fio_link.specs.Delivery.{clean_round, IsCleanRound, HasNothingBetween}
+use Rattle.fio_link.specs.Settled.{HasTakenAll, end_recorded, IsWithin, LeadsOn, LeadsInTime, HasGainedAll, HaveTheirTimes}
+use Rattle.fio_link.specs.NewLevels.{RecordsNewLevels}
+
+-- The scans before the module receives the poll of a clean round, since it received that of the one before: so
+-- many to a time of which the CPU had taken all blocks when it sent the poll, and so many more.
+pub record Pause : Type 0 where
+  pub settled : ℕ
+  pub untaken : ℕ
+
+-- all of them
+abbrev pub scans_of_pause : Pause → ℕ
+scans_of_pause pause = pause.settled + pause.untaken
+
+-- A clean round after such a pause, since an earlier machine.
+pub record IsRoundAfter (settings : Settings) (first : ℕ) (pause : Pause)
+    (earlier done receipt last : Machine) : Type 0 where
+  pub begin : Machine
+  pub leads_on : LeadsOn settings first done begin
+  pub round : IsCleanRound settings first begin receipt last
+  pub between : Machine
+  pub settled : LeadsInTime settings first pause.settled earlier done between
+  pub all_taken : next_round between.polls ≤ begin.round
+  pub untaken : LeadsInTime settings first pause.untaken between between receipt
+
+-- Clean rounds after such pauses, newest first, lead from one machine to another; the module receives the
+-- newest poll at `receipt`.
+abbrev pub RoundsAfter : Settings → ℕ → Machine → List Pause → Machine → Machine → Type 0
+RoundsAfter settings first machine [] receipt last = (receipt ≡ machine) × (last ≡ machine)
+RoundsAfter settings first machine (pause ∷ pauses) receipt last =
+    (earlier : Machine) × (done : Machine) × RoundsAfter settings first machine pauses earlier done
+    × IsRoundAfter settings first pause earlier done receipt last
+
+-- the machines at which the module receives their polls, newest first
+abbrev pub receipts_of : (settings : Settings) (first : ℕ) (machine : Machine) (pauses : List Pause)
+    (receipt last : Machine) → RoundsAfter settings first machine pauses receipt last → List Machine
+receipts_of settings first machine [] receipt last rounds = []
+receipts_of settings first machine (pause ∷ pauses) receipt last rounds =
+    receipt ∷ receipts_of settings first machine pauses rounds.0 rounds.1 rounds.2
+
+-- a pause of at most so many scans, of which at most so many come after the CPU had last taken all
+pub record IsPauseOf (scans untaken : ℕ) (pause : Pause) : Type 0 where
+  pub few : scans_of_pause pause ≤ scans
+  pub few_untaken : pause.untaken ≤ untaken
+
+-- in time: all of these are such pauses
+abbrev pub AreInTime : ℕ → ℕ → List Pause → Type 0
+AreInTime scans untaken pauses = AllByRecursion (IsPauseOf scans untaken) pauses
+
+-- A clean round of which the module receives the poll at most so many scans after an earlier machine is one after a
+-- pause of so many, and of so many after a time of which the CPU had taken all blocks when it sent the poll: the end
+-- of the round before, or where no answer is lost the receipt itself.
+abbrev pub RoundIsInTime : Settings → ℕ → Machine → Type 0
+RoundIsInTime settings first machine =
+    (scans untaken : ℕ) (earlier between begin receipt last : Machine) →
+    LeadsOn settings first machine begin → IsCleanRound settings first begin receipt last →
+    LeadsOn settings first machine between → LeadsOn settings first between receipt →
+    next_round between.polls ≤ begin.round → IsWithin 0 between earlier →
+    IsWithin scans earlier receipt → IsWithin untaken between receipt →
+    (pause : Pause) × IsPauseOf scans untaken pause
+    × IsRoundAfter settings first pause earlier machine receipt last
+
+-- A clean round with nothing between is one after the pause before it, and ends as soon as its poll has been received.
+abbrev pub RoundWithNothingBetweenIsAfter : Settings → ℕ → Machine → Type 0
+RoundWithNothingBetweenIsAfter settings first machine = (pause : Pause) (earlier between begin last : Machine) →
+    LeadsInTime settings first pause.settled earlier machine between →
+    LeadsInTime settings first pause.untaken between between begin →
+    next_round between.polls ≤ begin.round →
+    Leads settings first begin (clean_round begin) last →
+    let receipt = after settings first begin events.Poll in
+    (round : IsRoundAfter settings first pause earlier machine receipt last)
+    × HasNothingBetween settings first round.begin receipt last round.round
+    × IsWithin 0 receipt last
+
+-- By how many scans the blocks are behind at most when the newest of these polls has been received, where each
+-- round makes up for so many: by those left and those of the pause, less those that the round makes up for; but by
+-- no fewer than came after the CPU had last taken all, since its block may be as old as that.
+abbrev pub left_behind : ℕ → List Pause → ℕ
+left_behind scans [] = 0
+left_behind scans (pause ∷ pauses) =
+    max (left_behind scans pauses + scans_of_pause pause - scans) pause.untaken
+
+-- when each of these polls is received, they are no more than `most` scans behind
+abbrev pub BeginNear : ℕ → ℕ → List Pause → Type 0
+BeginNear scans most [] = Unit {0}
+BeginNear scans most (pause ∷ pauses) =
+    (left_behind scans pauses + scans_of_pause pause ≤ most) × BeginNear scans most pauses
+
+-- Clean rounds from a settled point on, since when few change.
+pub record HasRounds (settings : Settings) (first opened filter scans : ℕ)
+    (machine : Machine) (pauses : List Pause) (receipt last : Machine) (later : Life) : Type 0 where
+  pub all_taken : HasTakenAll first machine
+  pub rounds : RoundsAfter settings first machine pauses receipt last
+  -- what has happened to the module since then
+  pub since : life_of last.history ≡ later ++ life_of machine.history
+  pub few_change : FewChange settings opened filter scans (life_of machine.history) later
+
+-- Kept up with: each round makes up for `scans` scans, with blocks never more than `most` behind, as many as the
+-- buffer has room for.
+pub record IsKeptUpWith (settings : Settings) (first opened filter scans most : ℕ)
+    (machine : Machine) (pauses : List Pause) (receipt last : Machine) (later : Life) : Type 0 where
+  pub some_wait : 1 ≤ settings.waiting
+  pub room : opened * (most + (filter - 1)) ≤ settings.waiting * filter
+  pub near : BeginNear scans most pauses
+  pub from : HasRounds settings first opened filter scans machine pauses receipt last later
+  -- nor are they more than that when the CPU hears the answer to the newest poll
+  pub heard_near : IsWithin (most - left_behind scans pauses) receipt last
+
+-- the log has nothing that the record has not, but what the latest scans reported: at most
+-- b + f - 2 scans came after its own
+abbrev pub LacksOnlyYoung : ℕ → ℕ → Settings → Machine → Type 0
+LacksOnlyYoung behind filter settings machine =
+    AllByRecursion (IsYoung behind filter (life_of machine.history))
+    (drop (end_recorded settings machine) (log_of (life_of machine.history)))
+
+-- Like `LacksOnlyYoung`, with blocks counted whole: for some number j of them the record lacks nothing that is more than
+-- j s + m - 1 - f (j b / k) scans old, for k inputs, filters of f, blocks of b that each make up for s scans,
+-- and m scans behind.
+pub record LacksOnlyYoungExactly (settings : Settings) (opened filter scans behind : ℕ) (machine : Machine)
+    : Type 0 where
+  pub blocks : ℕ
+  pub young :
+      AllByRecursion
+      (λ transition. scans_of (life_of machine.history) + 1
+      + filter * (settings.per_block * blocks / opened)
+      ≤ transition.scans + (scans * blocks + behind))
+      (drop (end_recorded settings machine) (log_of (life_of machine.history)))
+
+-- What holds at any time after the newest round, with blocks so many scans behind at most.
+pub record IsLateBy (settings : Settings) (opened filter scans most behind : ℕ) (machine last now : Machine)
+    (later : Life) : Type 0 where
+  pub late : LacksOnlyYoung behind filter settings now
+  pub exactly : LacksOnlyYoungExactly settings opened filter scans behind now
+  -- a new level is recorded b + f - 2 scans after the last of its samples
+  pub levels :
+      RecordsNewLevels (behind + filter) machine now
+      ((loads_of (life_of last.history) ≡ loads_of (life_of machine.history)) × (most + filter ≤ 65537))
+  -- and the module is kept up with, while it is no further behind and few stay open
+  pub keeps_up :
+      (stretch : Life) → behind ≤ most → life_of now.history ≡ stretch ++ (later ++ life_of machine.history)
+      → FewStayOpen opened filter (filter_events (stretch ++ later)) (filter_events (life_of machine.history))
+      → IsKeptUp settings opened filter scans most (life_of machine.history) (stretch ++ later)
+
+-- What has arrived at the end of clean rounds, with blocks so many scans behind at most when the poll so many rounds
+-- earlier was received.
+pub record Arrives (settings : Settings) (first opened filter scans most : ℕ) (behind : ℕ → ℕ)
+    (machine : Machine) (receipts : List Machine) (receipt last : Machine) (later : Life) : Type 0 where
+  pub whole : HasGainedAll settings machine last
+  pub times : HaveTheirTimes settings filter most machine last
+  -- through all that had been logged when the module received the poll of the clean round so many rounds
+  -- earlier, which are as many as blocks that take what may be left
+  pub through :
+      (rounds : ℕ) (earlier : Machine)
+      → opened * (behind rounds + (filter - 1)) ≤ rounds * (settings.per_block * filter)
+      → slice_get receipts rounds ≡ Some earlier
+      → length (log_of (life_of earlier.history)) ≤ end_recorded settings last
+  -- and at any time after it, so many scans after that poll was received
+  pub at :
+      (between : ℕ) (now : Machine) → LeadsInTime settings first between receipt last now
+      → IsLateBy settings opened filter scans most (between + behind 0) machine last now later
+
+-- Where a link is kept up with, all arrives: whole, and late by no more than the blocks are behind.
+abbrev pub AllArrivesWhereKeptUpWith : Settings → ℕ → Machine → Type 0
+AllArrivesWhereKeptUpWith settings first machine =
+    (opened filter scans most : ℕ) (pauses : List Pause) (receipt last : Machine) (later : Life)
+    (kept : IsKeptUpWith settings first opened filter scans most machine pauses receipt last later) →
+    Arrives settings first opened filter scans most (λ rounds. left_behind scans (drop rounds pauses))
+    machine (receipts_of settings first machine pauses receipt last kept.from.rounds) receipt last later
+
+-- Polled in time: the pauses are of at most as many scans as a round makes up for, with at most so many after the CPU
+-- had last taken all: none where no answer is lost.
+pub record IsPolledInTime (settings : Settings) (first opened filter scans untaken : ℕ)
+    (machine : Machine) (pauses : List Pause) (receipt last : Machine) (later : Life) : Type 0 where
+  pub inputs : opened ≤ INPUTS
+  pub few_untaken : untaken ≤ scans
+  pub in_time : AreInTime scans untaken pauses
+  pub from : HasRounds settings first opened filter scans machine pauses receipt last later
+  pub heard_in_time : IsWithin scans receipt last
+
+-- Where a link is polled in time, all arrives in time.
+abbrev pub AllArrivesInTime : Settings → ℕ → Machine → Type 0
+AllArrivesInTime settings first machine = HasRoom settings →
+    (opened filter scans untaken : ℕ) (pauses : List Pause) (receipt last : Machine) (later : Life)
+    (polled : IsPolledInTime settings first opened filter scans untaken machine pauses receipt last later) →
+    Arrives settings first opened filter scans (scans + untaken) (λ rounds. untaken)
+    machine (receipts_of settings first machine pauses receipt last polled.from.rounds) receipt last later
+
+-- An outage within a pace: pauses of no more scans than a round makes up for, and one that is longer.
+-- The longest is as many scans as the blocks may be behind, less those through which a lost answer can
+-- keep a block.
+abbrev pub OutagesArePossible : Type 0
+OutagesArePossible =
+    (scans untaken most : ℕ) (later : List Pause) (outage : Pause) (earlier : List Pause) →
+    AreInTime scans untaken earlier → IsPauseOf (most - untaken) (most - scans) outage →
+    AreInTime scans untaken later → scans + untaken ≤ most →
+    BeginNear scans most (later ++ outage ∷ earlier)
+
+-- Rounds catch up: with pauses of no more scans than a round makes up for, each makes up for the
+-- difference, until the blocks are no more behind than a lost answer keeps them.
+abbrev pub RoundsCatchUp : Type 0
+RoundsCatchUp =
+    (scans pace untaken : ℕ) (later earlier : List Pause) → pace ≤ scans →
+    AreInTime pace untaken later →
+    left_behind scans (later ++ earlier)
+    ≤ max (left_behind scans earlier - length later * (scans - pace)) untaken
+
+-- At the standard limits, with filters of 5: a round makes up for 19 scans, and the blocks may be 76
+-- behind.
+abbrev pub StandardLimitsHaveRoom : ℕ → ℕ → Type 0
+StandardLimitsHaveRoom scans most =
+    (id opened : ℕ) → opened ≤ INPUTS →
+    (opened * scans ≤ (standard_settings id).per_block * 5)
+    × (opened * (most + (5 - 1)) ≤ (standard_settings id).waiting * 5)

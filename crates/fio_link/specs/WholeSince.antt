@@ -1,0 +1,28 @@
+-- What arrives since a settled point, however seldom rounds come: all, unless the buffer was full.
+use Rattle.std.specs.Prelude.{◌≡◌, ℕ, ◌≤◌, ◌++◌}
+use Rattle.fio_module.specs.Settings.{Settings}
+use Rattle.fio_module.specs.Life.{Life, life_of}
+use Rattle.fio_module.specs.Delivery.{AtEachTime, FewBeyond, IsOutage}
+use Rattle.fio_module.specs.FiltersThatDiffer.{IsPolledForEach}
+use Rattle.fio_link.specs.Link.{Machine}
+use Rattle.fio_link.specs.Settled.{IsSettled, LeadsOn, HasGainedAll}
+
+-- What has happened to the module since a settled point, without a restart, is so; then the record has gained all.
+abbrev pub GainsAllWhere : (Settings → Life → Life → Type 0) → Settings → ℕ → Machine → Type 0
+GainsAllWhere IsSo settings first machine = 1 ≤ settings.waiting → IsSettled settings first machine →
+    (now : Machine) (later : Life) → LeadsOn settings first machine now →
+    life_of now.history ≡ later ++ life_of machine.history →
+    IsSo settings (life_of machine.history) later → HasGainedAll settings machine now
+
+-- no more transitions stood beyond the newest block than may wait, at each time of what happened after a life
+abbrev pub StaysFew : Settings → Life → Life → Type 0
+StaysFew settings life later = AtEachTime (λ l. FewBeyond settings (l ++ life)) later
+
+-- an outage for which the buffer has room
+abbrev pub IsRoomyOutage : ℕ → ℕ → Settings → Life → Life → Type 0
+IsRoomyOutage opened filter settings life later = IsOutage settings opened filter life later
+
+-- polled often for each input, where a whole block may wait
+abbrev pub IsOftenForEach : ℕ → Settings → Life → Life → Type 0
+IsOftenForEach scans settings life later =
+    (settings.per_block ≤ settings.waiting) × IsPolledForEach settings scans life later

@@ -1,0 +1,187 @@
+-- What waits where a module is kept up with, each input with its own filters: what the latest scans reported.
+use Rattle.fio_module.proofs.Names.{◌≡◌, ℕ, zero, suc, ◌+◌, ◌-◌, ◌*◌, ◌≤◌, Bool, true, false, [], ◌∷◌, ◌++◌, length, drop, Some, slice_get, refl, ap, sym, ◌∙◌, subst, arith, inl, inr, append_assoc, length-append, length-drop, cases_lt, Poll, ConfigureInputs, scans_in, NoneIsApplied, Settings, Life, Occurrence, Scanned, Commanded, scans_of, filter_events, Transition, log_of, newest_poll, is_new, blocks_of, next_block, newest_end, waiting_from, AtEachTime, scans_behind, IsYoung}
+use Rattle.fio_input.specs.FiltersThatDiffer.{most_reports}
+use Rattle.fio_input.proofs.FiltersThatDiffer.{reports_are_few_of_each, most_reports-more, most_reports-carried}
+use Rattle.fio_module.specs.FiltersThatDiffer.{KeepsUpForEach, IsKeptUpForEach}
+use Rattle.fio_module.proofs.Ages.{scans_in-append, was_logged}
+use Rattle.fio_module.proofs.ExactBounds.{no_scan}
+use Rattle.fio_module.proofs.Growth.{filter_events-append, log-grows}
+use Rattle.fio_module.proofs.ListParts.{each-from_get, get_in_drop}
+use Rattle.fio_module.proofs.Pace.{none_before, none_since, nothing_left}
+use Rattle.fio_module.proofs.Stretches.{blocks_new, behind_new, end_after_block, log-grown}
+
+-- a stretch in two: at most so many of its scans came first
+record Parts (n : ℕ) (since : Life) : Type 0 where
+  new : Life
+  old : Life
+  both : since ≡ new ++ old
+  few : scans_in (filter_events old) ≤ n
+  rest : scans_in (filter_events new) ≤ scans_in (filter_events since) - n
+
+parts : (n : ℕ) (since : Life) → Parts n since
+parts n [] = record { new = []; old = []; both = refl; few = omega arith; rest = omega arith }
+parts n (Scanned raw ∷ since) =
+    let p = parts n since in
+    let few = p.few in
+    let rest = p.rest in
+    elim (cases_lt (scans_in (filter_events since)) n) as (λ _. Parts n (Scanned raw ∷ since)) [
+      | inl short ↦ record { new = []; old = Scanned raw ∷ since; both = refl; few = omega arith; rest = omega arith }
+      | inr long ↦ record { new = Scanned raw ∷ p.new; old = p.old; both = ap (λ l. Scanned raw ∷ l) p.both; few = few; rest = omega arith }
+    ]
+parts n (Commanded (ConfigureInputs items) ∷ since) =
+    let p = parts n since in
+    record { new = Commanded (ConfigureInputs items) ∷ p.new; old = p.old; both = ap (λ l. Commanded (ConfigureInputs items) ∷ l) p.both; few = p.few; rest = p.rest }
+parts n (other ∷ since) =
+    let p = parts n since in
+    record { new = other ∷ p.new; old = p.old; both = ap (λ l. other ∷ l) p.both; few = p.few; rest = p.rest }
+
+module _ (settings : Settings) (scans : ℕ) (life : Life) (enough : most_reports (filter_events life) scans ≤ settings.per_block) where
+  -- so many scans report what a block takes
+  gained : (since before : Life) → NoneIsApplied (filter_events (since ++ before)) → scans_in (filter_events since) ≤ scans
+      → length (log_of (since ++ (before ++ life))) ≤ length (log_of (before ++ life)) + settings.per_block
+  gained since before none few =
+      let rest = before ++ life in
+      let joined = ap (λ es. most_reports es (scans_in (filter_events since))) (filter_events-append before life) in
+      let carried = most_reports-carried (filter_events before) (filter_events life) (scans_in (filter_events since)) (none_before since before none) in
+      let more = most_reports-more (filter_events life) (scans_in (filter_events since)) scans few in
+      elim (cases_lt 0 (scans_in (filter_events since))) as (λ _. length (log_of (since ++ rest)) ≤ length (log_of rest) + settings.per_block) [
+        | inl once ↦
+            let reports = reports_are_few_of_each (filter_events since) (filter_events rest) (none_since since before none) once in
+            omega (arith, log-grows since rest)
+        | inr never ↦ omega (arith, no_scan since rest (omega arith))
+      ]
+
+  -- and so many times as many what so many blocks take
+  gained_in : (blocks : ℕ) (since before : Life) → NoneIsApplied (filter_events (since ++ before)) → scans_in (filter_events since) ≤ blocks * scans
+      → length (log_of (since ++ (before ++ life))) ≤ length (log_of (before ++ life)) + blocks * settings.per_block
+  gained_in zero since before none few = omega (arith, no_scan since (before ++ life) (omega arith))
+  gained_in (suc blocks) since before none few =
+      let p = parts scans since in
+      let more : suc blocks * scans ≡ blocks * scans + scans = grind arith in
+      let many : suc blocks * settings.per_block ≡ blocks * settings.per_block + settings.per_block = grind arith in
+      let fewer = p.rest in
+      let split : since ++ before ≡ p.new ++ (p.old ++ before) = ap (λ l. l ++ before) p.both ∙ append_assoc p.new p.old before in
+      let none_split = subst (λ l. NoneIsApplied (filter_events l)) split none in
+      let first = gained p.old before (none_before p.new (p.old ++ before) none_split) p.few in
+      let rest = gained_in blocks p.new (p.old ++ before) none_split (omega arith) in
+      let whole : length (log_of (since ++ (before ++ life))) ≡ length (log_of (p.new ++ ((p.old ++ before) ++ life))) =
+      ap (λ l. length (log_of l)) (sym (append_assoc since before life) ∙ ap (λ l. l ++ life) split ∙ append_assoc p.new (p.old ++ before) life) in
+      let same : length (log_of ((p.old ++ before) ++ life)) ≡ length (log_of (p.old ++ (before ++ life))) = ap (λ l. length (log_of l)) (append_assoc p.old before life) in
+      omega arith
+
+  -- all that was logged before the latest scans, as many as the blocks are behind, is in blocks
+  record IsTaken (later : Life) : Type 0 where
+    since : Life
+    before : Life
+    split : later ≡ since ++ before
+    ended : length (log_of (before ++ life)) ≤ newest_end settings (later ++ life)
+    scanned : scans_in (filter_events since) ≤ scans_behind scans later life
+
+  taken-other : (later : Life) (occurrence : Occurrence) (t : IsTaken later)
+      → newest_end settings (occurrence ∷ (later ++ life)) ≡ newest_end settings (later ++ life)
+      → scans_in (filter_events (occurrence ∷ t.since)) ≤ scans_behind scans (occurrence ∷ later) life
+      → IsTaken (occurrence ∷ later)
+  taken-other later occurrence t ends few =
+      let old = t.ended in
+      record {
+        since = occurrence ∷ t.since;
+        before = t.before;
+        split = ap (λ l. occurrence ∷ l) t.split;
+        ended = omega arith;
+        scanned = few;
+      }
+
+  taken-poll : (later : Life) (number : ℕ) (new : Bool) → is_new (newest_poll (later ++ life)) number ≡ new
+      → NoneIsApplied (filter_events later) → IsTaken later → IsTaken (Commanded (Poll number) ∷ later)
+  taken-poll later number false is none t =
+      let ends : newest_end settings (Commanded (Poll number) ∷ (later ++ life)) ≡ newest_end settings (later ++ life) = rw is refl in
+      let behind : scans_behind scans (Commanded (Poll number) ∷ later) life ≡ scans_behind scans later life = rw is refl in
+      taken-other later (Commanded (Poll number)) t ends (let few = t.scanned in omega arith)
+  taken-poll later number true is none t =
+      let here = later ++ life in
+      let p = parts scans t.since in
+      let behind = behind_new scans later life number is in
+      let more : length (blocks_of settings (Commanded (Poll number) ∷ here)) ≡ length (blocks_of settings here) + 1 =
+      ap length (blocks_new settings here number is) ∙ length-append (blocks_of settings here) (next_block settings here ∷ []) in
+      let split : later ≡ p.new ++ (p.old ++ t.before) = t.split ∙ ap (λ l. l ++ t.before) p.both ∙ append_assoc p.new p.old t.before in
+      let none_split = subst (λ l. NoneIsApplied (filter_events l)) split none in
+      let first = gained p.old t.before (none_before p.new (p.old ++ t.before) none_split) p.few in
+      let before = p.old ++ t.before in
+      let same : length (log_of (before ++ life)) ≡ length (log_of (p.old ++ (t.before ++ life))) = ap (λ l. length (log_of l)) (append_assoc p.old t.before life) in
+      let whole : here ≡ p.new ++ (before ++ life) = ap (λ l. l ++ life) split ∙ append_assoc p.new before life in
+      let grown = log-grown p.new (before ++ life) in
+      let log_here = ap (λ l. length (log_of l)) whole in
+      let old = t.ended in
+      let few = t.scanned in
+      let rest = p.rest in
+      record {
+        since = Commanded (Poll number) ∷ p.new;
+        before = before;
+        split = ap (λ l. Commanded (Poll number) ∷ l) split;
+        ended = end_after_block settings here (length (log_of (before ++ life))) (omega arith) (omega arith) (Commanded (Poll number) ∷ []) (omega arith);
+        scanned = omega arith;
+      }
+
+  taken : (later : Life) → length (log_of life) ≤ newest_end settings life → NoneIsApplied (filter_events later) → IsTaken later
+  taken [] ends none = record { since = []; before = []; split = refl; ended = ends; scanned = omega arith }
+  taken (Scanned raw ∷ later) ends none =
+      let t = taken later ends none.1 in
+      taken-other later (Scanned raw) t refl (let few = t.scanned in omega arith)
+  taken (Commanded (Poll number) ∷ later) ends none =
+      taken-poll later number (is_new (newest_poll (later ++ life)) number) refl none (taken later ends none)
+  taken (Commanded (ConfigureInputs items) ∷ later) ends none =
+      let t = taken later ends none.1 in
+      taken-other later (Commanded (ConfigureInputs items)) t refl t.scanned
+  taken (other ∷ later) ends none =
+      let t = taken later ends none in
+      taken-other later other t refl t.scanned
+
+  keeps_up : (blocks : ℕ) (later : Life) → blocks * settings.per_block ≤ settings.waiting → length (log_of life) ≤ newest_end settings life
+      → NoneIsApplied (filter_events later) → scans_behind scans later life ≤ blocks * scans → KeepsUpForEach settings scans life later
+  keeps_up blocks later room ends none near =
+      let here = later ++ life in
+      let t = taken later ends none in
+      let none_split = subst (λ l. NoneIsApplied (filter_events l)) t.split none in
+      let whole : here ≡ t.since ++ (t.before ++ life) = ap (λ l. l ++ life) t.split ∙ append_assoc t.since t.before life in
+      let log_here = ap (λ l. length (log_of l)) whole in
+      let few = t.scanned in
+      let old = t.ended in
+      let count = length-drop (waiting_from settings here) (log_of here) in
+      let now = gained_in blocks t.since t.before none_split (omega arith) in
+      record {
+        few_wait = λ n low. let most = gained_in n t.since t.before none_split (omega arith) in omega arith;
+        few_beyond = omega arith;
+        young = each-from_get (IsYoung (scans_behind scans later life) 1 here) (drop (waiting_from settings here) (log_of here))
+            (λ k transition is. of_since t whole (waiting_from settings here + k) transition (omega arith) (get_in_drop (waiting_from settings here) (log_of here) k transition is));
+      }
+    where
+      of_since : (t : IsTaken later) → later ++ life ≡ t.since ++ (t.before ++ life) → (place : ℕ) (transition : Transition)
+          → newest_end settings (later ++ life) ≤ place → slice_get (log_of (later ++ life)) place ≡ Some transition
+          → IsYoung (scans_behind scans later life) 1 (later ++ life) transition
+      of_since t whole place transition high is =
+          let rest = t.before ++ life in
+          let old = t.ended in
+          let w = was_logged t.since rest place transition (omega arith) (subst (λ l. slice_get (log_of l) place ≡ Some transition) whole is) in
+          let parted : scans_in (filter_events t.since) ≡ scans_in (filter_events w.after) + scans_in (filter_events w.upto) =
+          ap (λ l. scans_in (filter_events l)) w.split ∙ scans_in-append w.after w.upto in
+          let counts = ap scans_of whole in
+          let few = t.scanned in
+          elim (cases_lt 0 (scans_in (filter_events w.upto))) as (λ _. IsYoung (scans_behind scans later life) 1 (later ++ life) transition) [
+            | inl once ↦ omega (arith, w.age)
+            | inr never ↦ absurd (omega (arith, w.logged, no_scan w.upto rest (omega arith)))
+          ]
+
+  keeps_each : (blocks : ℕ) (later : Life) → blocks * settings.per_block ≤ settings.waiting → length (log_of life) ≤ newest_end settings life
+      → NoneIsApplied (filter_events later) → AtEachTime (λ l. scans_behind scans l life ≤ blocks * scans) later
+      → AtEachTime (KeepsUpForEach settings scans life) later
+  keeps_each blocks [] room ends none near = keeps_up blocks [] room ends none near
+  keeps_each blocks (occurrence ∷ later) room ends none near =
+      (keeps_up blocks (occurrence ∷ later) room ends none near.0, keeps_each blocks later room ends (none_before (occurrence ∷ []) later none) near.1)
+
+-- so it is at each time
+pub kept_up_for_each : (settings : Settings) (scans blocks : ℕ) (life later : Life) → 1 ≤ settings.waiting
+    → IsKeptUpForEach settings scans blocks life later → AtEachTime (KeepsUpForEach settings scans life) later
+kept_up_for_each settings scans blocks life later some k =
+    let f = k.few_change in
+    let ends = nothing_left settings some life (ap length f.nothing_waits) in
+    keeps_each settings scans life f.enough blocks later k.room (omega arith) f.not_applied k.behind
