@@ -53,10 +53,10 @@ pub fn no_entry_is_broken()
     ensures { NoEntryIsBroken }
 {}
 
-/// Any calls of the exports of one module, of which 1,024 or more entries may wait, with a ring of as many
-/// slots, and of one poller, with frames carried between them in order,
-/// with losses and immediate repeats, are a run of the link: what holds of each run holds of them, and
-/// the record of the run is what `fio2070_poller_hear` has written, one item after the other.
+/// Any calls of the exports of one module, whatever its limits, with its ring, and of one poller, with
+/// frames carried between them in order, with losses and immediate repeats, are a run of the link: what
+/// holds of each run holds of them, and the record of the run is what `fio2070_poller_hear` has written,
+/// one item after the other.
 #[tactic(auto, using(crate::proofs::Calls::calls_are_runs))]
 pub fn calls_are_runs()
     ensures { CallsAreRuns }
