@@ -325,13 +325,13 @@ def over(check, name, command, wanted):
         check.holds(name, status == wanted[0] and wanted[1] in said.splitlines()[-1], said)
 
 
-def served(adapter):
-    """A port at which the adapter serves one connection."""
+def served(*words):
+    """A port at which a command serves one connection."""
     listener = socket.create_server(('127.0.0.1', 0))
 
     def serve():
         with listener, listener.accept()[0] as stream:
-            subprocess.run([adapter], stdin=stream, stdout=stream)
+            subprocess.run(words, stdin=stream, stdout=stream, stderr=subprocess.DEVNULL)
     threading.Thread(target=serve, daemon=True).start()
     return listener.getsockname()[1]
 
@@ -348,6 +348,14 @@ def failing(tester, faulty, fault, asked, said):
     if not text.endswith(' in %d events\n' % EVENTS):
         return text
     return None if time.monotonic() - start < 90 else 'it took too long'
+
+
+def ends_for_good(tester, faulty):
+    """What is wrong with the report of a module that ends, and whose socket can't be connected again."""
+    port = served(faulty, 'wire', 'it ends at 255 items')
+    status, text = run([tester, '--deadline', '500', '--socket', '127.0.0.1:%d' % port, str(EVENTS)])
+    wanted = ["# It can't be asked again: the script is as it was.\n", '\n# asked: frame 33ff', '\n# rule: frame-length, ']
+    return None if status == 3 and all(part in text for part in wanted) else '%d: %s' % (status, text)
 
 
 def now_and_then(tester, adapter):
@@ -390,6 +398,7 @@ def wires(check, room):
     for fault, asked, said in FAILING:
         check.fault('wire: ' + fault, failing, tester, faulty, fault, asked, said)
     check.fault('wire: a difference now and then', now_and_then, tester, adapter)
+    check.fault('wire: a socket that ends', ends_for_good, tester, faulty)
     over(check, 'wire: it hangs at once', [tester, '--deadline', '300', '--command', 'sleep 100', '1000'],
          (3, 'it wrote no line in time'))
     over(check, 'an option before WIRE', [tester, '--first', '--command', adapter], (2, '--first before WIRE '))

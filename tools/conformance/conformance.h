@@ -78,7 +78,7 @@ struct cpu_mix {
     unsigned orderly;      /* scripts in 1,000 with losses alone, as `fio2070 check` supposes */
 };
 
-/* What serves for most. */
+/* What serves for most. With these a run has scripts of edges too; with another mix it has random ones alone. */
 extern const struct mix CONFORMANCE_MIX;
 extern const struct cpu_mix CONFORMANCE_CPU_MIX;
 
