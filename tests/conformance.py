@@ -87,6 +87,7 @@ BY_BOUNDS = ['E is not set', 'a repeat has a new stamp', 'state of an entry is t
 # Faults that come again after their rule was passed over.
 LASTING = [('module', 'a status drops waiting entries'), ('module', 'the 1,025th entry is dropped'),
            ('module', 'entries carry the high half of the counter; filters are 0 at the start'),
+           ('module', 'filtered states are 0 at the start'),
            ('cpu', 'gap marks come with G; states are turned')]
 
 # Modules over a wire that end or hang: the fault, the last line that they were asked, and what is said of it.
@@ -243,7 +244,7 @@ def goes_on(check, program):
     for end, several in LASTING:
         said = run([program, end, several, str(EVENTS)])[1]
         check.holds('a run goes on to its end: ' + several, said.endswith(' in %d events\n' % EVENTS)
-                    and 'the run ended' not in said, said)
+                    and '# rule: ' in said, said)
     for fault in ('watchdog outlasts a restart', 'flags outlast a restart', 'outputs outlast a restart'):
         report = run([program, 'module', fault, '--first'])[1]
         check.holds('a dirty start: ' + fault, report.startswith('# Something outlasts a reset')
