@@ -90,7 +90,7 @@ static int try_script(struct run *run) {
     }
     run->script.length = length;
     conformance_settle(run);
-    return !run->options->stops && !result->is_lost && !result->has_failed;
+    return !run->options->stops && !result->has_failed;
 }
 
 /* ---- Runs ---- */

@@ -78,7 +78,7 @@ struct cpu_mix {
     unsigned orderly;      /* scripts in 1,000 with losses alone, as `fio2070 check` supposes */
 };
 
-/* What serves for most. */
+/* What serves for most. With these a run has scripts of edges too; with another mix it has random ones alone. */
 extern const struct mix CONFORMANCE_MIX;
 extern const struct cpu_mix CONFORMANCE_CPU_MIX;
 
@@ -136,8 +136,8 @@ struct result {
     struct rule_set also_left_out;          /* since a difference could not be told from those before */
     unsigned differences, reports;
     int has_failed; /* the end under test can't be asked any more, and the run ended */
-    int is_lost;    /* differences in the rule `lost` could not be told from those before, and the run ended */
-    enum rule lost;
+    struct rule_set untold;     /* rules with differences that could not be told from those before */
+    unsigned long untold_count; /* of these differences */
 };
 
 /* Runs random scripts, writes each rule in which a difference is found with its script, and goes on without what

@@ -170,8 +170,11 @@ static void write_left_out(const struct result *result) {
         if (!conformance_has(&result->also_left_out, (enum rule)rule)) continue;
         printf("left out too, to go on after a difference: %s\n", CONFORMANCE_RULE_ROWS[rule].name);
     }
-    if (!result->is_lost) return;
-    printf("the run ended: differences in %s could not be told from those above\n", CONFORMANCE_RULE_ROWS[result->lost].name);
+    for (rule = 0; rule < RULES; rule++) {
+        if (!conformance_has(&result->untold, (enum rule)rule)) continue;
+        printf("could not be told from those above: %s\n", CONFORMANCE_RULE_ROWS[rule].name);
+    }
+    if (result->untold_count > 0) printf("differences that could not be told from others: %lu\n", result->untold_count);
 }
 
 static int run(const struct ends *ends, struct words *words) {

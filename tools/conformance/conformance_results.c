@@ -79,7 +79,7 @@ static unsigned count_cases(const struct result *result, enum rule_end end, cons
 void conformance_junit(const struct result *result, enum rule_end end, const struct rule_set *excepted, FILE *kept,
                        FILE *out) {
     const char *name = end == AT_MODULE ? "module" : "CPU";
-    int has_error = result->has_failed || result->is_lost, rule;
+    int has_error = result->has_failed, rule;
     unsigned skipped, cases = count_cases(result, end, excepted, &skipped);
     fputs("<?xml version=\"1.0\" encoding=\"UTF-8\"?>\n", out);
     fprintf(out, "<testsuite name=\"fio2070 %s\" tests=\"%u\" failures=\"%u\" skipped=\"%u\" errors=\"%d\">\n", name,

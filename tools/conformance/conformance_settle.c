@@ -6,7 +6,7 @@
 enum {
     TRIES = 3,      /* how often a difference is looked for again */
     MOST_ONCE = 3,  /* after so many differences in a rule that did not come again, one is looked for again once */
-    MOST_UNTOLD = 5 /* after so many differences that could not be told from others the run ends */
+    MOST_UNTOLD = 5 /* after so many differences that could not be told from others they are counted alone */
 };
 
 /* ---- Once more ---- */
@@ -242,9 +242,10 @@ static void tell_apart(struct run *run, enum rule rule) {
     if (other != RULES) {
         conformance_put(&run->ends.left_out, other);
         conformance_put(&run->result->also_left_out, other);
-    } else if (++run->untold == MOST_UNTOLD) {
-        run->result->is_lost = 1;
-        run->result->lost = rule;
+    } else {
+        run->untold_fields |= run->difference.fields;
+        conformance_put(&run->result->untold, rule);
+        run->result->untold_count++;
     }
 }
 
@@ -263,6 +264,10 @@ void conformance_settle(struct run *run) {
     int fails = run->difference.failure[0] != '\0';
     remark said;
     enum rule rule;
+    if (result->untold_count >= MOST_UNTOLD && (run->difference.fields & ~run->untold_fields) == 0) {
+        result->untold_count++;
+        return;
+    }
     hurry(run, TRIAL);
     said = shrink(run);
     hurry(run, NO_TRIAL);

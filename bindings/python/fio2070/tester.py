@@ -32,7 +32,8 @@ class _Mixed(ctypes.Structure):
 
 
 class Mix(_Mixed):
-    """How often each comes in 1,000 events, the rest being scans; `overflows` in 1,000 scripts."""
+    """How often each comes in 1,000 events, the rest being scans; `overflows` in 1,000 scripts. With a mix of one's own a
+    run has random scripts alone, without those of edges."""
     _fields_ = [(name, c_uint) for name in ('polls', 'repeats', 'out_of_sequence', 'configurations', 'others', 'syncs',
                                             'hostile', 'restarts', 'overflows', 'calm', 'steady')]
 
