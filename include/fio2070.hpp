@@ -218,13 +218,6 @@ public:
         if (frame && frame->empty()) frame.reset();
         return frame;
     }
-    /// The same, and none too where there is nothing such.
-    template <typename Write>
-    static std::optional<Frame> of_some(Write write) {
-        std::optional<Frame> frame = of(write);
-        if (frame && frame->size_ > frame->octets_.size()) frame.reset();
-        return frame;
-    }
 
 private:
     std::array<std::uint8_t, FIO2070_LONGEST_FRAME> octets_{};

@@ -107,7 +107,7 @@ static int reads_answer(const uint8_t *octets, size_t length, uint8_t *text_end)
 static int says_block(const struct fio2070_heard *heard, const uint8_t *octets, size_t length) {
     struct fio2070_block_header header;
     memset(&header, 0, sizeof header);
-    fio2070_read_block(octets, length, &header);
+    if (fio2070_read_block(octets, length, &header).kind != FIO2070_FAULT_NONE) memset(&header, 0, sizeof header);
     return heard->number == header.number && heard->stamp == header.stamp;
 }
 

@@ -232,9 +232,9 @@ fn codes_have_words() {
         items: 4,
     };
     assert_eq!(taken.to_string(), "block entries 3 status 0c");
-    assert_eq!(Heard::Stale(4).to_string(), "stale 4");
+    assert_eq!(Heard::Stale { number: 4, stamp: 0 }.to_string(), "stale 4");
     assert_eq!(Heard::Other(177).to_string(), "other 177");
-    assert_eq!(Heard::NoRoom(256).to_string(), "no room needed 256");
+    assert_eq!(Heard::NoRoom { number: 0, stamp: 0, items: 256 }.to_string(), "no room needed 256");
     let fault = decode_command(&[0x33]).unwrap_err();
     assert_eq!(
         Heard::Unreadable(fault).to_string(),
