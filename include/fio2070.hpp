@@ -367,12 +367,12 @@ public:
     /// The breach of a frame: its rule is 0 where the frame keeps the rules.
     ::fio2070_breach sent(Octets octets) {
         ::fio2070_breach breach;
-        ::fio2070_checker_sent(&checker_, octets.data(), octets.size(), &breach);
+        breach.rule = ::fio2070_checker_sent(&checker_, octets.data(), octets.size(), &breach);
         return breach;
     }
     ::fio2070_breach heard(Octets octets) {
         ::fio2070_breach breach;
-        ::fio2070_checker_heard(&checker_, octets.data(), octets.size(), &breach);
+        breach.rule = ::fio2070_checker_heard(&checker_, octets.data(), octets.size(), &breach);
         return breach;
     }
 
@@ -389,7 +389,7 @@ public:
     /// The first entry of a block that breaks a rule: its rule is 0 where none does.
     ::fio2070_content_breach heard(Octets octets) {
         ::fio2070_content_breach breach;
-        ::fio2070_content_heard(&content_, octets.data(), octets.size(), &breach);
+        breach.rule = ::fio2070_content_heard(&content_, octets.data(), octets.size(), &breach);
         return breach;
     }
 

@@ -100,17 +100,18 @@ size_t fio2070_fault_text(const struct fio2070_fault *fault, char *text, size_t 
 }
 
 size_t fio2070_heard_text(const struct fio2070_heard *heard, char *text, size_t room) {
-    uint8_t octets[24] = {0};
+    uint8_t octets[32] = {0};
     MACHINE(fio2070_heard_text);
     octets[0] = heard->kind;
     octets[1] = heard->code;
     octets[2] = heard->number;
     octets[3] = heard->status;
-    octets[4] = heard->entries;
-    put16(octets + 6, heard->items);
-    put_fault(octets + 8, &heard->fault);
+    put32(octets + 4, heard->stamp);
+    put16(octets + 8, heard->items);
+    octets[10] = heard->entries;
+    put_fault(octets + 16, &heard->fault);
     {
-        uint64_t a = READS(octets, 24), b = WRITES(text, room);
+        uint64_t a = READS(octets, 32), b = WRITES(text, room);
         return (size_t)call_fio2070_heard_text(&machine, a, b, room);
     }
 }

@@ -1,7 +1,6 @@
 """Clauses: each clause of each public call of the libraries has a wrong body that it refuses, or a wrong statement where it
 is a law, whose body is empty, or says of the arguments alone what holds of them. The line `refused-by:` of a stanza names
-it; that it is refused so is tried by `wrong-bodies/try`. `unguarded.txt` lists the clauses that still lack theirs: a line
-goes when its stanza comes."""
+it; that it is refused so is tried by `wrong-bodies/try`."""
 
 import os
 import re
@@ -67,19 +66,17 @@ def named_clauses(crate):
 
 
 def rows(check):
-    """Looks for a stanza of each clause that is not listed, for none of those that are, and for each clause that a stanza or
-    a list names. What has a blank in its name is no clause of a contract."""
-    listed = text_of('tests/support/texts/unguarded.txt').splitlines()
-    left = set(listed + ALONE)
+    """Looks for a stanza of each clause, and for each clause that a stanza or ALONE names. What has a blank in its name is no
+    clause of a contract."""
+    left = set(ALONE)
     for crate in libraries():
         public, named = public_clauses(crate), set(named_clauses(crate))
         for short, clause in sorted((short, clause) for short in public for clause in public[short]):
             line = '%s: %s, %s' % (crate, short, clause)
             is_guarded = (short, clause) in named or line in ALONE
-            check.holds('a wrong body for ' + line, is_guarded != (line in listed),
-                        'a stanza and a line of unguarded.txt' if is_guarded else 'none')
+            check.holds('a wrong body for ' + line, is_guarded, 'none')
             left.discard(line)
         gone = {'%s: %s, %s' % (crate, *one) for one in named
                 if one[1] not in public.get(one[0], [one[1]]) and (' ' not in one[1] or not public[one[0]])}
         check.holds('%s: the clauses that its wrong bodies name' % crate, not gone, 'not there: %s' % '; '.join(sorted(gone)))
-    check.holds('the clauses that are listed', not left, 'not there: %s' % '; '.join(sorted(left)))
+    check.holds('the clauses that no body breaks', not left, 'not there: %s' % '; '.join(sorted(left)))

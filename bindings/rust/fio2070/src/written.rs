@@ -21,7 +21,8 @@ impl fmt::Display for Unwritten {
     }
 }
 
-impl core::error::Error for Unwritten {}
+#[cfg(feature = "std")]
+impl std::error::Error for Unwritten {}
 
 /// What a call wrote that returns how many there are to write.
 pub(crate) fn front<T>(
