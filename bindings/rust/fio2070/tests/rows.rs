@@ -227,6 +227,8 @@ fn codes_have_words() {
     );
     assert_eq!(content_rule_text(4, &mut out), Ok(""));
     let taken = Heard::Taken {
+        number: 5,
+        stamp: 0,
         entries: 3,
         status: 0x0c,
         items: 4,
