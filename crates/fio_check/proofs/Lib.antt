@@ -1,11 +1,15 @@
 pub mod Names
 pub mod FirstFound
+pub mod InputSets
+pub mod KeptInputs
 pub mod Places
 pub mod KeptFacts
 pub mod Verdicts
-pub mod BreachesSoFar
-pub mod Checkers
+pub mod Differing
 pub mod KeptContent
 pub mod ContentPlaces
+pub mod ContentNext
 pub mod ContentCourse
 pub mod ContentFound
+pub mod BreachesSoFar
+pub mod Checkers

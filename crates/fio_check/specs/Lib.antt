@@ -12,6 +12,7 @@ pub mod Laws
 pub mod ContentEvents
 pub mod ContentAbove
 pub mod ContentRules
+pub mod ContentFacts
 pub mod ContentCheckers
 pub mod ContentKept
 pub mod ContentLaws

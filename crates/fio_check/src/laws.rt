@@ -2,10 +2,10 @@
 //! nothing.
 ghost use Rattle.std.specs.Prelude.{◌≡◌, ℕ, List, option_map};
 ghost use Rattle.fio_check.specs.Checkers.{GoesOn, verdict_of_checker};
-ghost use Rattle.fio_check.specs.ContentCheckers.{entry_found, found_first, nothing_kept};
+ghost use Rattle.fio_check.specs.ContentCheckers.{fault_found, found_first, nothing_kept};
 ghost use Rattle.fio_check.specs.ContentEvents.{LineEvent};
 ghost use Rattle.fio_check.specs.ContentLaws.{KeepsContent};
-ghost use Rattle.fio_check.specs.ContentRules.{broken_entry_in};
+ghost use Rattle.fio_check.specs.ContentRules.{content_fault_in};
 ghost use Rattle.fio_check.specs.Facts.{is_answering, number_polled, status_of_block};
 ghost use Rattle.fio_check.specs.Laws.{HasOneVerdict, IsTheLatest, KeepsFacts};
 ghost use Rattle.fio_check.specs.Lines.{TranscriptLine};
@@ -51,9 +51,9 @@ pub fn content_is_kept()
     ensures { (events : List LineEvent) → KeepsContent events }
 {}
 
-/// What a checker of the rules on content finds first is the first entry of the transcript's record that breaks one.
-#[tactic(auto, using(crate::proofs::ContentFound::finds_the_broken_entry))]
-pub fn content_checkers_find_the_broken_entry()
+/// What a checker of the rules on content finds first is the first fault of the transcript.
+#[tactic(auto, using(crate::proofs::ContentFound::finds_the_fault))]
+pub fn content_checkers_find_the_fault()
     ensures { (lines : List TranscriptLine)
-        → found_first nothing_kept lines ≡ option_map entry_found (broken_entry_in lines) }
+        → found_first nothing_kept lines ≡ option_map fault_found (content_fault_in lines) }
 {}

@@ -27,8 +27,12 @@
 mod checker;
 mod content;
 mod content_above;
+mod content_inputs;
+mod content_judging;
 mod content_rules;
+mod content_times;
 mod facts;
+mod input_sets;
 pub mod laws;
 mod line;
 mod observation;
@@ -37,7 +41,7 @@ mod verdict;
 
 pub use checker::{Breach, Checker, Due};
 pub use content::{ContentBreach, ContentChecker};
-pub use content_rules::ContentRule;
+pub use content_rules::{BrokenRule, ContentRule};
 pub use facts::Facts;
 pub use line::Line;
 pub use observation::Observation;

@@ -7,7 +7,7 @@ ghost use Rattle.fio_tool.specs.Recordings.{broken_entry_of, entry_of_item};
 use super::check::{report_of_bad_line, report_of_verdict};
 use super::{is_too_long, report_too_long};
 use crate::transcript::{BrokenItem, Recording, TraceError, record_lines};
-use fio_check::{ContentRule, Verdict};
+use fio_check::Verdict;
 use fio_cpu::Item;
 use fio_message::Memory;
 use fio_show::push_items;
@@ -92,18 +92,12 @@ fn push_broken_line(text: &mut Vec<u8>, broken: BrokenItem) -> Result<(), AllocE
         ≡ text.old.items ++ broken_entry_line (entry_of_item items broken)) }
 {
     let line = broken.line as u64;
-    let input = broken.input;
-    match broken.rule {
-        ContentRule::Order => {
-            push_line!(text; b"line " {line} b" input " {input} b" breaks order\n")
-        }
-        ContentRule::Alternate => {
-            push_line!(text; b"line " {line} b" input " {input} b" breaks alternate\n")
-        }
-        ContentRule::Apart => {
-            push_line!(text; b"line " {line} b" input " {input} b" breaks apart\n")
-        }
+    match broken.input {
+        Some(input) => push_line!(text; b"line " {line} b" input " {input} b" breaks ")?,
+        None => push_line!(text; b"line " {line} b" breaks ")?,
     }
+    text.extend_from_slice(broken.rule.name().as_bytes())?;
+    text.extend_from_slice(b"\n")
 }
 
 /// Appends the lines for a record.
