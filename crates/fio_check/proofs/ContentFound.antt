@@ -1,8 +1,11 @@
 -- What a checker of the rules on content finds first is the first fault of the transcript.
-use Rattle.fio_check.proofs.Names.{◌≡◌, ◌∙◌, ℕ, List, [], ◌∷◌, ◌++◌, length, drop, Option, Some, None, refl, sym, ap, ap₂, arith, length-drop, option_map, flat_map, option_or, Item, ContentFacts, content_with, ContentKept, breach_among, breach_below, breach_found, fault_found, found_first, found_on, items_below, kept_with, nothing_kept, ContentEvent, LineEvent, events_below, events_in, events_of_lines, item_of_event, TranscriptLine, earliest_above}
+use Rattle.fio_check.proofs.Names.{◌≡◌, ◌∙◌, Block, block_answer, gap_if, items_of_block, events_of_block, Sent, Heard, Ended, items_and_end, ℕ, Bool, true, false, List, [], ◌∷◌, ◌++◌, length, drop, Option, Some, None, refl, sym, ap, ap₂, arith, length-drop, option_map, flat_map, option_or, Item, ContentFacts, content_with, ContentKept, breach_among, breach_below, breach_found, fault_found, found_first, found_on, items_below, kept_at_start, kept_with, no_content, ContentEvent, LineEvent, events_above, events_below, events_in, events_of_lines, events_of_log, item_of_event, TranscriptLine, earliest_above}
+use Rattle.fio_message.specs.Status.{says_again, says_error}
+use Rattle.fio_message.specs.declared.answers.Answer.TheVariants as answers
 use Rattle.fio_check.specs.ContentRules.{ContentFault, content_fault_at, content_fault_in, fault_of, rule_broken_by}
 use Rattle.fio_check.specs.declared.content_rules.BrokenRule.{BrokenRule}
 use Rattle.fio_check.proofs.ContentCourse.{IsContentCourse, broken_among, broken_by, first_course, frame_course}
+use Rattle.fio_check.proofs.ContentStart.{block_at_start, command_at_start, no_again, no_error, no_lost}
 use Rattle.fio_check.proofs.KeptContent.{option_or-none, option_or_assoc}
 
 map-or : {A B : Type 0} (f : A → B) (a b : Option A) → option_map f (option_or a b) ≡ option_or (option_map f a) (option_map f b)
@@ -42,5 +45,37 @@ found-lines (line ∷ lines) all place kept items broken left course =
     ∙ option_or_assoc (option_map fault_found broken) (option_map fault_found here) (found_first below lines)
     ∙ ap (λ found. option_or (option_map fault_found broken) (option_or found (found_first below lines))) (found-among events kept.facts items line.number 0)
 
-pub finds_the_fault : (lines : List TranscriptLine) → found_first nothing_kept lines ≡ option_map fault_found (content_fault_in lines)
-finds_the_fault lines = sym (found-lines lines (events_of_lines lines) 0 nothing_kept [] None refl (first_course (events_of_lines lines)))
+-- an event that breaks none, and others
+none-more : (facts : ContentFacts) (items : List Item) (line : ℕ) (event : ContentEvent) (events : List ContentEvent) → rule_broken_by facts event ≡ None
+    → broken_among (content_with facts event) (items ++ item_of_event event) line events ≡ None → broken_among facts items line (event ∷ events) ≡ None
+none-more facts items line event events none rest = ap₂ option_or (ap (option_map (fault_of line items)) none) rest
+
+taken-breaks-none : (facts : ContentFacts) (status : ℕ) → says_error status ≡ false → facts.loaded ≡ false → rule_broken_by facts (Heard (answers.ConfigureInputs status)) ≡ None
+taken-breaks-none facts status taken unloaded = rw (taken, unloaded) refl
+
+block-breaks-none : (facts : ContentFacts) (block : Block) → says_again block.status ≡ false → facts.loaded ≡ false → facts.clock ≡ None → rule_broken_by facts (Heard (block_answer block)) ≡ None
+block-breaks-none facts block first unloaded none = rw (unloaded, first, none) refl
+
+-- the events above the first line break no rule
+start-breaks-none : (begun : Bool) → broken_among no_content [] 0 (events_above begun) ≡ None
+start-breaks-none false = refl
+start-breaks-none true =
+    let sent = content_with no_content (Sent command_at_start) in
+    let taken = content_with sent (Heard (answers.ConfigureInputs 0)) in
+    let heard = content_with taken (Heard (block_answer block_at_start)) in
+    let end = items_and_end (items_of_block block_at_start) 0 0 in
+    none-more no_content [] 0 (Sent command_at_start) (Heard (answers.ConfigureInputs 0) ∷ events_of_block block_at_start) refl
+    (none-more sent [] 0 (Heard (answers.ConfigureInputs 0)) (events_of_block block_at_start) (taken-breaks-none sent 0 no_error refl)
+    (none-more taken [] 0 (Heard (block_answer block_at_start)) end (block-breaks-none taken block_at_start no_again refl refl)
+    (ap (λ lost. broken_among heard [] 0 (items_and_end (gap_if lost ++ []) 0 0)) no_lost ∙ none-more heard [] 0 (Ended 0 0) [] refl refl)))
+
+start-records-none : (begun : Bool) → flat_map item_of_event (events_above begun) ≡ []
+start-records-none false = refl
+start-records-none true = rw no_lost refl
+
+pub finds_the_fault : (begun : Bool) (lines : List TranscriptLine) → found_first (kept_at_start begun) lines ≡ option_map fault_found (content_fault_in begun lines)
+finds_the_fault begun lines =
+    let all = events_of_log begun lines in
+    let reached = frame_course (events_above begun) all (events_of_lines lines) 0 0 no_content [] None refl (first_course all) in
+    let items = start-records-none begun in
+    sym (found-lines lines all reached.place (kept_at_start begun) [] None reached.left (rw (items, start-breaks-none begun) at reached.course))

@@ -1,15 +1,17 @@
 -- What the fields of the checker of the rules on content stand for of one input, with one thing more.
 use Rattle.fio_check.proofs.Names.{◌≡◌, ◌<◌, ◌∙◌, ℕ, zero, suc, inl, inr, Bool, true, false, List, [], ◌∷◌, Some, None, refl, sym, ap, ap₂, arith, get_or, replicate, ◌==◌, not, nat_lt, nat_tests, if◌then◌else◌, eqb_tells, is_set}
-use Rattle.std.specs.Prelude.{◌&&◌, ◌||◌, ◌^◌}
+use Rattle.std.specs.Prelude.{◌&&◌, ◌||◌, ◌^◌, ◌-◌, ◌≤◌}
 use Rattle.std.proofs.Common.{w64}
 use Rattle.std.proofs.Math.Path.{fun_ext}
 use Rattle.std.specs.Int.Bits.{bit_and, bit_or}
 use Rattle.std.specs.Int.{bit_not}
-use Rattle.fio_message.proofs.Bits.{is_set-and, is_set-or, is_set-zero}
+use Rattle.std.proofs.lemmas.Bool.Decides.{leb_tells}
+use Rattle.fio_message.proofs.Bits.{is_set-above, is_set-and, is_set-ones, is_set-or, is_set-zero}
 use Rattle.fio_message.specs.declared.fields.InputItem.{InputItem}
+use Rattle.fio_input.specs.declared.filters.TheConstants.{DEFAULT_FILTER}
 use Rattle.fio_message.specs.declared.limits.TheConstants.{INPUTS}
 use Rattle.fio_check.specs.ContentAbove.{ContentFacts, FilterPair, InputAbove, SentItem, are_some, filters_of, ignores, items_for, lesser, opens}
-use Rattle.fio_check.specs.ContentFacts.{input_below_clear, input_with_answer, input_with_items, no_input, settled_now, with_items}
+use Rattle.fio_check.specs.ContentFacts.{input_begun, input_below_clear, input_with_answer, input_with_items, no_input, settled_now, with_items}
 use Rattle.fio_check.specs.ContentKept.{filters_in, input_kept, item_in}
 use Rattle.fio_check.specs.declared.content_inputs.ContentInputs.{ContentInputs}
 use Rattle.fio_check.proofs.InputSets.{without}
@@ -76,6 +78,50 @@ pub nothing_kept : (times leading trailing least_leading least_trailing : List �
       least_trailing = least_trailing;
     }) input ≡ no_input
 nothing_kept times leading trailing least_leading least_trailing input a b = rw (is_set-zero input, a, b) refl
+
+replicated-within : (n value place none : ℕ) → place < n → ◌≡◌ {A = ℕ} (get_or (replicate n value) place none) value
+replicated-within zero value place none within = absurd (omega (arith, within))
+replicated-within (suc n) value zero none within = refl
+replicated-within (suc n) value (suc place) none within = replicated-within n value place none (omega (arith, within))
+
+-- both ends begin
+module _ (times : List ℕ) (filter input : ℕ) (filter_is : filter ≡ DEFAULT_FILTER) where
+  abbrev begun : ContentInputs
+  begun = record {
+    named = 0;
+    sent = 2 ^ 64 - 1;
+    ignoring = 2 ^ 64 - 1;
+    taken = 2 ^ 64 - 1;
+    settled = 2 ^ 64 - 1;
+    hidden = 0;
+    shut = 2 ^ 64 - 1;
+    levels = 0;
+    watched = 0;
+    timed = 0;
+    times = times;
+    leading = replicate 64 filter;
+    trailing = replicate 64 filter;
+    least_leading = replicate 64 1;
+    least_trailing = replicate 64 1;
+  }
+
+  begun-below : input < 64 → input_kept begun input ≡ input_begun
+  begun-below within = rw (is_set-zero input, is_set-ones input within, replicated-within 64 filter input 1 within, filter_is) refl
+
+  begun-above : 64 ≤ input → input_kept begun input ≡ no_input
+  begun-above above = rw (is_set-zero input, is_set-above (2 ^ 64 - 1) 64 input (omega arith) above, replicated 64 1 input) refl
+
+  pub begun_kept : input_kept begun input ≡ (if nat_lt input INPUTS then input_begun else no_input)
+  begun_kept = elim (leb_tells 64 input) as (λ _. input_kept begun input ≡ (if nat_lt input INPUTS then input_begun else no_input)) [
+    | inl above ↦ rw (not-below input 64 above.1) (begun-above above.1)
+    | inr below ↦ rw (is-below input 64 below.1) (begun-below below.1)
+  ]
+    where
+      is-below : (a b : ℕ) → a < b → nat_lt a b ≡ true
+      is-below a b within = grind (arith, nat_tests)
+
+      not-below : (a b : ℕ) → b ≤ a → nat_lt a b ≡ false
+      not-below a b above = grind (arith, nat_tests)
 
 -- an answer that a configuration was taken
 pub answer_taken : (old : ContentInputs) (input : ℕ)

@@ -9,6 +9,7 @@ pub mod Differing
 pub mod KeptContent
 pub mod ContentPlaces
 pub mod ContentNext
+pub mod ContentStart
 pub mod ContentCourse
 pub mod ContentFound
 pub mod BreachesSoFar

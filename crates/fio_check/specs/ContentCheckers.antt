@@ -2,7 +2,7 @@
 use Rattle.std.specs.Prelude.{ℕ, ◌+◌, Bool, List, [], ◌∷◌, Option, None, fold, length, option_map}
 use Rattle.std.specs.Option.{option_or}
 use Rattle.fio_check.specs.ContentAbove.{ContentFacts}
-use Rattle.fio_check.specs.ContentEvents.{ContentEvent, events_in, item_of_event, number_below}
+use Rattle.fio_check.specs.ContentEvents.{ContentEvent, events_above, events_in, item_of_event, number_below}
 use Rattle.fio_check.specs.ContentFacts.{content_with, no_content}
 use Rattle.fio_check.specs.ContentRules.{ContentFault, rule_broken_by}
 use Rattle.fio_check.specs.Lines.{TranscriptLine}
@@ -15,9 +15,9 @@ pub record ContentKept : Type 0 where
   pub number : Option ℕ
   pub facts : ContentFacts
 
--- above the first frame
-abbrev pub nothing_kept : ContentKept
-nothing_kept = record { number = None; facts = no_content }
+-- above the first frame, by whether the frames begin with both ends
+abbrev pub kept_at_start : Bool → ContentKept
+kept_at_start begun = record { number = None; facts = fold content_with no_content (events_above begun) }
 
 -- a rule that is broken, below this many items of its frame
 abbrev pub breach_below : ℕ → BrokenRule → ContentBreach

@@ -1,13 +1,16 @@
 -- What the rules on content read of a transcript: its events, in order. They are those of a CPU's end that starts at the
 -- first poll with the number of that poll, takes each block answer with its number, and then goes on to the next
 -- number.
-use Rattle.std.specs.Prelude.{ℕ, ◌+◌, ◌%◌, ◌==◌, Bool, List, [], ◌∷◌, ◌++◌, map, Option, Some, None, option_map, slice_get, if◌then◌else◌}
+use Rattle.std.specs.Prelude.{ℕ, zero, suc, ◌+◌, ◌%◌, ◌==◌, Bool, true, List, [], ◌∷◌, ◌++◌, map, Option, Some, None, option_map, slice_get, if◌then◌else◌}
 use Rattle.std.specs.List.{flat_map}
 use Rattle.fio_message.specs.Blocks.{Block, block_answer}
 use Rattle.fio_message.specs.declared.answers.Answer.{Answer}
 use Rattle.fio_message.specs.declared.answers.Answer.TheVariants as answers
 use Rattle.fio_message.specs.declared.commands.Command.{Command}
 use Rattle.fio_message.specs.declared.commands.Command.TheVariants as commands
+use Rattle.fio_message.specs.declared.fields.InputItem.{InputItem}
+use Rattle.fio_message.specs.declared.limits.TheConstants.{INPUTS}
+use Rattle.fio_input.specs.declared.filters.TheConstants.{DEFAULT_FILTER}
 use Rattle.fio_cpu.specs.Record.{items_of_block}
 use Rattle.fio_cpu.specs.declared.record.Item.{Item}
 use Rattle.fio_check.specs.Lines.{TranscriptLine, command_from, answer_from}
@@ -97,6 +100,34 @@ events_below number (line ∷ lines) =
 -- the events of a transcript
 abbrev pub events_of_lines : List TranscriptLine → List LineEvent
 events_of_lines lines = events_below None lines
+
+-- ---- a log that begins with both ends
+
+-- an item as an input stands at the start of a module: ignored, with the filters of the start
+abbrev pub item_at_start : ℕ → InputItem
+item_at_start input =
+    record { input = input; ignore = true; leading = DEFAULT_FILTER; trailing = DEFAULT_FILTER }
+
+-- such an item of each input below a number
+unfoldable pub items_at_start : ℕ → List InputItem
+items_at_start zero = []
+items_at_start (suc input) = items_at_start input ++ (item_at_start input ∷ [])
+
+-- what stands above the first line for the start of both ends: each input is configured as it is at the start of a module,
+-- and that is taken; and a clear block without entries is taken, at the time 0
+abbrev pub events_at_start : List ContentEvent
+events_at_start = Sent (commands.ConfigureInputs (record { items = items_at_start INPUTS }))
+    ∷ (Heard (answers.ConfigureInputs 0)
+    ∷ events_of_block (record { number = 0; entries = []; status = 0; stamp = 0 }))
+
+-- the events above the first line: none where a log begins later than both ends
+abbrev pub events_above : Bool → List ContentEvent
+events_above begun = if begun then events_at_start else []
+
+-- the events of a log, by whether it begins with both ends
+abbrev pub events_of_log : Bool → List TranscriptLine → List LineEvent
+events_of_log begun lines =
+    map (λ event. record { line = 0; event = event }) (events_above begun) ++ events_of_lines lines
 
 -- the event at a place, where there is one; the first has place 0
 abbrev pub content_event_at : List LineEvent → ℕ → Option ContentEvent

@@ -7,8 +7,8 @@ use Rattle.fio_message.specs.declared.commands.Command.{Command}
 use Rattle.fio_message.specs.declared.fields.InputItem.{InputItem}
 use Rattle.fio_message.specs.declared.limits.TheConstants.{INPUTS}
 use Rattle.fio_cpu.specs.declared.record.Item.TheVariants.{Entry, Gap}
-use Rattle.fio_check.specs.ContentAbove.{ContentFacts, InputAbove, Seen, SentItem, accepts_items, are_some, comes_to, flags_cleared, floor_of, ignores, is_clear_end, is_loading, is_set_dog, items_for, items_sent, last_item, least_of, one_sample, opens, stamp_of, states_heard}
-use Rattle.fio_check.specs.ContentEvents.{ContentEvent, Sent, Heard, Recorded, Ended}
+use Rattle.fio_check.specs.ContentAbove.{ContentFacts, InputAbove, Seen, SentItem, accepts_items, are_some, comes_to, filters_of, flags_cleared, floor_of, ignores, is_clear_end, is_loading, is_set_dog, item_kept, items_for, items_sent, last_item, least_of, one_sample, opens, stamp_of, states_heard}
+use Rattle.fio_check.specs.ContentEvents.{ContentEvent, Sent, Heard, Recorded, Ended, item_at_start}
 use Rattle.fio_check.specs.Observations.{names_absent}
 
 -- nothing is above of an input
@@ -158,3 +158,23 @@ content_with facts (Ended status stamp) =
       seen = seen_below (Ended status stamp) facts.seen;
     } in
     if is_clear_end (Ended status stamp) then below_clear ended else ended
+
+-- ---- both ends begin
+
+-- an input that was configured at the start, and settled
+abbrev pub input_begun : InputAbove
+input_begun = record no_input {
+  item = Some (item_kept (item_at_start 0));
+  taken = true;
+  shut = true;
+  least = filters_of (item_at_start 0);
+}
+
+-- what is above the first line where both ends begin
+abbrev pub content_begun : ContentFacts
+content_begun = record no_content {
+  clock = Some 0;
+  clear = true;
+  floor = Some (record { time = 0; input = None });
+  inputs = λ input. if nat_lt input INPUTS then input_begun else no_input;
+}

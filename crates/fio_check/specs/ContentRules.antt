@@ -13,7 +13,7 @@ use Rattle.fio_message.specs.declared.limits.TheConstants.{INPUTS}
 use Rattle.fio_cpu.specs.declared.record.Item.{Item}
 use Rattle.fio_cpu.specs.declared.record.Item.TheVariants.{Entry}
 use Rattle.fio_check.specs.ContentAbove.{ContentFacts, FilterPair, Floor, InputAbove, Seen, TimedState, comes_to, content_at, is_before, is_later, milliseconds_between, stamp_of}
-use Rattle.fio_check.specs.ContentEvents.{ContentEvent, LineEvent, Heard, Recorded, Ended, events_of_lines, recorded_items}
+use Rattle.fio_check.specs.ContentEvents.{ContentEvent, LineEvent, Heard, Recorded, Ended, events_of_log, recorded_items}
 use Rattle.fio_check.specs.Lines.{TranscriptLine}
 use Rattle.fio_check.specs.Places.{earliest_above, is_some_and}
 use Rattle.fio_check.specs.declared.content_rules.BrokenRule.{BrokenRule}
@@ -154,9 +154,9 @@ content_fault_at events place = option_and_then
 abbrev pub first_fault_in : List LineEvent → Option ContentFault
 first_fault_in events = earliest_above (content_fault_at events) (length events)
 
--- the first fault of a transcript
-abbrev pub content_fault_in : List TranscriptLine → Option ContentFault
-content_fault_in lines = first_fault_in (events_of_lines lines)
+-- the first fault of a transcript, by whether it begins with both ends
+abbrev pub content_fault_in : Bool → List TranscriptLine → Option ContentFault
+content_fault_in begun lines = first_fault_in (events_of_log begun lines)
 
 -- ---- names and numbers
 

@@ -1,11 +1,11 @@
 //! The checker of the rules on content, one frame at a time.
-ghost use Rattle.std.specs.Prelude.{◌≡◌, ◌+◌, ◌≤◌, ◌++◌, ◌∷◌, [], ℕ, fold, length, map, true, false};
+ghost use Rattle.std.specs.Prelude.{◌≡◌, ◌+◌, ◌≤◌, ◌++◌, ◌∷◌, [], ℕ, fold, length, map, true, false, None};
 ghost use Rattle.std.specs.Option.{option_or};
 ghost use Rattle.fio_message.specs.Status.{says_lost};
 ghost use Rattle.fio_message.specs.Views.{answer_of, command_of, entries_of};
 ghost use Rattle.fio_cpu.specs.Record.{gap_if, item_of};
 ghost use Rattle.fio_cpu.specs.declared.record.Item.TheVariants as Item;
-ghost use Rattle.fio_check.specs.ContentCheckers.{breach_among, breach_below, breach_found, content_found, kept_below, kept_with, nothing_kept};
+ghost use Rattle.fio_check.specs.ContentCheckers.{breach_among, breach_below, breach_found, content_found, kept_below, kept_at_start, kept_with};
 ghost use Rattle.fio_check.specs.ContentEvents.{Ended, Heard, Recorded, Sent, events_of_answer, items_and_end, number_with_answer, number_with_command};
 ghost use Rattle.fio_check.specs.ContentFacts.{content_with};
 ghost use Rattle.fio_check.specs.ContentKept.{content_kept, facts_kept};
@@ -47,12 +47,27 @@ pub struct ContentChecker {
 }
 
 impl ContentChecker {
-    /// Returns a checker above the first frame.
+    /// Returns a checker above the first frame of a log, whose ends may have begun long before.
     pub fn new() -> ContentChecker
-        ensures { content_kept result ≡ nothing_kept }
+        ensures { content_kept result ≡ kept_at_start false }
+    {
+        ContentChecker::above(ContentAbove::new())
+    }
+
+    /// Returns a checker above the first frame of a log that begins with both ends. It knows how the
+    /// module begins, so it finds more.
+    #[tactic(auto, using(crate::proofs::ContentStart::begun_is))]
+    pub fn begun() -> ContentChecker
+        ensures { content_kept result ≡ kept_at_start true }
+    {
+        ContentChecker::above(ContentAbove::begun())
+    }
+
+    fn above(above: ContentAbove) -> ContentChecker
+        ensures { content_kept result ≡ (record { number = None; facts = facts_kept above }) }
     {
         ContentChecker {
-            above: ContentAbove::new(),
+            above,
             has_number: 0,
             number: 0,
             reserved: [0; 6],

@@ -6,7 +6,7 @@ ghost use Rattle.fio_message.specs.Views.{answer_of, command_of, items_of};
 ghost use Rattle.fio_cpu.specs.declared.record.Item.TheVariants.{Entry, Gap};
 ghost use Rattle.fio_check.specs.ContentAbove.{accepts_items, stamp_of};
 ghost use Rattle.fio_check.specs.ContentEvents.{Ended, Heard, Recorded, Sent};
-ghost use Rattle.fio_check.specs.ContentFacts.{below_answer, content_with, no_content, with_command, with_items};
+ghost use Rattle.fio_check.specs.ContentFacts.{below_answer, content_begun, content_with, no_content, with_command, with_items};
 ghost use Rattle.fio_check.specs.ContentKept.{facts_kept};
 
 use crate::content_inputs::ContentInputs;
@@ -72,6 +72,21 @@ impl ContentAbove {
             floor_input: 0,
             has_seen: 0,
             reserved: [0; 3],
+        }
+    }
+
+    /// Both ends begin.
+    pub(crate) fn begun() -> ContentAbove
+        ensures { facts_kept result ≡ content_begun }
+    {
+        ContentAbove {
+            inputs: ContentInputs::begun(),
+            clock: 0,
+            has_clock: 1,
+            clear: 1,
+            floor: 0,
+            floor_kind: 2,
+            ..ContentAbove::new()
         }
     }
 

@@ -1,14 +1,15 @@
 //! What the rules on content keep of each input, in plain memory that C code can hold too. A set of inputs is
 //! a word.
-ghost use Rattle.std.specs.Prelude.{◌≡◌, ◌==◌, ◌<◌, ◌∷◌, [], ℕ, ◌&&◌, true, false, IfSome, None, Some, not, if◌then◌else◌};
+ghost use Rattle.std.specs.Prelude.{◌≡◌, ◌==◌, ◌<◌, ◌∷◌, [], ℕ, ◌&&◌, true, false, IfSome, None, Some, nat_lt, not, if◌then◌else◌};
 ghost use Rattle.fio_message.specs.Bits.{is_set};
 ghost use Rattle.fio_message.specs.declared.limits.TheConstants.{INPUTS};
 ghost use Rattle.fio_check.specs.ContentAbove.{items_for, lesser};
-ghost use Rattle.fio_check.specs.ContentFacts.{input_below_clear, input_with_answer, input_with_items, no_input, settled_now, unnamed, unwatched};
+ghost use Rattle.fio_check.specs.ContentFacts.{input_begun, input_below_clear, input_with_answer, input_with_items, no_input, settled_now, unnamed, unwatched};
 ghost use Rattle.fio_check.specs.ContentKept.{input_kept};
 ghost use Rattle.fio_check.specs.ContentRules.{filter_towards};
 
 use crate::input_sets::{has_input, with_input};
+use fio_input::DEFAULT_FILTER;
 use fio_message::{INPUTS, InputItem};
 
 /// What the rules on content keep of each input.
@@ -64,6 +65,30 @@ impl ContentInputs {
             times: [0; INPUTS],
             leading: [1; INPUTS],
             trailing: [1; INPUTS],
+            least_leading: [1; INPUTS],
+            least_trailing: [1; INPUTS],
+        }
+    }
+
+    /// Returns what is kept where both ends begin: each input is ignored, with the filters of the start.
+    pub(crate) fn begun() -> ContentInputs
+        ensures { (input : ℕ) → input_kept result input
+            ≡ (if nat_lt input INPUTS then input_begun else no_input) }
+    {
+        ContentInputs {
+            named: 0,
+            sent: u64::MAX,
+            ignoring: u64::MAX,
+            taken: u64::MAX,
+            settled: u64::MAX,
+            hidden: 0,
+            shut: u64::MAX,
+            levels: 0,
+            watched: 0,
+            timed: 0,
+            times: [0; INPUTS],
+            leading: [DEFAULT_FILTER; INPUTS],
+            trailing: [DEFAULT_FILTER; INPUTS],
             least_leading: [1; INPUTS],
             least_trailing: [1; INPUTS],
         }

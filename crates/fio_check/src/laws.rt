@@ -1,8 +1,8 @@
 //! Laws of the definitions that the contracts cite: a function states one in its contract, and does
 //! nothing.
-ghost use Rattle.std.specs.Prelude.{◌≡◌, ℕ, List, option_map};
+ghost use Rattle.std.specs.Prelude.{◌≡◌, ℕ, Bool, List, option_map};
 ghost use Rattle.fio_check.specs.Checkers.{GoesOn, verdict_of_checker};
-ghost use Rattle.fio_check.specs.ContentCheckers.{fault_found, found_first, nothing_kept};
+ghost use Rattle.fio_check.specs.ContentCheckers.{fault_found, found_first, kept_at_start};
 ghost use Rattle.fio_check.specs.ContentEvents.{LineEvent};
 ghost use Rattle.fio_check.specs.ContentLaws.{KeepsContent};
 ghost use Rattle.fio_check.specs.ContentRules.{content_fault_in};
@@ -51,9 +51,10 @@ pub fn content_is_kept()
     ensures { (events : List LineEvent) → KeepsContent events }
 {}
 
-/// What a checker of the rules on content finds first is the first fault of the transcript.
+/// What a checker of the rules on content finds first is the first fault of the transcript, whether it begins with both
+/// ends or later.
 #[tactic(auto, using(crate::proofs::ContentFound::finds_the_fault))]
 pub fn content_checkers_find_the_fault()
-    ensures { (lines : List TranscriptLine)
-        → found_first nothing_kept lines ≡ option_map fault_found (content_fault_in lines) }
+    ensures { (begun : Bool) (lines : List TranscriptLine)
+        → found_first (kept_at_start begun) lines ≡ option_map fault_found (content_fault_in begun lines) }
 {}
