@@ -1,5 +1,5 @@
 -- The first fault of a transcript's events, found event by event.
-use Rattle.fio_check.proofs.Names.{◌≡◌, ◌<◌, ◌≤◌, ◌∙◌, ℕ, zero, suc, ◌+◌, List, [], ◌∷◌, ◌++◌, length, drop, take, map, Option, Some, None, refl, sym, ap, ap₂, arith, append_assoc, append-nil, fold, option_map, option_and_then, slice_get, flat_map, option_or, slice_get_within, Item, ContentFacts, content_at, content_with, breach_among, breach_below, items_below, ContentEvent, LineEvent, item_of_event, recorded_items, earliest_above}
+use Rattle.fio_check.proofs.Names.{◌≡◌, ◌<◌, ◌≤◌, ◌∙◌, ℕ, zero, suc, ◌+◌, List, [], ◌∷◌, ◌++◌, length, drop, take, map, Option, Some, None, refl, sym, ap, ap₂, arith, append_assoc, append-nil, length-append, fold, option_map, option_and_then, slice_get, flat_map, option_or, slice_get_within, Item, ContentFacts, content_at, content_with, breach_among, breach_below, items_below, ContentEvent, LineEvent, item_of_event, recorded_items, earliest_above}
 use Rattle.std.proofs.lemmas.List.{drop_at, flat_map_more, take_at}
 use Rattle.fio_check.specs.ContentRules.{ContentFault, content_fault_at, fault_of, rule_broken_by}
 use Rattle.fio_check.specs.declared.content.ContentBreach.{ContentBreach}
@@ -125,3 +125,19 @@ frame_broken events line facts items =
     events-broken events line 0 (length items) facts items (items ++ more)
     (sym (ap (λ n. take n (items ++ more)) none ∙ take_at items more (length items) refl))
     (ap (λ n. drop n (items ++ more)) none ∙ drop_at items more (length items) refl)
+
+-- a breach is below no more items than the frame has
+breach-within : (rule : Option BrokenRule) (later : Option ContentBreach) (count most : ℕ) (breach : ContentBreach)
+    → option_or (option_map (breach_below count) rule) later ≡ Some breach → count ≤ most → (later ≡ Some breach → breach.items ≤ most) → breach.items ≤ most
+breach-within (Some broken) later count most breach is here further = let same : count ≡ breach.items = cc in omega (arith, here, same)
+breach-within None later count most breach is here further = further is
+
+pub breach_within : (events : List ContentEvent) (facts : ContentFacts) (count : ℕ) (breach : ContentBreach)
+    → breach_among facts count events ≡ Some breach → breach.items ≤ count + length (flat_map item_of_event events)
+breach_within [] facts count breach is = absurd (cc)
+breach_within (event ∷ events) facts count breach is =
+    let more = flat_map item_of_event events in
+    let long = length-append (item_of_event event) more in
+    breach-within (rule_broken_by facts event) (breach_among (content_with facts event) (items_below count event) events) count
+    (count + length (flat_map item_of_event (event ∷ events))) breach is (omega arith)
+    (λ later. let within = breach_within events (content_with facts event) (items_below count event) breach later in omega (arith, long, within))

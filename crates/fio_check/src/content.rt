@@ -170,7 +170,7 @@ fn take_items(
 {
     let items = begin_block(above, status);
     let found = take_entries(above, found, items, entries, stamp);
-    end_block(above, found, items + entries.len() as u16, status, stamp)
+    take_end(above, found, items + entries.len() as u16, status, stamp)
 }
 
 /// Begins a block, if entries were lost by a gap mark, and returns how many items that are.
@@ -248,7 +248,7 @@ fn entry_breach(
 }
 
 /// Takes the end of a block below this many items of it, and returns the first breach with the end.
-fn end_block(
+fn take_end(
     above: &mut ContentAbove,
     found: Option<ContentBreach>,
     items: u16,

@@ -1,5 +1,5 @@
--- The first entry that breaks a rule on content, found line by line.
-use Rattle.fio_tool.proofs.Names.{◌≡◌, ◌<◌, ◌≤◌, ◌∙◌, ℕ, ◌+◌, ◌-◌, inl, inr, Bool, true, false, List, [], ◌∷◌, ◌++◌, length, drop, take, map, Option, Some, None, refl, sym, ap, arith, append-nil, length-append, length-drop, ◌==◌, ◌%◌, option_map, if◌then◌else◌, flat_map, length-map, take-append-le, take_all, answer_in, answered_block, command_in, TranscriptLine, answer_from, observation_of, entries_heard, entries_taken, entry_of_item, item_broken}
+-- The first breach of a rule on content, found line by line.
+use Rattle.fio_tool.proofs.Names.{◌≡◌, ◌<◌, ◌≤◌, ◌∙◌, ℕ, ◌+◌, ◌-◌, inl, inr, Bool, true, false, List, [], ◌∷◌, ◌++◌, length, drop, take, map, Option, Some, None, refl, sym, ap, arith, append-nil, length-append, length-drop, ◌==◌, ◌%◌, option_map, if◌then◌else◌, flat_map, length-map, take-append-le, take_all, answer_in, answered_block, command_in, TranscriptLine, answer_from, observation_of, fault_of_item, item_broken}
 use Rattle.std.specs.Option.{option_or}
 use Rattle.std.proofs.lemmas.Bool.Decides.{eqb_tells, leb_tells}
 use Rattle.fio_message.specs.Blocks.{Block}
@@ -13,13 +13,13 @@ use Rattle.fio_cpu.specs.Record.{item_of, items_of_block}
 use Rattle.fio_cpu.specs.declared.record.Item.{Item}
 use Rattle.fio_cpu.specs.declared.record.Item.TheVariants.{Gap}
 use Rattle.fio_check.specs.ContentAbove.{ContentFacts}
-use Rattle.fio_check.specs.ContentCheckers.{ContentKept, breach_among, content_found, kept_with, nothing_kept}
-use Rattle.fio_check.specs.ContentEvents.{ContentEvent, LineEvent, Polled, Accepted, Recorded, Ended, events_below, events_in, content_events, events_of_block, events_of_command, events_of_lines, item_of_event, number_below, number_after}
-use Rattle.fio_check.specs.ContentRules.{BrokenEntry, broken_entry_in, content_breach_at}
+use Rattle.fio_check.specs.ContentCheckers.{ContentKept, breach_among, content_found, kept_at_start, kept_with}
+use Rattle.fio_check.specs.ContentEvents.{ContentEvent, LineEvent, Recorded, Ended, events_below, events_in, content_events, events_of_block, events_of_lines, item_of_event, items_and_end, number_below, number_after}
+use Rattle.fio_check.specs.ContentRules.{ContentFault, content_fault_in, content_fault_at}
 use Rattle.fio_check.specs.Facts.{number_polled}
 use Rattle.fio_check.specs.Places.{earliest_above}
 use Rattle.fio_check.specs.declared.content.ContentBreach.{ContentBreach}
-use Rattle.fio_check.proofs.ContentCourse.{IsContentCourse, block_broken, broken_among, broken_at, first_course, frame_course}
+use Rattle.fio_check.proofs.ContentCourse.{IsContentCourse, breach_within, fault_at, first_course, frame_broken, frame_course}
 use Rattle.fio_check.specs.Pollers.{poller_with}
 use Rattle.fio_tool.specs.Record.{items_of_cpu}
 use Rattle.fio_tool.specs.declared.transcript.recording.BrokenItem.{BrokenItem}
@@ -30,40 +30,6 @@ use Rattle.fio_cpu.specs.declared.poller.Heard.TheVariants as Heard
 -- the number of a CPU
 abbrev pub number_of_cpu : Option Polling → Option ℕ
 number_of_cpu cpu = option_map (λ known. known.number) cpu
-
--- ---- events without an item
-
-pub record HasNoItem (events : List ContentEvent) : Type 0 where
-  pub items : flat_map item_of_event events ≡ []
-  pub found : (facts : ContentFacts) → breach_among facts 0 events ≡ None
-  pub broken : (facts : ContentFacts) (items : List Item) (line : ℕ) → broken_among facts items line events ≡ None
-
-no_events : HasNoItem []
-no_events = record { items = refl; found = λ facts. refl; broken = λ facts items line. refl }
-
-polled_or_none : (other : Bool) → HasNoItem (if other then [] else Polled ∷ [])
-polled_or_none true = no_events
-polled_or_none false = record { items = refl; found = λ facts. refl; broken = λ facts items line. refl }
-
-accepted_or_none : (error : Bool) → HasNoItem (if error then [] else Accepted ∷ [])
-accepted_or_none true = no_events
-accepted_or_none false = record { items = refl; found = λ facts. refl; broken = λ facts items line. refl }
-
-command_events : (number : Option ℕ) (command : Command) → HasNoItem (events_of_command number command)
-command_events number (commands.Poll polled) = polled_or_none _
-command_events number (commands.LoadCounter load) = record { items = refl; found = λ facts. refl; broken = λ facts items line. refl }
-command_events number (commands.ConfigureInputs items) = record { items = refl; found = λ facts. refl; broken = λ facts items line. refl }
-command_events number (commands.Status clear) = no_events
-command_events number commands.RawInputs = no_events
-command_events number commands.FilteredInputs = no_events
-command_events number (commands.SetOutputs levels controls) = no_events
-command_events number (commands.Watchdog timeout) = no_events
-command_events number commands.Identify = no_events
-command_events number (commands.Other kind body) = no_events
-
-sent_events : (number : Option ℕ) (command : Option Command) → HasNoItem (content_events number command None)
-sent_events number None = no_events
-sent_events number (Some command) = command_events number command
 
 -- ---- the first poll, and the answers above it
 
@@ -90,132 +56,94 @@ later-command number (Some command) = refl
 pub record PassesOver (answer : Option Answer) : Type 0 where
   pub polled : number_polled (observation_of None answer) ≡ None
   pub number : number_after None None answer ≡ None
-  pub events : HasNoItem (content_events None None answer)
+  pub items : flat_map item_of_event (content_events None None answer) ≡ []
 
 first-answer : (answer : Option Answer) → PassesOver answer
-first-answer None = record { polled = refl; number = refl; events = no_events }
-first-answer (Some (answers.Block block entries status stamp)) = record { polled = refl; number = refl; events = no_events }
-first-answer (Some (answers.ConfigureInputs status)) = record { polled = refl; number = refl; events = accepted_or_none (says_error status) }
-first-answer (Some (answers.Status flags receive transmit stamp)) = record { polled = refl; number = refl; events = no_events }
-first-answer (Some (answers.LoadCounter status)) = record { polled = refl; number = refl; events = no_events }
-first-answer (Some (answers.RawInputs inputs stamp)) = record { polled = refl; number = refl; events = no_events }
-first-answer (Some (answers.FilteredInputs inputs stamp)) = record { polled = refl; number = refl; events = no_events }
-first-answer (Some (answers.Watchdog status)) = record { polled = refl; number = refl; events = no_events }
-first-answer (Some (answers.Other kind body)) = record { polled = refl; number = refl; events = no_events }
+first-answer None = record { polled = refl; number = refl; items = refl }
+first-answer (Some (answers.Block block entries status stamp)) = record { polled = refl; number = refl; items = refl }
+first-answer (Some (answers.ConfigureInputs status)) = record { polled = refl; number = refl; items = refl }
+first-answer (Some (answers.Status flags receive transmit stamp)) = record { polled = refl; number = refl; items = refl }
+first-answer (Some (answers.LoadCounter status)) = record { polled = refl; number = refl; items = refl }
+first-answer (Some (answers.RawInputs inputs stamp)) = record { polled = refl; number = refl; items = refl }
+first-answer (Some (answers.FilteredInputs inputs stamp)) = record { polled = refl; number = refl; items = refl }
+first-answer (Some (answers.Watchdog status)) = record { polled = refl; number = refl; items = refl }
+first-answer (Some (answers.Other kind body)) = record { polled = refl; number = refl; items = refl }
 
 -- ---- what a frame does to the record
 
--- the breach of a line as the pass keeps it, as an entry
-abbrev pub breach_kept : ℕ → List Item → ℕ → Option ContentBreach → Option BrokenEntry
-breach_kept line items entries found = option_map (entry_of_item items) (option_map (item_broken line (length items) entries) found)
-
-pub record FrameStep (cpu cpu' : Option Polling) (number' : Option ℕ) (line entries : ℕ) (events : List ContentEvent) : Type 0 where
+pub record FrameStep (cpu cpu' : Option Polling) (number' : Option ℕ) (events : List ContentEvent) : Type 0 where
   pub numbers : number_of_cpu cpu' ≡ number'
   pub items : items_of_cpu cpu ++ flat_map item_of_event events ≡ items_of_cpu cpu'
-  pub broken : (facts : ContentFacts) → broken_among facts (items_of_cpu cpu) line events ≡ breach_kept line (items_of_cpu cpu') entries (breach_among facts 0 events)
 
-no-item : (cpu cpu' : Option Polling) (number' : Option ℕ) (line entries : ℕ) (events : List ContentEvent) → HasNoItem events → number_of_cpu cpu' ≡ number' → items_of_cpu cpu' ≡ items_of_cpu cpu
-    → FrameStep cpu cpu' number' line entries events
-no-item cpu cpu' number' line entries events none numbers same = record {
+no-item : (cpu cpu' : Option Polling) (number' : Option ℕ) (events : List ContentEvent) → flat_map item_of_event events ≡ [] → number_of_cpu cpu' ≡ number' → items_of_cpu cpu' ≡ items_of_cpu cpu
+    → FrameStep cpu cpu' number' events
+no-item cpu cpu' number' events none numbers same = record {
   numbers = numbers;
-  items = ap (λ more. items_of_cpu cpu ++ more) none.items ∙ append-nil (items_of_cpu cpu) ∙ sym same;
-  broken = λ facts. none.broken facts (items_of_cpu cpu) line ∙ ap (breach_kept line (items_of_cpu cpu') entries) (sym (none.found facts));
+  items = ap (λ more. items_of_cpu cpu ++ more) none ∙ append-nil (items_of_cpu cpu) ∙ sym same;
 }
 
-recorded-items : (items : List Item) (more : Bool) → flat_map item_of_event (map Recorded items ++ (Ended more ∷ [])) ≡ items
-recorded-items [] more = refl
-recorded-items (item ∷ items) more = ap (λ rest. item ∷ rest) (recorded-items items more)
+sent-none : (number : Option ℕ) (command : Option Command) → flat_map item_of_event (content_events number command None) ≡ []
+sent-none number None = refl
+sent-none number (Some command) = refl
 
-take-same : (items : List Item) (above entries index : ℕ) → above + entries ≡ length items → take (above + index) items ≡ take (length items - (entries - index)) items
-take-same items above entries index counts = elim (leb_tells index entries) as (λ _. take (above + index) items ≡ take (length items - (entries - index)) items) [
-  | inl within ↦ (let few : index ≤ entries = within.1 in let same : above + index ≡ length items - (entries - index) = omega (arith, few, counts) in ap (λ n. take n items) same)
-  | inr past ↦ (let many : entries < index = past.1 in
-      let whole : length items ≤ above + index = omega (arith, many, counts) in
-      let all : length items ≤ length items - (entries - index) = omega (arith, many) in
-      take_all (above + index) items whole ∙ sym (take_all (length items - (entries - index)) items all))
-]
+recorded-items : (items : List Item) (status stamp : ℕ) → flat_map item_of_event (items_and_end items status stamp) ≡ items
+recorded-items [] status stamp = refl
+recorded-items (item ∷ items) status stamp = ap (λ rest. item ∷ rest) (recorded-items items status stamp)
 
-same-breach : (line above entries : ℕ) (items : List Item) (found : Option ContentBreach) → above + entries ≡ length items
-    → option_map (broken_at line items above) found ≡ breach_kept line items entries found
-same-breach line above entries items None counts = refl
-same-breach line above entries items (Some breach) counts =
-    ap (λ known. Some (record { line = line; input = breach.input; rule = breach.rule; above = known })) (take-same items above entries breach.entry counts)
-
-length-items_of_block : (lost : Bool) (stamp : ℕ) (entries : List EntryOf) → length entries ≤ length ((if lost then Gap ∷ [] else []) ++ map (item_of stamp) entries)
-length-items_of_block true stamp entries = omega (arith, length-map entries (item_of stamp))
-length-items_of_block false stamp entries = omega (arith, length-map entries (item_of stamp))
-
--- a block that is taken
-taken-step : (cpu : Polling) (line : ℕ) (block : Block)
-    → FrameStep (Some cpu) (Some (record { number = (cpu.number + 1) % 256; items = cpu.items ++ items_of_block block })) (Some ((cpu.number + 1) % 256)) line (length block.entries) (events_of_block block)
-taken-step cpu line block =
-    let whole = cpu.items ++ items_of_block block in
-    let long = length-append cpu.items (items_of_block block) in
-    let few = length-items_of_block (says_lost block.status) block.stamp block.entries in
-    let counts : (length whole - length block.entries) + length block.entries ≡ length whole = omega (arith, long, few) in
-    record {
-      numbers = refl;
-      items = ap (λ more. cpu.items ++ more) (recorded-items (items_of_block block) (says_more block.status));
-      broken = λ facts.
-          block_broken facts cpu.items whole line (length whole - length block.entries) block refl counts
-          ∙ same-breach line (length whole - length block.entries) (length block.entries) whole (breach_among facts 0 (events_of_block block)) counts;
-    }
-
--- the same of any block, by whether it is taken
-block-step : (cpu : Polling) (line : ℕ) (block : Block) (taken : Bool) → (taken ≡ true → block.number ≡ cpu.number)
+-- a block, by whether it is taken
+block-step : (cpu : Polling) (block : Block) (taken : Bool) → (taken ≡ true → block.number ≡ cpu.number)
     → FrameStep (Some cpu) (Some (if taken then record { number = (cpu.number + 1) % 256; items = cpu.items ++ items_of_block block } else cpu))
-    (if taken then Some ((block.number + 1) % 256) else Some cpu.number) line (entries_heard (if taken then Heard.Block (length block.entries) block.status else Heard.Stale block.number))
-    (if taken then events_of_block block else [])
-block-step cpu line block true same = rw (same refl) (taken-step cpu line block)
-block-step cpu line block false same = no-item (Some cpu) (Some cpu) (Some cpu.number) line 0 [] no_events refl refl
+    (if taken then Some ((block.number + 1) % 256) else Some cpu.number) (if taken then events_of_block block else [])
+block-step cpu block true same = rw (same refl) (record {
+  numbers = refl;
+  items = ap (λ more. cpu.items ++ more) (recorded-items (items_of_block block) block.status block.stamp);
+})
+block-step cpu block false same = no-item (Some cpu) (Some cpu) (Some cpu.number) [] refl refl refl
 
 taken-same : (a b : ℕ) → (a == b) ≡ true → a ≡ b
 taken-same a b is = elim (eqb_tells a b) as (λ _. a ≡ b) [ inl same ↦ same.1 | inr other ↦ (let not_same = other.0 in absurd (cc)) ]
 
 -- an answer to a CPU
-answer-step : (cpu : Polling) (line : ℕ) (answer : Option Answer)
-    → FrameStep (Some cpu) (Some (after_hearing cpu (answered_block answer))) (number_after (Some cpu.number) None answer) line
-    (entries_taken (Some cpu) answer) (content_events (Some cpu.number) None answer)
-answer-step cpu line None = no-item (Some cpu) (Some cpu) (Some cpu.number) line 0 [] no_events refl refl
-answer-step cpu line (Some (answers.Block block entries status stamp)) =
-    block-step cpu line (record { number = block; entries = entries.items; status = status; stamp = stamp }) (block == cpu.number) (taken-same block cpu.number)
-answer-step cpu line (Some (answers.ConfigureInputs status)) = no-item (Some cpu) (Some cpu) (Some cpu.number) line 0 _ (accepted_or_none (says_error status)) refl refl
-answer-step cpu line (Some (answers.Status flags receive transmit stamp)) = no-item (Some cpu) (Some cpu) (Some cpu.number) line 0 [] no_events refl refl
-answer-step cpu line (Some (answers.LoadCounter status)) = no-item (Some cpu) (Some cpu) (Some cpu.number) line 0 [] no_events refl refl
-answer-step cpu line (Some (answers.RawInputs inputs stamp)) = no-item (Some cpu) (Some cpu) (Some cpu.number) line 0 [] no_events refl refl
-answer-step cpu line (Some (answers.FilteredInputs inputs stamp)) = no-item (Some cpu) (Some cpu) (Some cpu.number) line 0 [] no_events refl refl
-answer-step cpu line (Some (answers.Watchdog status)) = no-item (Some cpu) (Some cpu) (Some cpu.number) line 0 [] no_events refl refl
-answer-step cpu line (Some (answers.Other kind body)) = no-item (Some cpu) (Some cpu) (Some cpu.number) line 0 [] no_events refl refl
+answer-step : (cpu : Polling) (answer : Option Answer)
+    → FrameStep (Some cpu) (Some (after_hearing cpu (answered_block answer))) (number_after (Some cpu.number) None answer) (content_events (Some cpu.number) None answer)
+answer-step cpu None = no-item (Some cpu) (Some cpu) (Some cpu.number) [] refl refl refl
+answer-step cpu (Some (answers.Block block entries status stamp)) =
+    block-step cpu (record { number = block; entries = entries.items; status = status; stamp = stamp }) (block == cpu.number) (taken-same block cpu.number)
+answer-step cpu (Some (answers.ConfigureInputs status)) = no-item (Some cpu) (Some cpu) (Some cpu.number) _ refl refl refl
+answer-step cpu (Some (answers.Status flags receive transmit stamp)) = no-item (Some cpu) (Some cpu) (Some cpu.number) _ refl refl refl
+answer-step cpu (Some (answers.LoadCounter status)) = no-item (Some cpu) (Some cpu) (Some cpu.number) _ refl refl refl
+answer-step cpu (Some (answers.RawInputs inputs stamp)) = no-item (Some cpu) (Some cpu) (Some cpu.number) _ refl refl refl
+answer-step cpu (Some (answers.FilteredInputs inputs stamp)) = no-item (Some cpu) (Some cpu) (Some cpu.number) _ refl refl refl
+answer-step cpu (Some (answers.Watchdog status)) = no-item (Some cpu) (Some cpu) (Some cpu.number) _ refl refl refl
+answer-step cpu (Some (answers.Other kind body)) = no-item (Some cpu) (Some cpu) (Some cpu.number) _ refl refl refl
 
 -- any frame
 frame_step : (cpu : Option Polling) (number : ℕ) (from_cpu : Bool) (octets : List ℕ)
-    → FrameStep cpu (poller_with cpu (record { number = number; from_cpu = from_cpu; octets = octets })) (number_below (number_of_cpu cpu) from_cpu octets) number (entries_taken cpu (answer_from from_cpu octets))
-    (events_in (number_of_cpu cpu) from_cpu octets)
+    → FrameStep cpu (poller_with cpu (record { number = number; from_cpu = from_cpu; octets = octets })) (number_below (number_of_cpu cpu) from_cpu octets) (events_in (number_of_cpu cpu) from_cpu octets)
 frame_step None number true octets =
     let first = first-poll (command_in octets) in
-    no-item None _ _ number 0 _ (sent_events None (command_in octets)) first.0 first.1
+    no-item None _ _ _ (sent-none None (command_in octets)) first.0 first.1
 frame_step (Some cpu) number true octets =
-    no-item (Some cpu) (Some cpu) _ number _ _ (sent_events (Some cpu.number) (command_in octets)) (later-command cpu.number (command_in octets)) refl
+    no-item (Some cpu) (Some cpu) _ _ (sent-none (Some cpu.number) (command_in octets)) (later-command cpu.number (command_in octets)) refl
 frame_step None number false octets =
     let passes = first-answer (answer_in octets) in
-    no-item None _ _ number 0 _ passes.events (rw (passes.polled, passes.number) refl) (rw passes.polled refl)
-frame_step (Some cpu) number false octets =
-    answer-step cpu number (answer_in octets)
+    no-item None _ _ _ passes.items (rw (passes.polled, passes.number) refl) (rw passes.polled refl)
+frame_step (Some cpu) number false octets = answer-step cpu (answer_in octets)
 
 -- ---- line by line
 
 pub record IsBrokenSoFar (lines rest : List TranscriptLine) (cpu : Option Polling) (kept : ContentKept) (broken : Option BrokenItem) : Type 0 where
   pub place : ℕ
-  pub course : IsContentCourse (events_of_lines lines) place kept.facts (items_of_cpu cpu) (option_map (entry_of_item (items_of_cpu cpu)) broken)
+  pub course : IsContentCourse (events_of_lines lines) place kept.facts (items_of_cpu cpu) (option_map (fault_of_item (items_of_cpu cpu)) broken)
   pub left : drop place (events_of_lines lines) ≡ events_below kept.number rest
   pub numbers : number_of_cpu cpu ≡ kept.number
   pub fits : (item : BrokenItem) → broken ≡ Some item → item.above ≤ length (items_of_cpu cpu)
 
 -- before the first line
 pub broken_first : (lines : List TranscriptLine) (cpu : Option Polling) (kept : ContentKept) (broken : Option BrokenItem)
-    → cpu ≡ None → kept ≡ nothing_kept → broken ≡ None → IsBrokenSoFar lines lines cpu kept broken
+    → cpu ≡ None → kept ≡ (kept_at_start false) → broken ≡ None → IsBrokenSoFar lines lines cpu kept broken
 broken_first lines cpu kept broken none nothing unbroken =
-    let first : IsBrokenSoFar lines lines None nothing_kept None = record {
+    let first : IsBrokenSoFar lines lines None (kept_at_start false) None = record {
       place = 0;
       course = first_course (events_of_lines lines);
       left = refl;
@@ -224,31 +152,42 @@ broken_first lines cpu kept broken none nothing unbroken =
     } in
     rw (none, nothing, unbroken) first
 
--- the entry that is kept, with the items of a line more
-kept-entry : (broken : Option BrokenItem) (items more items' : List Item) (line entries : ℕ) (found : Option ContentBreach) (here : Option BrokenEntry)
-    → items ++ more ≡ items' → ((item : BrokenItem) → broken ≡ Some item → item.above ≤ length items) → here ≡ breach_kept line items' entries found
-    → option_or (option_map (entry_of_item items) broken) here
-    ≡ option_map (entry_of_item items') (option_or broken (option_map (item_broken line (length items') entries) found))
-kept-entry (Some item) items more items' line entries found here is fits breaks =
+-- the breach of a line as the pass keeps it
+same-breach : (line above : ℕ) (items : List Item) (found : Option ContentBreach)
+    → option_map (fault_at line items above) found ≡ option_map (fault_of_item items) (option_map (item_broken line above) found)
+same-breach line above items None = refl
+same-breach line above items (Some breach) = refl
+
+-- what is kept, with the items of a line more
+kept-fault : (broken : Option BrokenItem) (items more items' : List Item) (line : ℕ) (found : Option ContentBreach) (here : Option ContentFault)
+    → items ++ more ≡ items' → ((item : BrokenItem) → broken ≡ Some item → item.above ≤ length items)
+    → here ≡ option_map (fault_at line (items ++ more) (length items)) found
+    → option_or (option_map (fault_of_item items) broken) here
+    ≡ option_map (fault_of_item items') (option_or broken (option_map (item_broken line (length items)) found))
+kept-fault (Some item) items more items' line found here is fits breaks =
     let within = fits item refl in
     ap (λ known. Some (record { line = item.line; input = item.input; rule = item.rule; above = known }))
     (sym (take-append-le item.above items more within) ∙ ap (take item.above) is)
-kept-entry None items more items' line entries found here is fits breaks = breaks
+kept-fault None items more items' line found here is fits breaks =
+    breaks ∙ ap (λ whole. option_map (fault_at line whole (length items)) found) is ∙ same-breach line (length items) items' found
 
-kept-fits : (broken : Option BrokenItem) (items more items' : List Item) (line entries : ℕ) (found : Option ContentBreach) (item : BrokenItem)
+kept-fits : (broken : Option BrokenItem) (items more items' : List Item) (line : ℕ) (found : Option ContentBreach) (item : BrokenItem)
     → items ++ more ≡ items' → ((item : BrokenItem) → broken ≡ Some item → item.above ≤ length items)
-    → option_or broken (option_map (item_broken line (length items') entries) found) ≡ Some item → item.above ≤ length items'
-kept-fits (Some one) items more items' line entries found item is fits same =
+    → ((breach : ContentBreach) → found ≡ Some breach → breach.items ≤ length more)
+    → option_or broken (option_map (item_broken line (length items)) found) ≡ Some item → item.above ≤ length items'
+kept-fits (Some one) items more items' line found item is fits few same =
     let within = fits one refl in
     let long = sym (length-append items more) ∙ ap length is in
     let above : one.above ≡ item.above = cc in
     omega (arith, within, long, above)
-kept-fits None items more items' line entries (Some breach) item is fits same =
-    let above : length items' - (entries - breach.entry) ≡ item.above = cc in
-    omega (arith, above)
-kept-fits None items more items' line entries None item is fits same = absurd (cc)
+kept-fits None items more items' line (Some breach) item is fits few same =
+    let within = few breach refl in
+    let long = sym (length-append items more) ∙ ap length is in
+    let above : length items + breach.items ≡ item.above = cc in
+    omega (arith, within, long, above)
+kept-fits None items more items' line None item is fits few same = absurd (cc)
 
-same-course : (all : List LineEvent) (place : ℕ) (facts : ContentFacts) (items items' : List Item) (broken broken' : Option BrokenEntry) → items ≡ items' → broken ≡ broken'
+same-course : (all : List LineEvent) (place : ℕ) (facts : ContentFacts) (items items' : List Item) (broken broken' : Option ContentFault) → items ≡ items' → broken ≡ broken'
     → IsContentCourse all place facts items broken → IsContentCourse all place facts items' broken'
 same-course all place facts items items' broken broken' i b course = rw (← i, ← b) course
 
@@ -256,39 +195,40 @@ next-line : (lines rest : List TranscriptLine) (number : ℕ) (from_cpu : Bool) 
     → number_of_cpu cpu ≡ kept.number
     → IsBrokenSoFar lines (record { number = number; from_cpu = from_cpu; octets = octets } ∷ rest) cpu kept broken
     → IsBrokenSoFar lines rest (poller_with cpu (record { number = number; from_cpu = from_cpu; octets = octets })) (kept_with kept from_cpu octets)
-    (option_or broken (option_map (item_broken number (length (items_of_cpu (poller_with cpu (record { number = number; from_cpu = from_cpu; octets = octets })))) (entries_taken cpu (answer_from from_cpu octets))) (content_found kept from_cpu octets)))
+    (option_or broken (option_map (item_broken number (length (items_of_cpu cpu))) (content_found kept from_cpu octets)))
 next-line lines rest number from_cpu octets cpu kept broken numbers so_far =
     let cpu' = poller_with cpu (record { number = number; from_cpu = from_cpu; octets = octets }) in
     let events = events_in kept.number from_cpu octets in
-    let step : FrameStep cpu cpu' (number_below kept.number from_cpu octets) number (entries_taken cpu (answer_from from_cpu octets)) events =
-    rw (← numbers) (frame_step cpu number from_cpu octets) in
+    let more = flat_map item_of_event events in
+    let step : FrameStep cpu cpu' (number_below kept.number from_cpu octets) events = rw (← numbers) (frame_step cpu number from_cpu octets) in
     let reached = frame_course events (events_of_lines lines) (events_below (number_below kept.number from_cpu octets) rest) so_far.place number kept.facts (items_of_cpu cpu)
-    (option_map (entry_of_item (items_of_cpu cpu)) broken) so_far.left so_far.course in
+    (option_map (fault_of_item (items_of_cpu cpu)) broken) so_far.left so_far.course in
     record {
       place = reached.place;
       course = same-course _ _ _ _ _ _ _ step.items
-          (kept-entry broken (items_of_cpu cpu) (flat_map item_of_event events) (items_of_cpu cpu') number (entries_taken cpu (answer_from from_cpu octets)) (breach_among kept.facts 0 events) _ step.items so_far.fits (step.broken kept.facts))
+          (kept-fault broken (items_of_cpu cpu) more (items_of_cpu cpu') number (breach_among kept.facts 0 events) _ step.items so_far.fits (frame_broken events number kept.facts (items_of_cpu cpu)))
           reached.course;
       left = reached.left;
       numbers = step.numbers;
-      fits = λ item is. kept-fits broken (items_of_cpu cpu) (flat_map item_of_event events) (items_of_cpu cpu') number (entries_taken cpu (answer_from from_cpu octets)) (breach_among kept.facts 0 events) item step.items so_far.fits is;
+      fits = λ item is. kept-fits broken (items_of_cpu cpu) more (items_of_cpu cpu') number (breach_among kept.facts 0 events) item step.items so_far.fits
+          (λ breach found. let within = breach_within events kept.facts 0 breach found in omega (arith, within)) is;
     }
 
 -- one line more
 pub broken_next : (lines rest : List TranscriptLine) (line : TranscriptLine) (cpu cpu' : Option Polling) (kept kept' : ContentKept) (broken broken' : Option BrokenItem)
     → cpu' ≡ poller_with cpu line → kept' ≡ kept_with kept line.from_cpu line.octets
-    → broken' ≡ option_or broken (option_map (item_broken line.number (length (items_of_cpu cpu')) (entries_taken cpu (answer_from line.from_cpu line.octets))) (content_found kept line.from_cpu line.octets))
+    → broken' ≡ option_or broken (option_map (item_broken line.number (length (items_of_cpu cpu))) (content_found kept line.from_cpu line.octets))
     → IsBrokenSoFar lines (line ∷ rest) cpu kept broken → IsBrokenSoFar lines rest cpu' kept' broken'
 broken_next lines rest line cpu cpu' kept kept' broken broken' cpu_is kept_is broken_is so_far =
     rw (broken_is, cpu_is, kept_is) (next-line lines rest line.number line.from_cpu line.octets cpu kept broken so_far.numbers so_far)
 
 -- no line is left
 pub broken_end : (lines : List TranscriptLine) (cpu : Option Polling) (kept : ContentKept) (broken : Option BrokenItem) → IsBrokenSoFar lines [] cpu kept broken
-    → option_map (entry_of_item (items_of_cpu cpu)) broken ≡ broken_entry_in lines
+    → option_map (fault_of_item (items_of_cpu cpu)) broken ≡ content_fault_in false lines
 broken_end lines cpu kept broken so_far =
     let all = events_of_lines lines in
     let none = so_far.left in
     let within = so_far.course.within in
     let count = sym (length-drop so_far.place all) ∙ ap length none in
     let ended : so_far.place ≡ length all = omega (arith, count, within) in
-    sym so_far.course.broken_is ∙ ap (earliest_above (content_breach_at all)) ended
+    sym so_far.course.broken_is ∙ ap (earliest_above (content_fault_at all)) ended

@@ -1,12 +1,12 @@
 //! The record of a transcript's CPU, and the first breach of a rule on content, frame by frame.
-ghost use Rattle.std.specs.Prelude.{◌≡◌, Some, None, IfOk, OnOk, length, true, false};
+ghost use Rattle.std.specs.Prelude.{◌≡◌, ◌<◌, ◌^◌, Some, None, OnOk, true, false};
 ghost use Rattle.std.specs.Option.{option_or};
 ghost use Rattle.fio_message.specs.Decoding.{answer_in, command_in};
 ghost use Rattle.fio_message.specs.Views.{answer_of, command_of};
 ghost use Rattle.fio_check.specs.Lines.{TranscriptLine};
 ghost use Rattle.fio_check.specs.Pollers.{poller_below};
 ghost use Rattle.fio_tool.specs.Record.{items_of_cpu};
-ghost use Rattle.fio_tool.specs.Recordings.{IsNoRecording, RecordsLine, entries_taken, item_broken};
+ghost use Rattle.fio_tool.specs.Recordings.{IsNoRecording, RecordsLine, item_broken};
 
 use fio_check::{ContentBreach, ContentChecker, ContentRule};
 use fio_cpu::{Item, Poller};
@@ -113,6 +113,7 @@ impl Recording {
 
     /// Adds a breach in the line with this number, where the record has so many items above the line.
     fn add_breach(&mut self, line: usize, items: usize, breach: ContentBreach)
+        requires { items < 2 ^ 63 }
         ensures { self.new ≡ (record self.old {
           broken = option_or self.old.broken (Some (item_broken line items breach));
         }) }
@@ -125,11 +126,12 @@ impl Recording {
 
 /// Returns a breach in a line, where the record has so many items above the line.
 fn broken_item(line: usize, items: usize, breach: ContentBreach) -> BrokenItem
+    requires { items < 2 ^ 63 }
     ensures { result ≡ item_broken line items breach }
 {
     BrokenItem {
         line,
-        above: items.saturating_add(usize::from(breach.items)),
+        above: items + usize::from(breach.items),
         input: breach.input,
         rule: breach.rule,
     }
