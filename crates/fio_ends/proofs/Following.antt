@@ -124,3 +124,27 @@ pub last_is_sent : (first : ℕ) (facts : Facts) (machine : Machine) (due : ℕ)
 last_is_sent first facts machine due (inl quiet) = omega (arith, quiet.all)
 last_is_sent first facts machine due (inr (inl under_way)) = omega (arith, under_way.1.passed, under_way.1.sent_last)
 last_is_sent first facts machine due (inr (inr received)) = omega (arith, received.1.all)
+
+-- what a command that is sent needs of it
+pub record MaySend (settings : Settings) (first : ℕ) (machine : Machine) (facts : Facts) : Type 0 where
+  pub number : (n : ℕ) → number_due facts ≡ Some n → n ≡ number_of first machine.round
+  pub answered : facts.answered ≡ true
+      → AreBefore machine.to_module machine.polls machine.round (length machine.to_module)
+  pub more : (m : Bool) → facts.more ≡ Some m
+      → TookBlock (blocks_of settings (life_of machine.history)) machine.round m
+  pub sent : machine.last_to_module ≤ length machine.to_module
+
+pub may_send : (settings : Settings) (first : ℕ) (machine : Machine) (due : ℕ) (facts : Facts) → Follows settings first machine due facts
+    → MaySend settings first machine facts
+may_send settings first machine due facts f =
+    record { number = f.number; answered = f.answered; more = f.more; sent = last_is_sent first facts machine due f.stage }
+
+-- where nothing is known of the lines above, as at a command with which a log begins
+pub may_begin : (settings : Settings) (first : ℕ) (machine : Machine) (due : ℕ) (facts : Facts) → Follows settings first machine due facts
+    → MaySend settings first machine no_facts
+may_begin settings first machine due facts f = record {
+  number = λ n is. absurd (cc is);
+  answered = λ is. absurd (cc is);
+  more = λ m is. absurd (cc is);
+  sent = last_is_sent first facts machine due f.stage;
+}

@@ -2,9 +2,9 @@
 use Rattle.fio_ends.proofs.Names.{◌≡◌, arith, ℕ, List, [], ◌∷◌, ◌++◌, None, refl, sym, subst, AllByRecursion, Settings, AreInRange, facts_with, no_facts, Facts, Event, Machine, start, refusal, after, Leads, IsNotRestart, HaveNoRestart, IsKept, kept_all, kept, CpuFrame, frames_at, frames_from, due_after, IsPrompt, ArePrompt, IsWithinRanges}
 use Rattle.fio_module.specs.Life as module_events
 use Rattle.fio_link.specs.declared.event.Event.TheVariants as events
-use Rattle.fio_ends.specs.PromptRuns.{NeverAccuses}
+use Rattle.fio_ends.specs.PromptRuns.{BeginsWithCommand, NeverAccuses, NeverAccusesLater}
 use Rattle.fio_ends.proofs.GoodLines.{KeepRules, lines_are_good, said_by}
-use Rattle.fio_ends.proofs.Following.{Follows, Keeps, facts_below, follows-history, follows-start}
+use Rattle.fio_ends.proofs.Following.{Follows, Keeps, facts_below, follows-history, follows-start, may_begin, may_send}
 use Rattle.fio_ends.proofs.Sends.{sends-poll, sends-other}
 use Rattle.fio_ends.proofs.Receives.{follows-to_module}
 use Rattle.fio_ends.proofs.Hears.{keeps-to_cpu}
@@ -29,9 +29,9 @@ module _ (settings : Settings) (range : AreInRange settings) (first : ℕ) where
       no_line facts _ due (follows-history settings first machine due facts (module_events.Raise mask ∷ machine.history) refl f)
   keeps-event machine due facts k f events.Restart fine none within prompt = absurd none
   keeps-event machine due facts k f events.Poll fine none within prompt =
-      sends-poll settings first machine due facts f
+      sends-poll settings first machine facts (may_send settings first machine due facts f)
   keeps-event machine due facts k f (events.Send command) fine none within prompt =
-      sends-other settings first machine due facts f command fine within
+      sends-other settings first machine facts (may_send settings first machine due facts f) command fine within
   keeps-event machine due facts k f (events.ToModule index) fine none within prompt =
       no_line facts _ _ (follows-to_module settings range first machine k facts due f index fine (omega arith))
   keeps-event machine due facts k f (events.ToCpu index) fine none within prompt =
@@ -59,9 +59,64 @@ module _ (settings : Settings) (range : AreInRange settings) (first : ℕ) where
       (all_keep full events (after settings first machine event) last (due_after machine due event)
       (facts_below facts (frames_at first machine event)) now here.follows leads.1 none.1 within.1 prompt.1)
 
+  -- what is known where a log begins later
+  pub record ReachesLater (at last : Machine) (later : List Event) : Type 0 where
+    pub due : ℕ
+    pub facts : Facts
+    pub is_kept : IsKept settings first at
+    pub follows : Follows settings first at due facts
+    pub leads : Leads settings first at later last
+    pub no_restart : HaveNoRestart later
+    pub within : AllByRecursion IsWithinRanges later
+    pub prompt : ArePrompt settings first at due later
+
+  -- after the events before it
+  pub reaches : (before later : List Event) (machine at last : Machine) (due : ℕ) (facts : Facts) → IsKept settings first machine
+      → Follows settings first machine due facts → Leads settings first machine before at
+      → Leads settings first machine (before ++ later) last → HaveNoRestart (before ++ later) → AllByRecursion IsWithinRanges (before ++ later)
+      → ArePrompt settings first machine due (before ++ later)
+      → ReachesLater at last later
+  reaches [] later machine at last due facts k f here leads none within prompt =
+      subst (λ m. ReachesLater m last later) (sym here)
+      (record { due = due; facts = facts; is_kept = k; follows = f; leads = leads; no_restart = none; within = within; prompt = prompt })
+  reaches (event ∷ before) later machine at last due facts k f here leads none within prompt =
+      let keeps = keeps-event machine due facts k f event leads.0 none.0 within.0 prompt.0 in
+      let next = after settings first machine event in
+      let now : IsKept settings first next = kept_all settings range first (event ∷ []) machine next (none.0, tt) (leads.0, refl) k in
+      reaches before later next at last (due_after machine due event) (facts_below facts (frames_at first machine event)) now keeps.follows
+      here.1 leads.1 none.1 within.1 prompt.1
+
+  -- a command, and what is below it
+  after_command : settings.per_block ≡ 255 → (event : Event) (rest : List Event) (machine last : Machine) → (r : ReachesLater machine last (event ∷ rest))
+      → Keeps settings first no_facts (frames_at first machine event) (after settings first machine event) (due_after machine r.due event)
+      → KeepRules no_facts (frames_from settings first machine (event ∷ rest))
+  after_command full event rest machine last r here =
+      let next = after settings first machine event in
+      let now : IsKept settings first next = kept_all settings range first (event ∷ []) machine next (r.no_restart.0, tt) (r.leads.0, refl) r.is_kept in
+      both_keep no_facts (frames_at first machine event) (frames_from settings first next rest) (here.rules full)
+      (all_keep full rest next last (due_after machine r.due event) (facts_below no_facts (frames_at first machine event))
+      now here.follows r.leads.1 r.no_restart.1 r.within.1 r.prompt.1)
+
+  -- a log that begins with a command keeps the rules
+  pub later_keep : settings.per_block ≡ 255 → (later : List Event) (machine last : Machine) → BeginsWithCommand later
+      → ReachesLater machine last later → KeepRules no_facts (frames_from settings first machine later)
+  later_keep full [] machine last begins r = absurd begins
+  later_keep full (events.Poll ∷ rest) machine last begins r =
+      after_command full events.Poll rest machine last r (sends-poll settings first machine no_facts (may_begin settings first machine r.due r.facts r.follows))
+  later_keep full (events.Send command ∷ rest) machine last begins r =
+      after_command full (events.Send command) rest machine last r
+      (sends-other settings first machine no_facts (may_begin settings first machine r.due r.facts r.follows) command r.leads.0 r.within.0)
+  later_keep full (other ∷ rest) machine last begins r = absurd begins
 -- no false accusation
 pub never_accuses : NeverAccuses 255
 never_accuses settings first events machine range full run lines has =
     lines_are_good lines (subst (KeepRules no_facts) (sym has)
     (all_keep settings range first full events start machine 0 no_facts
     (kept settings range first [] start refl tt) (follows-start settings first) run.is_run run.no_restart run.within run.prompt))
+
+-- nor in a log that begins later
+pub never_accuses_later : NeverAccusesLater 255
+never_accuses_later settings first before later machine last range full run leads begins lines has =
+    let r = reaches settings range first before later start machine last 0 no_facts (kept settings range first [] start refl tt) (follows-start settings first)
+    leads run.is_run run.no_restart run.within run.prompt in
+    lines_are_good lines (subst (KeepRules no_facts) (sym has) (later_keep settings range first full later machine last begins r))

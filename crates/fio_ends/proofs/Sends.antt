@@ -7,7 +7,7 @@ use Rattle.fio_check.specs.declared.rules.Rule.TheVariants as tried
 use Rattle.fio_check.specs.declared.observation.Observation.TheVariants as seen
 use Rattle.fio_link.proofs.Spelled.{no_poll_in}
 use Rattle.fio_ends.proofs.Rules.{KeepsRules, no_rule_broken}
-use Rattle.fio_ends.proofs.Following.{AreBefore, IsAsked, Stage, Follows, Keeps, last_is_sent}
+use Rattle.fio_ends.proofs.Following.{AreBefore, IsAsked, Stage, Follows, Keeps, MaySend}
 
 -- a command within its ranges is read back
 pub read_back : (command : Command) → IsCommand command → command_in (command_octets command) ≡ Some command
@@ -75,8 +75,8 @@ pub other_said : (command : Command) → sending_refusal command ≡ None
 other_said (commands.Poll number) fine = absurd (cc fine)
 other_said other fine = refl
 
-module _ (settings : Settings) (first : ℕ) (machine : Machine) (due : ℕ) (facts : Facts)
-    (f : Follows settings first machine due facts) where
+module _ (settings : Settings) (first : ℕ) (machine : Machine) (facts : Facts)
+    (f : MaySend settings first machine facts) where
   -- the frame of a command
   abbrev frame_of : Command → SentFrame
   frame_of command = record { octets = command_octets command; round = machine.round }
@@ -98,7 +98,7 @@ module _ (settings : Settings) (first : ℕ) (machine : Machine) (due : ℕ) (fa
           sent_last = length-append frames (frame_of command ∷ []);
           at_place = get_push frames (frame_of command);
           spells = read_back command within;
-          passed = last_is_sent first facts machine due f.stage;
+          passed = f.sent;
           none_due = refl;
           before = before;
         },
