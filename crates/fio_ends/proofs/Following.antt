@@ -32,6 +32,14 @@ pub record IsUnderWay (first : ℕ) (facts : Facts) (frames : List SentFrame) (l
   pub before : (number : ℕ) → command ≡ commands.Poll number → facts.advanced ≡ true
       → AreBefore frames polls round place
 
+-- the frame sent last spells this command
+pub record IsSentLast (frames : List SentFrame) (command : Command) : Type 0 where
+  pub place : ℕ
+  pub frame : SentFrame
+  pub last : length frames ≡ place + 1
+  pub at_place : slice_get frames place ≡ Some frame
+  pub spells : command_in frame.octets ≡ Some command
+
 -- octets spell the block answer to a poll with this number
 pub record IsBlockFor (facts : Facts) (number : ℕ) (octets : List ℕ) : Type 0 where
   pub block : BlockOf
@@ -48,6 +56,7 @@ Answers facts other octets = IsHeardAs other octets
 pub record IsReceived (first : ℕ) (facts : Facts) (frames answers : List SentFrame) (last round due : ℕ)
     (command : Command) : Type 0 where
   pub asked : IsAsked first facts round command
+  pub sent_last : IsSentLast frames command
   pub all : last ≡ length frames
   pub place : ℕ
   pub due_is : due ≡ place + 1

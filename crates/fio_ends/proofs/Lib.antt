@@ -11,4 +11,9 @@ pub mod Hears
 pub mod PromptRuns
 pub mod Examples
 pub mod RunRecords
+pub mod ContentLines
+pub mod ContentSteps
+pub mod ContentFrame
+pub mod ContentRuns
+pub mod AnswersKept
 pub mod Calls

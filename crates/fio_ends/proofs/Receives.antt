@@ -113,6 +113,7 @@ module _ (settings : Settings) (range : AreInRange settings) (first : ℕ) (mach
                 command,
                 record {
                   asked = u.asked;
+                  sent_last = record { place = u.place; frame = u.frame; last = u.sent_last; at_place = u.at_place; spells = u.spells };
                   all = (let e : length machine.to_module ≡ u.place + 1 = u.sent_last in omega arith);
                   place = length machine.to_cpu;
                   due_is = ap (λ at_end. if at_end then length machine.to_cpu + 1 else due) last;

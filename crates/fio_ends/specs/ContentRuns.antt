@@ -1,22 +1,39 @@
 -- The rules on content and the log of a prompt run, from any command on: none is broken.
-use Rattle.std.specs.Prelude.{◌≡◌, ◌≢◌, ℕ, ◌+◌, ◌^◌, ◌<◌, Bool, true, List, [], ◌∷◌, ◌++◌, Option, Some, None, drop, map, slice_get, take, if◌then◌else◌}
-use Rattle.std.specs.List.{AllByRecursion, flat_map}
-use Rattle.fio_message.specs.declared.commands.Command.TheVariants.{LoadCounter}
-use Rattle.fio_input.specs.Counter.{asked_number}
+use Rattle.std.specs.Prelude.{◌≡◌, ℕ, false, List, ◌++◌, Some, None}
+use Rattle.fio_cpu.specs.declared.record.Item.TheVariants.{Entry}
 use Rattle.fio_module.specs.Settings.{Settings, AreInRange}
-use Rattle.fio_module.specs.Life.{counter_events, life_of}
-use Rattle.fio_module.specs.Log.{Transition}
-use Rattle.fio_module.specs.Blocks.{MadeBlock}
-use Rattle.fio_check.specs.ContentAbove.{content_at}
-use Rattle.fio_check.specs.ContentEvents.{ContentEvent, content_event_at, events_of_log}
-use Rattle.fio_check.specs.ContentRules.{rule_broken_by}
+use Rattle.fio_check.specs.ContentAbove.{ContentFacts, content_at}
+use Rattle.fio_check.specs.ContentEvents.{ContentEvent, Heard, Recorded, content_event_at, events_of_log}
+use Rattle.fio_check.specs.ContentRules.{breaks_answer, breaks_entry, broken_state}
 use Rattle.fio_check.specs.Lines.{TranscriptLine}
-use Rattle.fio_check.specs.declared.content_rules.BrokenRule.{BrokenRule}
 use Rattle.fio_check.specs.declared.content_rules.ContentRule.{ContentRule}
-use Rattle.fio_check.specs.declared.content_rules.ContentRule.TheVariants.{Order, Fresh}
+use Rattle.fio_check.specs.declared.content_rules.ContentRule.TheVariants.{State}
 use Rattle.fio_link.specs.declared.event.Event.{Event}
-use Rattle.fio_link.specs.declared.event.Event.TheVariants.{LineSync, Send}
-use Rattle.fio_link.specs.Link.{Machine, Leads, after, start}
-use Rattle.fio_link.specs.Claims.{Source, Loss, From, blocks_in, sources_of}
+use Rattle.fio_link.specs.Link.{Machine, Leads, start}
 use Rattle.fio_ends.specs.PromptRuns.{BeginsWithCommand, IsPromptRun}
 use Rattle.fio_ends.specs.Transcripts.{HaveFrames, frames_from}
+
+-- an event keeps a rule
+abbrev pub KeepsRule : ContentRule → ContentFacts → ContentEvent → Type 0
+KeepsRule State facts event = broken_state facts event facts.seen ≡ None
+KeepsRule rule facts (Heard answer) = breaks_answer facts answer rule ≡ false
+KeepsRule rule facts (Recorded (Entry input level stamp wide)) =
+    breaks_entry facts input (record { level = level; wide = wide }) rule ≡ false
+KeepsRule rule facts event = Unit {0}
+
+-- no event of a log that may begin later breaks the rule
+abbrev pub NoneBreaks : List TranscriptLine → ContentRule → Type 0
+NoneBreaks lines rule =
+    let events = events_of_log false lines in
+    (place : ℕ) (event : ContentEvent) → content_event_at events place ≡ Some event →
+    KeepsRule rule (content_at events place) event
+
+-- A rule never accuses, where this holds of a log's machine and events: it is kept in what the CPU's end logs of each prompt
+-- run from any command on.
+abbrev pub ContentNeverAccuses : ContentRule → (Settings → ℕ → Machine → List Event → Type 0) → Type 0
+ContentNeverAccuses rule Holds =
+    (settings : Settings) (first : ℕ) (before later : List Event) (machine last : Machine) →
+    AreInRange settings → IsPromptRun settings first (before ++ later) last →
+    Leads settings first start before machine → BeginsWithCommand later → Holds settings first machine later →
+    (lines : List TranscriptLine) → HaveFrames lines (frames_from settings first machine later) →
+    NoneBreaks lines rule

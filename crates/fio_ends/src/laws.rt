@@ -1,5 +1,7 @@
 //! Laws of the definitions: each function states one in its contract, and does nothing.
+ghost use Rattle.fio_check.specs.declared.content_rules.ContentRule.TheVariants.{Done};
 ghost use Rattle.fio_ends.specs.Calls.{CallsAreRuns};
+ghost use Rattle.fio_ends.specs.ContentRuns.{ContentNeverAccuses};
 ghost use Rattle.fio_ends.specs.Pollers.{GoodIsOfPoller};
 ghost use Rattle.fio_ends.specs.PromptRuns.{NeverAccuses, NeverAccusesLater};
 ghost use Rattle.fio_ends.specs.RunRecords.{KeepsRecord};
@@ -27,6 +29,12 @@ pub fn later_logs_are_good()
 #[tactic(auto, using(crate::proofs::RunRecords::keeps_record))]
 pub fn prompt_runs_are_recorded()
     ensures { KeepsRecord }
+{}
+
+/// The rule `done` never accuses: what the CPU's end logs of a prompt run from any command on keeps it.
+#[tactic(auto, using(crate::proofs::AnswersKept::done_never_accuses))]
+pub fn done_never_accuses()
+    ensures { ContentNeverAccuses Done (λ settings first machine later. Unit) }
 {}
 
 /// Any calls of the exports of one module and one poller, with frames carried between them in order,

@@ -1,0 +1,95 @@
+-- What is kept of content along a prompt run, frame by frame.
+use Rattle.fio_ends.proofs.Names.{◌≡◌, ◌∙◌, ◌+◌, ◌%◌, ◌⊎◌, inl, inr, ℕ, true, List, [], ◌∷◌, length, Option, Some, None, refl, ap, sym, subst, arith, length-append, if◌then◌else◌, ◌==◌, fold, nat_tests, same_Some, Answer, Command, command_octets, answered_block, command_in, ContentFacts, content_with, ContentKept, kept_at_start, false, ContentEvent, Sent, events_in, content_events, events_of_block, number_after, facts_with, no_facts, answer_type_to, names_absent, ContentRule, State, Facts, Observation, SentFrame, Machine, number_of, sending_refusal, after_sending, get_push, CpuFrame}
+use Rattle.fio_message.specs.declared.answers.Answer.TheVariants as answers
+use Rattle.fio_message.specs.declared.commands.Command.TheVariants as commands
+use Rattle.fio_message.specs.Blocks.{Block as BlockOf}
+use Rattle.fio_check.specs.ContentAbove.{Seen}
+use Rattle.fio_check.specs.ContentEvents.{number_below, number_with_command}
+use Rattle.fio_check.specs.ContentRules.{broken_state}
+use Rattle.fio_check.specs.declared.content_rules.BrokenRule.{BrokenRule}
+use Rattle.fio_ends.specs.ContentRuns.{KeepsRule}
+use Rattle.fio_ends.proofs.GoodLines.{said_by}
+use Rattle.fio_ends.proofs.Following.{facts_below}
+use Rattle.fio_ends.proofs.ContentLines.{EventsKeep, FramesKeep, content_below}
+use Rattle.fio_ends.proofs.ContentSteps.{MayBeSent}
+
+-- ---- what else is kept
+
+-- what is known of content is known of this machine: its number is the machine's, if a poll was sent
+pub record Agrees (first : ℕ) (machine : Machine) (facts : Facts) (kept : ContentKept) : Type 0 where
+  pub number : (polled : ℕ) → facts.polled ≡ Some polled → kept.number ≡ Some (number_of first machine.round)
+  pub unpolled : facts.polled ≡ None → kept.number ≡ None
+
+pub agrees-start : (first : ℕ) (machine : Machine) → Agrees first machine no_facts (kept_at_start false)
+agrees-start first machine =
+    record {
+      number = λ polled is. absurd (cc is);
+      unpolled = λ is. refl;
+    }
+
+-- where the number is another or none, and the facts say the same, all else that is kept may be another
+pub agrees-below : (first : ℕ) (machine later : Machine) (facts : Facts) (kept : ContentKept) → later.round ≡ machine.round
+    → Agrees first machine facts kept → Agrees first later facts kept
+agrees-below first machine later facts kept round a =
+    record {
+      number = λ polled is. a.number polled is ∙ ap (λ r. Some (number_of first r)) (sym round);
+      unpolled = a.unpolled;
+    }
+
+-- what an event keeps: the entries of its frames keep the rule, and below them the invariant holds
+pub record KeepsContent (rule : ContentRule) (P : Machine → ContentFacts → Type 0) (first : ℕ) (facts : Facts) (kept : ContentKept)
+    (frames : List CpuFrame) (machine : Machine) : Type 0 where
+  pub keep : FramesKeep rule kept frames
+  pub holds : P machine (content_below kept frames).facts
+  pub agrees : Agrees first machine (facts_below facts frames) (content_below kept frames)
+
+-- a frame with these events
+pub one_frame : (rule : ContentRule) (P : Machine → ContentFacts → Type 0) (first : ℕ) (facts : Facts) (kept : ContentKept)
+    (frame : CpuFrame) (machine : Machine) (said : Observation) (number : Option ℕ) (events : List ContentEvent)
+    → said_by frame ≡ said → number_below kept.number frame.from_cpu frame.octets ≡ number
+    → events_in kept.number frame.from_cpu frame.octets ≡ events
+    → EventsKeep rule kept.facts events → P machine (fold content_with kept.facts events)
+    → Agrees first machine (facts_with facts said) (record { number = number; facts = fold content_with kept.facts events })
+    → KeepsContent rule P first facts kept (frame ∷ []) machine
+one_frame rule P first facts kept frame machine said number events says below are keep holds agrees =
+    record {
+      keep = (subst (EventsKeep rule kept.facts) (sym are) keep, tt);
+      holds = subst (λ es. P machine (fold content_with kept.facts es)) (sym are) holds;
+      agrees =
+          subst (λ s. Agrees first machine (facts_with facts s) (content_below kept (frame ∷ []))) (sym says)
+          (subst (λ n. Agrees first machine (facts_with facts said) (record { number = n; facts = fold content_with kept.facts (events_in kept.number frame.from_cpu frame.octets) })) (sym below)
+          (subst (λ es. Agrees first machine (facts_with facts said) (record { number = number; facts = fold content_with kept.facts es })) (sym are) agrees));
+    }
+
+-- ---- a command is sent
+
+state-kept : (facts : ContentFacts) (command : Command) (seen : Option Seen) → broken_state facts (Sent command) seen ≡ None
+state-kept facts command None = refl
+state-kept facts command (Some seen) = refl
+
+-- a command keeps each rule
+pub sent_keeps : (rule : ContentRule) (facts : ContentFacts) (command : Command) → KeepsRule rule facts (Sent command)
+sent_keeps State facts command = state-kept facts command facts.seen
+sent_keeps other facts command = tt
+
+-- the number below a command that is no poll
+pub number_stays : (number : Option ℕ) (command : Command) → sending_refusal command ≡ None → number_with_command number command ≡ number
+number_stays number (commands.Poll polled) fine = absurd (cc fine)
+number_stays None other fine = refl
+number_stays (Some number) other fine = refl
+
+-- ---- an answer is heard
+
+-- a block answer with the number
+pub block_events : (number : ℕ) (answer : Option Answer) (block : BlockOf) → answered_block answer ≡ Some block → block.number ≡ number
+    → (content_events (Some number) None answer ≡ events_of_block block) × (number_after (Some number) None answer ≡ Some ((number + 1) % 256))
+block_events number None block is same = absurd (cc is)
+block_events number (Some (answers.Block n entries status stamp)) block is same =
+    let b : block ≡ (record { number = n; entries = entries.items; status = status; stamp = stamp }) = sym (same_Some _ _ is) in
+    let n_is : n ≡ number = ap (λ (x : BlockOf). x.number) (sym b) ∙ same in
+    let met : (n == number) ≡ true = grind (arith, nat_tests) in (
+      ap (λ taken. if taken then events_of_block (record { number = n; entries = entries.items; status = status; stamp = stamp }) else []) met
+          ∙ ap events_of_block (sym b),
+      ap (λ taken. if taken then Some ((n + 1) % 256) else Some number) met ∙ ap (λ k. Some ((k + 1) % 256)) n_is,
+    )
+block_events number (Some other) block is same = absurd (cc is)
