@@ -49,20 +49,20 @@ items_keep (Entry input level low wide ∷ items) facts status stamp =
     (refl, items_keep items (content_with facts (Recorded (Entry input level low wide))) status stamp)
 
 -- whatever holds of the log
-abbrev pub Always : Settings → ℕ → Machine → List Event → Type 0
-Always settings first machine later = Unit {0}
+abbrev pub Always : Settings → ℕ → Bool → Machine → List Event → Type 0
+Always settings first loaded machine later = Unit {0}
 
-done_is_invariant : (settings : Settings) (first : ℕ) → IsInvariant settings first Done (Always settings first) (λ machine facts. Unit {0})
+done_is_invariant : (settings : Settings) (first : ℕ) → IsInvariant settings first Done (Always settings first) (λ loaded machine facts. Unit {0})
 done_is_invariant settings first = record {
-  goes_on = λ machine event rest holds. tt;
+  goes_on = λ loaded machine event rest holds. tt;
   begins = λ machine k. tt;
-  happens = λ machine facts event rest k past holds p. tt;
-  sends = λ machine facts command k may within p. tt;
-  receives = λ machine facts place frame k new at p. tt;
-  hears = λ machine facts place rest command answer k h holds p. (done_kept machine facts command answer h, tt);
-  takes = λ machine facts place rest answer block k t holds p.
+  happens = λ loaded machine facts event rest k past holds p. tt;
+  sends = λ loaded machine facts command k may within p. tt;
+  receives = λ loaded machine facts place frame k new at p. tt;
+  hears = λ loaded machine facts place rest command answer k h holds p. (done_kept machine facts command answer h, tt);
+  takes = λ loaded machine facts place rest answer block k t holds p.
       ((refl, items_keep (items_of_block answer) (content_with facts (Heard (block_answer answer))) answer.status answer.stamp), tt);
 }
 
 pub done_never_accuses : ContentNeverAccuses Done Always
-done_never_accuses = content_never_accuses Done Always (λ settings first machine facts. Unit {0}) (λ settings first range. done_is_invariant settings first)
+done_never_accuses = content_never_accuses Done Always (λ settings first loaded machine facts. Unit {0}) (λ settings first range. done_is_invariant settings first)

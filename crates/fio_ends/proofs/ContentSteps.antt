@@ -1,5 +1,5 @@
 -- What is to be shown of an invariant, event by event, so that a rule on content never accuses.
-use Rattle.fio_ends.proofs.Names.{◌≡◌, ◌+◌, ◌<◌, ◌⊎◌, ℕ, List, [], ◌∷◌, length, Some, None, fold, slice_get, Answer, Command, Block, IsCommand, answer_in, command_in, Settings, MadeBlock, ContentFacts, content_with, no_content, Heard, Sent, events_of_block, ContentRule, Event, SentFrame, Machine, number_of, sending_refusal, after, after_sending, after_delivery_to_module, HasBlock, blocks_in, after_taken, IsKept}
+use Rattle.fio_ends.proofs.Names.{◌≡◌, ◌+◌, ◌<◌, ◌⊎◌, ℕ, Bool, true, false, List, [], ◌∷◌, length, Some, None, fold, slice_get, Answer, Command, Block, IsCommand, answer_in, command_in, Settings, MadeBlock, ContentFacts, content_with, no_content, Heard, Sent, events_of_block, ContentRule, Event, SentFrame, Machine, number_of, sending_refusal, after, after_sending, after_delivery_to_module, HasBlock, blocks_in, after_taken, IsKept}
 use Rattle.fio_message.specs.declared.commands.Command.TheVariants as commands
 use Rattle.fio_link.specs.declared.event.Event.TheVariants as events
 use Rattle.fio_link.specs.Rounds.{CarriesBlock}
@@ -14,6 +14,16 @@ IsPastBus (events.Scan raw) = Unit {0}
 IsPastBus events.LineSync = Unit {0}
 IsPastBus (events.Raise mask) = Unit {0}
 IsPastBus other = ⊥
+
+-- whether a load of the counter was sent, with a command more
+abbrev pub loaded_by : Bool → Command → Bool
+loaded_by loaded (commands.LoadCounter load) = true
+loaded_by loaded command = loaded
+
+-- and with an event more
+abbrev pub loaded_after : Bool → Event → Bool
+loaded_after loaded (events.Send command) = loaded_by loaded command
+loaded_after loaded event = loaded
 
 -- a command that the CPU's end may send
 abbrev pub MayBeSent : ℕ → Machine → Command → Type 0
@@ -34,32 +44,32 @@ pub record Takes (settings : Settings) (machine : Machine) (place : ℕ) (answer
   pub made : slice_get (blocks_in settings machine) machine.round ≡ Some block
   pub carried : CarriesBlock answer block
 
--- an invariant of machines and what is known of content above, which holds along each prompt run from any command on where
--- `Holds` does, and by which each event keeps the rule
-pub record IsInvariant (settings : Settings) (first : ℕ) (rule : ContentRule) (Holds : Machine → List Event → Type 0)
-    (P : Machine → ContentFacts → Type 0) : Type 0 where
+-- an invariant of machines and what is known of content above, by whether a load of the counter was sent in the log, which
+-- holds along each prompt run from any command on where `Holds` does, and by which each event keeps the rule
+pub record IsInvariant (settings : Settings) (first : ℕ) (rule : ContentRule) (Holds : Bool → Machine → List Event → Type 0)
+    (P : Bool → Machine → ContentFacts → Type 0) : Type 0 where
   -- what holds of a log holds of its rest
-  pub goes_on : (machine : Machine) (event : Event) (rest : List Event) → Holds machine (event ∷ rest)
-      → Holds (after settings first machine event) rest
+  pub goes_on : (loaded : Bool) (machine : Machine) (event : Event) (rest : List Event) → Holds loaded machine (event ∷ rest)
+      → Holds (loaded_after loaded event) (after settings first machine event) rest
   -- the log begins at any machine
-  pub begins : (machine : Machine) → IsKept settings first machine → P machine no_content
+  pub begins : (machine : Machine) → IsKept settings first machine → P false machine no_content
   -- a scan, a line sync or raised flags
-  pub happens : (machine : Machine) (facts : ContentFacts) (event : Event) (rest : List Event) → IsKept settings first machine
-      → IsPastBus event → Holds machine (event ∷ rest) → P machine facts → P (after settings first machine event) facts
+  pub happens : (loaded : Bool) (machine : Machine) (facts : ContentFacts) (event : Event) (rest : List Event) → IsKept settings first machine
+      → IsPastBus event → Holds loaded machine (event ∷ rest) → P loaded machine facts → P loaded (after settings first machine event) facts
   -- a command is sent
-  pub sends : (machine : Machine) (facts : ContentFacts) (command : Command) → IsKept settings first machine
-      → MayBeSent first machine command → IsCommand command → P machine facts
-      → P (after_sending machine command) (content_with facts (Sent command))
+  pub sends : (loaded : Bool) (machine : Machine) (facts : ContentFacts) (command : Command) → IsKept settings first machine
+      → MayBeSent first machine command → IsCommand command → P loaded machine facts
+      → P (loaded_by loaded command) (after_sending machine command) (content_with facts (Sent command))
   -- the module receives a frame
-  pub receives : (machine : Machine) (facts : ContentFacts) (place : ℕ) (frame : SentFrame) → IsKept settings first machine
-      → machine.last_to_module < place + 1 → slice_get machine.to_module place ≡ Some frame → P machine facts
-      → P (after_delivery_to_module settings machine (place + 1) (Some frame)) facts
+  pub receives : (loaded : Bool) (machine : Machine) (facts : ContentFacts) (place : ℕ) (frame : SentFrame) → IsKept settings first machine
+      → machine.last_to_module < place + 1 → slice_get machine.to_module place ≡ Some frame → P loaded machine facts
+      → P loaded (after_delivery_to_module settings machine (place + 1) (Some frame)) facts
   -- the CPU hears an answer that is no block
-  pub hears : (machine : Machine) (facts : ContentFacts) (place : ℕ) (rest : List Event) (command : Command) (answer : Answer) → IsKept settings first machine
-      → HearsAnswer machine command answer → Holds machine (events.ToCpu (place + 1) ∷ rest) → P machine facts
-      → KeepsRule rule facts (Heard answer) × P (record machine { last_to_cpu = place + 1 }) (content_with facts (Heard answer))
+  pub hears : (loaded : Bool) (machine : Machine) (facts : ContentFacts) (place : ℕ) (rest : List Event) (command : Command) (answer : Answer) → IsKept settings first machine
+      → HearsAnswer machine command answer → Holds loaded machine (events.ToCpu (place + 1) ∷ rest) → P loaded machine facts
+      → KeepsRule rule facts (Heard answer) × P loaded (record machine { last_to_cpu = place + 1 }) (content_with facts (Heard answer))
   -- the CPU takes a block
-  pub takes : (machine : Machine) (facts : ContentFacts) (place : ℕ) (rest : List Event) (answer : Block) (block : MadeBlock) → IsKept settings first machine
-      → Takes settings machine place answer block → Holds machine (events.ToCpu (place + 1) ∷ rest) → P machine facts
+  pub takes : (loaded : Bool) (machine : Machine) (facts : ContentFacts) (place : ℕ) (rest : List Event) (answer : Block) (block : MadeBlock) → IsKept settings first machine
+      → Takes settings machine place answer block → Holds loaded machine (events.ToCpu (place + 1) ∷ rest) → P loaded machine facts
       → EventsKeep rule facts (events_of_block answer)
-      × P (after_taken machine place answer) (fold content_with facts (events_of_block answer))
+      × P loaded (after_taken machine place answer) (fold content_with facts (events_of_block answer))

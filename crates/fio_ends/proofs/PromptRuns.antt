@@ -107,6 +107,7 @@ module _ (settings : Settings) (range : AreInRange settings) (first : ℕ) where
       after_command full (events.Send command) rest machine last r
       (sends-other settings first machine no_facts (may_begin settings first machine r.due r.facts r.follows) command r.leads.0 r.within.0)
   later_keep full (other ∷ rest) machine last begins r = absurd begins
+
 -- no false accusation
 pub never_accuses : NeverAccuses 255
 never_accuses settings first events machine range full run lines has =

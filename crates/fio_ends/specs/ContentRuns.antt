@@ -1,5 +1,5 @@
 -- The rules on content and the log of a prompt run, from any command on: none is broken.
-use Rattle.std.specs.Prelude.{◌≡◌, ℕ, false, List, ◌++◌, Some, None}
+use Rattle.std.specs.Prelude.{◌≡◌, ℕ, Bool, false, List, ◌++◌, Some, None}
 use Rattle.fio_cpu.specs.declared.record.Item.TheVariants.{Entry}
 use Rattle.fio_module.specs.Settings.{Settings, AreInRange}
 use Rattle.fio_check.specs.ContentAbove.{ContentFacts, content_at}
@@ -28,12 +28,12 @@ NoneBreaks lines rule =
     (place : ℕ) (event : ContentEvent) → content_event_at events place ≡ Some event →
     KeepsRule rule (content_at events place) event
 
--- A rule never accuses, where this holds of a log's machine and events: it is kept in what the CPU's end logs of each prompt
+-- A rule never accuses, where this holds of a log's machine and events, with no load of the counter sent yet: it is kept in what the CPU's end logs of each prompt
 -- run from any command on.
-abbrev pub ContentNeverAccuses : ContentRule → (Settings → ℕ → Machine → List Event → Type 0) → Type 0
+abbrev pub ContentNeverAccuses : ContentRule → (Settings → ℕ → Bool → Machine → List Event → Type 0) → Type 0
 ContentNeverAccuses rule Holds =
     (settings : Settings) (first : ℕ) (before later : List Event) (machine last : Machine) →
     AreInRange settings → IsPromptRun settings first (before ++ later) last →
-    Leads settings first start before machine → BeginsWithCommand later → Holds settings first machine later →
+    Leads settings first start before machine → BeginsWithCommand later → Holds settings first false machine later →
     (lines : List TranscriptLine) → HaveFrames lines (frames_from settings first machine later) →
     NoneBreaks lines rule

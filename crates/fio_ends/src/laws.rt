@@ -34,7 +34,7 @@ pub fn prompt_runs_are_recorded()
 /// The rule `done` never accuses: what the CPU's end logs of a prompt run from any command on keeps it.
 #[tactic(auto, using(crate::proofs::AnswersKept::done_never_accuses))]
 pub fn done_never_accuses()
-    ensures { ContentNeverAccuses Done (λ settings first machine later. Unit) }
+    ensures { ContentNeverAccuses Done (λ settings first loaded machine later. Unit) }
 {}
 
 /// Any calls of the exports of one module and one poller, with frames carried between them in order,
