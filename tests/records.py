@@ -47,9 +47,9 @@ WORKED = [
     # The entry at 20 in the state 1 is sent, doubled, left out, turned.
     ('two', START + block(1, 11, entry(12, 0, 10)) + block(2, 21, entry(12, 1, 20)), 'record 2\n' + TWO),
     ('doubled', START + block(1, 11, entry(12, 0, 10), entry(12, 0, 10)),
-     'record 1\n' + ONE + 'line 6 input 12 breaks alternate\n'),
+     'record 1\n' + ONE + 'line 6 input 12 breaks order\n'),
     ('doubled in the next block', LOST + block(2, 21, entry(12, 0, 10)),
-     'record 1\n' + ONE + 'line 8 input 12 breaks alternate\n'),
+     'record 1\n' + ONE + 'line 8 input 12 breaks fresh\n'),
     ('lost', LOST + block(2, 31, entry(12, 0, 30)), 'record 1\n' + ONE + 'line 8 input 12 breaks alternate\n'),
     ('turned', LOST + block(2, 21, entry(12, 0, 20)) + block(3, 31, entry(12, 0, 30)),
      'record 1\n' + ONE + 'line 8 input 12 breaks alternate\n'),
@@ -61,15 +61,15 @@ WORKED = [
     # Order: times modulo 2^32; equal times keep it; a gap mark and a load lift it.
     ('equal times', START + block(1, 11, entry(12, 0, 10), entry(13, 0, 10)),
      'record 2\n' + ONE + 'input 13 state 0 stamp 10 wide 10\n'),
-    ('around 0', START + block(1, 0xffff_fff1, entry(12, 0, 0xfff0)) + block(2, 9, entry(13, 0, 8)),
+    ('around 0', configuration((12, 5, 3)) + block(0, 0xffff_ff00) + block(1, 0xffff_fff1, entry(12, 0, 0xfff0)) + block(2, 9, entry(13, 0, 8)),
      'record 2\ninput 12 state 0 stamp 65520 wide 4294967280\ninput 13 state 0 stamp 8 wide 8\n'),
-    ('half of all times ahead', START + block(1, 11, entry(12, 0, 10)) + block(2, 0x8000_000a, entry(13, 0, 10)),
-     'record 1\n' + ONE + 'line 8 input 13 breaks order\n'),
+    ('half of all times ahead', START + block(1, 11, entry(12, 0, 10)) + block(2, 0x8000_000b, entry(13, 0, 11)),
+     'record 1\n' + ONE + 'line 8 breaks clock\n'),
     ('one less than half ahead', START + block(1, 11, entry(12, 0, 10)) + block(2, 0x8000_0009, entry(13, 0, 9)),
      'record 2\n' + ONE + 'input 13 state 0 stamp 9 wide 2147483657\n'),
     ('a load', START + block(1, 11, entry(12, 0, 10)) + LOAD + block(2, 6, entry(13, 0, 5)),
      'record 2\n' + ONE + 'input 13 state 0 stamp 5 wide 5\n'),
-    ('order before alternate', START + block(1, 11, entry(12, 0, 10), entry(12, 0, 9)),
+    ('order before alternate, an earlier time', START + block(1, 11, entry(12, 0, 10), entry(12, 0, 9)),
      'record 1\n' + ONE + 'line 6 input 12 breaks order\n'),
     # Alternate: the first block has no block without C above it.
     ('no block above', block(0, 11, entry(12, 0, 10), entry(12, 0, 10)),
@@ -79,22 +79,37 @@ WORKED = [
                               for place in range(255)) + 'input 12 state 0 stamp 301 wide 301\n' * 2),
     ('a load does not lift it', LOST + LOAD + block(2, 31, entry(12, 0, 30)),
      'record 1\n' + ONE + 'line 10 input 12 breaks alternate\n'),
-    # A configuration lifts it that is sent below the first poll for the block without C above the older entry's.
+    # Only a configuration that ignores the input lifts it: one sent since the clear block above the older entry.
+    ('ignored between', LOST + configuration((12 | 128, 5, 3)) + configuration((12, 5, 3)) + block(2, 31, entry(12, 0, 30)),
+     'record 2\n' + ONE + 'input 12 state 0 stamp 30 wide 30\n'),
+    ('ignored between, no answer', LOST + '> 33018c0505\n' + block(2, 31, entry(12, 0, 30)),
+     'record 2\n' + ONE + 'input 12 state 0 stamp 30 wide 30\n'),
+    ('another input ignored between', LOST + configuration((13 | 128, 5, 3)) + block(2, 31, entry(12, 0, 30)),
+     'record 1\n' + ONE + 'line 10 input 12 breaks alternate\n'),
     ('configured between', LOST + configuration((12, 5, 3)) + block(2, 31, entry(12, 0, 30)),
-     'record 2\n' + ONE + 'input 12 state 0 stamp 30 wide 30\n'),
-    ('configured between, another input', LOST + configuration((13, 5, 3)) + block(2, 31, entry(12, 0, 30)),
-     'record 2\n' + ONE + 'input 12 state 0 stamp 30 wide 30\n'),
-    ('configured between, no answer', LOST + '> 33010c0505\n' + block(2, 31, entry(12, 0, 30)),
-     'record 2\n' + ONE + 'input 12 state 0 stamp 30 wide 30\n'),
-    ('configured between, refused', LOST + configuration((12, 5, 3), status=1) + block(2, 31, entry(12, 0, 30)),
-     'record 2\n' + ONE + 'input 12 state 0 stamp 30 wide 30\n'),
-    ('configured below the first of two polls',
-     START + '> 3601\n' + configuration((12, 1, 1)) + block(1, 1) + block(2, 11, entry(12, 0, 10)) +
-     block(3, 31, entry(12, 0, 30)),
-     'record 2\n' + ONE + 'input 12 state 0 stamp 30 wide 30\n'),
-    ('configured above the first poll',
-     START + configuration((12, 1, 1)) + '> 3601\n' + block(1, 1) + block(2, 11, entry(12, 0, 10)) +
-     block(3, 31, entry(12, 0, 30)), 'record 1\n' + ONE + 'line 13 input 12 breaks alternate\n'),
+     'record 1\n' + ONE + 'line 10 input 12 breaks alternate\n'),
+    ('ignored above the clear block', START + configuration((12 | 128, 1, 1)) + configuration((12, 1, 1)) + block(1, 1) +
+     block(2, 11, entry(12, 0, 10)) + block(3, 31, entry(12, 0, 30)),
+     'record 1\n' + ONE + 'line 14 input 12 breaks alternate\n'),
+    # Ignored: at the clear block the item was taken, and none opens the input since.
+    ('an ignored input', configuration((12 | 128, 5, 3)) + block(0, 0) + block(1, 11, entry(12, 0, 10)),
+     'record 0\nline 6 input 12 breaks ignored\n'),
+    ('an ignored input, no answer', '> 33018c0503\n' + block(0, 0) + block(1, 11, entry(12, 0, 10)), 'record 1\n' + ONE),
+    ('an ignored input, opened', configuration((12 | 128, 5, 3)) + block(0, 0) + '> 33010c0503\n' +
+     block(1, 11, entry(12, 0, 10)), 'record 1\n' + ONE),
+    # State: at the entry or the block without C by which the record comes to the 181.
+    ('states', LOST + '> 35\n< b5ffefffffffffffff0000000c\n' + block(2, 13), 'record 1\n' + ONE),
+    ('other states at a block', LOST + '> 35\n< b5ffffffffffffffff0000000c\n' + block(2, 13),
+     'record 1\n' + ONE + 'line 10 input 12 breaks state\n'),
+    ('other states at an entry', LOST + '> 35\n< b5ffffffffffffffff0000000c\n' + block(2, 21, entry(13, 0, 13)),
+     'record 1\n' + ONE + 'line 10 input 12 breaks state\n'),
+    ('other states below a load', LOST + LOAD + '> 35\n< b5ffffffffffffffff0000000c\n' + block(2, 13), 'record 1\n' + ONE),
+    # Answers.
+    ('a clock that steps back', START + block(1, 11) + block(2, 10), 'record 0\nline 8 breaks clock\n'),
+    ('a refused load', '> 3200000000\n< b201\n', 'record 0\nline 2 breaks done\n'),
+    ('a flag that is left', '> 3180\n< b18000000000000c\n', 'record 0\nline 2 breaks cleared\n'),
+    ('a watchdog that was not set', '> 3a32\n< ba00\n> 3a32\n< ba00\n', 'record 0\nline 4 breaks watchdog\n'),
+    ('a refusal of an absent input', configuration((64, 1, 1), status=1), 'record 0\n'),
     # Apart: the filter for the change; 0 acts as 1; the last item of an input counts.
     ('as far as the filter', START + block(1, 14, entry(12, 0, 10), entry(12, 1, 13)),
      'record 2\n' + ONE + 'input 12 state 1 stamp 13 wide 13\n'),
@@ -104,29 +119,29 @@ WORKED = [
      'record 1\ninput 12 state 1 stamp 10 wide 10\nline 6 input 12 breaks apart\n'),
     ('another input', START + block(1, 14, entry(12, 0, 10), entry(13, 1, 12)),
      'record 2\n' + ONE + 'input 13 state 1 stamp 12 wide 12\n'),
-    ('an input without filters', START + block(1, 14, entry(11, 0, 10), entry(11, 1, 10)),
-     'record 2\ninput 11 state 0 stamp 10 wide 10\ninput 11 state 1 stamp 10 wide 10\n'),
+    ('an input without filters', START + block(1, 14, entry(11, 0, 10), entry(11, 1, 11)),
+     'record 2\ninput 11 state 0 stamp 10 wide 10\ninput 11 state 1 stamp 11 wide 11\n'),
     ('a filter of 0', configuration((12, 0, 0)) + block(0, 0) + block(1, 14, entry(12, 0, 10), entry(12, 1, 10)),
-     'record 1\n' + ONE + 'line 6 input 12 breaks apart\n'),
+     'record 1\n' + ONE + 'line 6 input 12 breaks order\n'),
     ('a filter of 0 and a sample', configuration((12, 0, 0)) + block(0, 0) + block(1, 14, entry(12, 0, 10), entry(12, 1, 11)),
      'record 2\n' + ONE + 'input 12 state 1 stamp 11 wide 11\n'),
     ('the last item', configuration((12, 5, 1), (12, 5, 3)) + block(0, 0) + block(1, 14, entry(12, 0, 10), entry(12, 1, 12)),
      'record 1\n' + ONE + 'line 6 input 12 breaks apart\n'),
     ('the last item, shorter', configuration((12, 5, 3), (12, 5, 1)) + block(0, 0) + block(1, 14, entry(12, 0, 10), entry(12, 1, 12)),
      'record 2\n' + ONE + 'input 12 state 1 stamp 12 wide 12\n'),
-    ('a refused configuration', configuration((12, 5, 3), status=1) + block(0, 0) + block(1, 14, entry(12, 0, 10), entry(12, 1, 12)),
-     'record 2\n' + ONE + 'input 12 state 1 stamp 12 wide 12\n'),
+    ('a refused configuration', configuration((12, 5, 3), status=1), 'record 0\nline 2 breaks accepted\n'),
     ('an unanswered configuration', '> 33010c0503\n' + block(0, 0) + block(1, 14, entry(12, 0, 10), entry(12, 1, 12)),
      'record 2\n' + ONE + 'input 12 state 1 stamp 12 wide 12\n'),
     ('a later configuration of another input', configuration((12, 5, 3)) + configuration((13, 5, 3)) + block(0, 0) +
-     block(1, 14, entry(12, 0, 10), entry(12, 1, 12)), 'record 2\n' + ONE + 'input 12 state 1 stamp 12 wide 12\n'),
+     block(1, 14, entry(12, 0, 10), entry(12, 1, 12)), 'record 1\n' + ONE + 'line 8 input 12 breaks apart\n'),
     ('a load lifts apart', START + LOAD + block(1, 14, entry(12, 0, 10), entry(12, 1, 12)),
      'record 2\n' + ONE + 'input 12 state 1 stamp 12 wide 12\n'),
-    # A gap mark between lifts every rule.
+    # A gap mark between lifts alternate and state.
     ('a gap mark', configuration((12, 5, 3)) + block(0, 0) + block(1, 11, entry(12, 0, 10)) +
-     block(2, 300, entry(12, 0, 9), *FULL[1:], status=12),
-     'record 257\n' + ONE + 'gap\ninput 12 state 0 stamp 9 wide 9\n' +
-     ''.join('input 0 state %d stamp %d wide %d\n' % (place % 2, place + 11, place + 11) for place in range(1, 255))),
+     block(2, 300, *FULL[1:], entry(12, 0, 290), status=12),
+     'record 257\n' + ONE + 'gap\n' +
+     ''.join('input 0 state %d stamp %d wide %d\n' % (place % 2, place + 11, place + 11) for place in range(1, 255)) +
+     'input 12 state 0 stamp 290 wide 290\n'),
     # Below many lines.
     *[('below %d lines' % above, '\n' * above + LOST + block(2, 31, entry(12, 0, 30)),
        'record 1\n' + ONE + 'line %d input 12 breaks alternate\n' % (above + 8))

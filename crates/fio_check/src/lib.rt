@@ -9,7 +9,8 @@
 //! rules (`Observations`), the latest that is said above a place (`Places`), what is above a line
 //! (`Facts`), the rules (`Rules`), the verdict (`Verdicts`), the checker
 //! (`Checkers`). Their laws (`Laws`) are the contracts of
-//! the module `laws`.
+//! the module `laws`. Those of the rules on content follow: events, what is above one by places
+//! (`ContentAbove`), the rules, the same event by event (`ContentFacts`), the checker.
 //!
 //! # Examples
 //!
