@@ -1,5 +1,5 @@
 -- The rule `done` never accuses.
-use Rattle.fio_ends.proofs.Names.{◌≡◌, ◌∙◌, ℕ, Bool, true, false, List, [], ◌∷◌, Some, None, refl, ap, sym, subst, arith, same_Some, Answer, Command, Block, answer_in, answer_octets, answer_to, answer_type_to, observation_of, says_error, Settings, Life, AreInRange, Item, Entry, Gap, items_of_block, ContentFacts, content_with, ContentEvent, Ended, Heard, Recorded, events_of_block, Event, Done, Machine}
+use Rattle.fio_ends.proofs.Names.{◌≡◌, ◌∙◌, ℕ, Bool, false, List, [], ◌∷◌, Some, None, refl, ap, sym, arith, same_Some, Answer, Command, answer_in, answer_octets, answer_to, answer_type_to, observation_of, says_error, Settings, Life, Item, Entry, Gap, items_of_block, ContentFacts, content_with, Heard, Recorded, Event, Done, Machine}
 use Rattle.fio_message.specs.Blocks.{block_answer}
 use Rattle.fio_message.specs.Decoding.{message_in}
 use Rattle.fio_message.specs.Status.{error_status}

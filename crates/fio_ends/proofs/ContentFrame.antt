@@ -1,17 +1,15 @@
 -- What is kept of content along a prompt run, frame by frame.
-use Rattle.fio_ends.proofs.Names.{◌≡◌, ◌∙◌, ◌+◌, ◌%◌, ◌⊎◌, inl, inr, ℕ, true, List, [], ◌∷◌, length, Option, Some, None, refl, ap, sym, subst, arith, length-append, if◌then◌else◌, ◌==◌, fold, nat_tests, same_Some, Answer, Command, command_octets, answered_block, command_in, ContentFacts, content_with, ContentKept, kept_at_start, false, ContentEvent, Sent, events_in, content_events, events_of_block, number_after, facts_with, no_facts, answer_type_to, names_absent, ContentRule, State, Facts, Observation, SentFrame, Machine, number_of, sending_refusal, after_sending, get_push, CpuFrame}
+use Rattle.fio_ends.proofs.Names.{◌≡◌, ◌∙◌, ◌+◌, ◌%◌, ℕ, true, List, [], ◌∷◌, Option, Some, None, refl, ap, sym, subst, arith, if◌then◌else◌, ◌==◌, fold, nat_tests, same_Some, Answer, Command, answered_block, ContentFacts, content_with, ContentKept, kept_at_start, false, ContentEvent, Sent, events_in, content_events, events_of_block, number_after, facts_with, no_facts, ContentRule, State, Facts, Observation, Machine, number_of, sending_refusal, CpuFrame}
 use Rattle.fio_message.specs.declared.answers.Answer.TheVariants as answers
 use Rattle.fio_message.specs.declared.commands.Command.TheVariants as commands
 use Rattle.fio_message.specs.Blocks.{Block as BlockOf}
 use Rattle.fio_check.specs.ContentAbove.{Seen}
 use Rattle.fio_check.specs.ContentEvents.{number_below, number_with_command}
 use Rattle.fio_check.specs.ContentRules.{broken_state}
-use Rattle.fio_check.specs.declared.content_rules.BrokenRule.{BrokenRule}
 use Rattle.fio_ends.specs.ContentRuns.{KeepsRule}
 use Rattle.fio_ends.proofs.GoodLines.{said_by}
 use Rattle.fio_ends.proofs.Following.{facts_below}
 use Rattle.fio_ends.proofs.ContentLines.{EventsKeep, FramesKeep, content_below}
-use Rattle.fio_ends.proofs.ContentSteps.{MayBeSent}
 
 -- ---- what else is kept
 

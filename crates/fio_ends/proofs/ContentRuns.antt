@@ -1,5 +1,5 @@
 -- Along a prompt run an invariant of content holds from any command on, so its rule never accuses.
-use Rattle.fio_ends.proofs.Names.{◌≡◌, ◌∙◌, ◌+◌, ◌%◌, ◌<◌, ◌≤◌, ◌⊎◌, inl, inr, ℕ, Bool, true, false, List, [], ◌∷◌, ◌++◌, length, Option, Some, None, refl, ap, sym, subst, arith, if◌then◌else◌, ◌==◌, slice_get, AllByRecursion, list_any, nat_tests, same_Some, Answer, Command, command_octets, IsCommand, answer_in, block_in, Settings, AreInRange, ContentFacts, ContentKept, kept_at_start, Heard, Sent, content_events, events_of_block, number_after, no_facts, answer_type_to, is_absent, names_absent, observation_of, ContentRule, Facts, Event, SentFrame, Machine, start, number_of, sending_refusal, after_sending, after_delivery_to_module, after_delivered_block, after_delivery_to_cpu, refusal, after, Leads, HasBlock, IsNotRestart, HaveNoRestart, blocks_in, CarriesBlockOf, number_of-fits, number_of-next, after_taken, same_round, after_delivery, IsKept, carries_own, kept_all, kept, frame_heard, frames_at, frames_from, due_after, IsPrompt, ArePrompt, IsWithinRanges}
+use Rattle.fio_ends.proofs.Names.{◌≡◌, ◌∙◌, ◌+◌, ◌%◌, ◌<◌, ◌≤◌, ◌⊎◌, inl, inr, ℕ, Bool, true, false, List, [], ◌∷◌, length, Option, Some, None, refl, ap, sym, subst, arith, if◌then◌else◌, ◌==◌, slice_get, AllByRecursion, list_any, nat_tests, Answer, Command, command_octets, IsCommand, answer_in, block_in, Settings, AreInRange, ContentFacts, ContentKept, kept_at_start, Heard, Sent, content_events, events_of_block, number_after, no_facts, answer_type_to, is_absent, names_absent, observation_of, ContentRule, Facts, Event, SentFrame, Machine, start, number_of, sending_refusal, after_sending, after_delivery_to_module, after_delivered_block, after_delivery_to_cpu, refusal, after, Leads, HasBlock, IsNotRestart, HaveNoRestart, blocks_in, CarriesBlockOf, number_of-fits, number_of-next, after_taken, same_round, after_delivery, IsKept, carries_own, kept_all, kept, frame_heard, frames_at, frames_from, due_after, IsPrompt, ArePrompt, IsWithinRanges}
 use Rattle.fio_message.specs.declared.answers.Answer.TheVariants as answers
 use Rattle.fio_message.specs.declared.commands.Command.TheVariants as commands
 use Rattle.fio_check.specs.ContentEvents.{number_with_command}

@@ -1,5 +1,5 @@
 -- What is to be shown of an invariant, event by event, so that a rule on content never accuses.
-use Rattle.fio_ends.proofs.Names.{◌≡◌, ◌+◌, ◌<◌, ◌⊎◌, ℕ, Bool, true, false, List, [], ◌∷◌, length, Some, None, fold, slice_get, Answer, Command, Block, IsCommand, answer_in, command_in, Settings, MadeBlock, ContentFacts, content_with, no_content, Heard, Sent, events_of_block, ContentRule, Event, SentFrame, Machine, number_of, sending_refusal, after, after_sending, after_delivery_to_module, HasBlock, blocks_in, after_taken, IsKept}
+use Rattle.fio_ends.proofs.Names.{◌≡◌, ◌+◌, ◌<◌, ◌⊎◌, ℕ, Bool, true, false, List, ◌∷◌, length, Some, None, fold, slice_get, Answer, Command, Block, IsCommand, answer_in, Settings, MadeBlock, ContentFacts, content_with, no_content, Heard, Sent, events_of_block, ContentRule, Event, SentFrame, Machine, number_of, sending_refusal, after, after_sending, after_delivery_to_module, HasBlock, blocks_in, after_taken, IsKept}
 use Rattle.fio_message.specs.declared.commands.Command.TheVariants as commands
 use Rattle.fio_link.specs.declared.event.Event.TheVariants as events
 use Rattle.fio_link.specs.Rounds.{CarriesBlock}

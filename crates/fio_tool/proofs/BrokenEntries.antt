@@ -1,20 +1,17 @@
 -- The first breach of a rule on content, found line by line.
-use Rattle.fio_tool.proofs.Names.{◌≡◌, ◌<◌, ◌≤◌, ◌∙◌, ℕ, ◌+◌, ◌-◌, inl, inr, Bool, true, false, List, [], ◌∷◌, ◌++◌, length, drop, take, map, Option, Some, None, refl, sym, ap, arith, append-nil, length-append, length-drop, ◌==◌, ◌%◌, option_map, if◌then◌else◌, flat_map, length-map, take-append-le, take_all, answer_in, answered_block, command_in, TranscriptLine, answer_from, observation_of, fault_of_item, item_broken}
+use Rattle.fio_tool.proofs.Names.{◌≡◌, ◌≤◌, ◌∙◌, ℕ, ◌+◌, inl, inr, Bool, true, false, List, [], ◌∷◌, ◌++◌, length, drop, take, Option, Some, None, refl, sym, ap, arith, append-nil, length-append, length-drop, ◌==◌, ◌%◌, option_map, if◌then◌else◌, flat_map, take-append-le, answer_in, answered_block, command_in, TranscriptLine, observation_of, fault_of_item, item_broken}
 use Rattle.std.specs.Option.{option_or}
-use Rattle.std.proofs.lemmas.Bool.Decides.{eqb_tells, leb_tells}
+use Rattle.std.proofs.lemmas.Bool.Decides.{eqb_tells}
 use Rattle.fio_message.specs.Blocks.{Block}
-use Rattle.fio_message.specs.Status.{says_error, says_lost, says_more}
-use Rattle.fio_message.specs.declared.fields.Entry.{Entry as EntryOf}
 use Rattle.fio_message.specs.declared.answers.Answer.{Answer}
 use Rattle.fio_message.specs.declared.commands.Command.{Command}
 use Rattle.fio_cpu.specs.Hearing.{after_hearing}
 use Rattle.fio_cpu.specs.Poller.{Polling}
-use Rattle.fio_cpu.specs.Record.{item_of, items_of_block}
+use Rattle.fio_cpu.specs.Record.{items_of_block}
 use Rattle.fio_cpu.specs.declared.record.Item.{Item}
-use Rattle.fio_cpu.specs.declared.record.Item.TheVariants.{Gap}
 use Rattle.fio_check.specs.ContentAbove.{ContentFacts}
 use Rattle.fio_check.specs.ContentCheckers.{ContentKept, breach_among, content_found, kept_at_start, kept_with}
-use Rattle.fio_check.specs.ContentEvents.{ContentEvent, LineEvent, Recorded, Ended, events_below, events_in, content_events, events_of_block, events_of_lines, item_of_event, items_and_end, number_below, number_after}
+use Rattle.fio_check.specs.ContentEvents.{ContentEvent, LineEvent, events_below, events_in, content_events, events_of_block, events_of_lines, item_of_event, items_and_end, number_below, number_after}
 use Rattle.fio_check.specs.ContentRules.{ContentFault, content_fault_in, content_fault_at}
 use Rattle.fio_check.specs.Facts.{number_polled}
 use Rattle.fio_check.specs.Places.{earliest_above}
@@ -25,7 +22,6 @@ use Rattle.fio_tool.specs.Record.{items_of_cpu}
 use Rattle.fio_tool.specs.declared.transcript.recording.BrokenItem.{BrokenItem}
 use Rattle.fio_message.specs.declared.answers.Answer.TheVariants as answers
 use Rattle.fio_message.specs.declared.commands.Command.TheVariants as commands
-use Rattle.fio_cpu.specs.declared.poller.Heard.TheVariants as Heard
 
 -- the number of a CPU
 abbrev pub number_of_cpu : Option Polling → Option ℕ

@@ -1,6 +1,6 @@
 -- One pass over a text, frame by frame, as the CPU of the lines that are read of it and the first breach of a rule on
 -- content.
-use Rattle.fio_tool.proofs.Names.{◌≡◌, ◌≤◌, ◌∙◌, ℕ, List, [], ◌∷◌, map, None, Ok, refl, sym, ap, fold, values_or_fault, TranscriptLine, IsNoRecording, IsRecordingOf, RecordsLine, line_in}
+use Rattle.fio_tool.proofs.Names.{◌≡◌, ◌∙◌, ℕ, List, [], ◌∷◌, map, None, Ok, sym, ap, fold, values_or_fault, TranscriptLine, IsNoRecording, IsRecordingOf, RecordsLine, line_in}
 use Rattle.fio_check.specs.declared.observation.Observation.TheVariants.{Unreadable}
 use Rattle.fio_check.specs.ContentKept.{content_kept}
 use Rattle.fio_check.specs.Pollers.{poller_of, poller_with}

@@ -1,7 +1,6 @@
 -- What one pass over a transcript keeps: the CPU, and the first breach of a rule on content.
-use Rattle.std.specs.Prelude.{◌≡◌, ℕ, ◌+◌, false, List, Option, Some, None, length, option_map, take}
+use Rattle.std.specs.Prelude.{◌≡◌, ℕ, ◌+◌, false, List, Option, None, length, option_map, take}
 use Rattle.std.specs.Option.{option_or}
-use Rattle.fio_cpu.specs.Poller.{Polling}
 use Rattle.fio_cpu.specs.declared.record.Item.{Item}
 use Rattle.fio_check.specs.ContentCheckers.{content_found, kept_at_start, kept_with}
 use Rattle.fio_check.specs.ContentKept.{content_kept}

@@ -1,4 +1,4 @@
-use Rattle.fio_tool.proofs.Names.{◌≡◌, ◌∙◌, sym, refl, ap, arith, rules, Ok, length, map, values_or_fault, TranscriptLine, line_in, transcript_in}
+use Rattle.fio_tool.proofs.Names.{◌≡◌, ◌∙◌, sym, refl, ap, arith, Ok, length, map, values_or_fault, TranscriptLine, line_in, transcript_in}
 use Rattle.fio_tool.proofs.CheckedLines.{course_end, first_course, line_read, lines_within, next_course, read_whole, still_none, unbroken_end, verdict_read, with_first-err}
 use Rattle.fio_tool.proofs.RecordedLines.{recording_end, recording_first, recording_next}
 use Rattle.fio_tool.proofs.LongFrames.{spelled_said}
