@@ -11,6 +11,9 @@ mod counts;
 /// What the poller takes of the octets of the profile's blocks.
 #[cfg(test)]
 mod cpu;
+/// Logs: what stands in their lines.
+#[cfg(test)]
+mod log;
 /// Messages: the profile's octets, read and written again.
 #[cfg(test)]
 mod message;
