@@ -1,260 +1,36 @@
 -- What scans report of all inputs is little, whatever configurations come between.
-use Rattle.fio_input.proofs.Names.{◌≡◌, ℕ, zero, suc, ◌+◌, ◌-◌, ◌*◌, ◌/◌, ◌<◌, ◌≤◌, ◌⊎◌, Bool, true, false, not, ◌&&◌, List, [], ◌∷◌, ◌++◌, refl, ap, sym, subst, ◌∙◌, arith, inl, inr, append_assoc, mul-le-mul_left, mul-le-mul_right, div-mul-le_self, div-lt_iff_lt-mul, cases_lt, bit_of, InputItem, Setting, FilterEvent, Configure, Scan, all_present, applies_to, input_setting, input_state, is_reported, is_changed, NoneIsAppliedTo, scans_in, changes_in, HasFiltersOf, reports_in, all_reports_in, open_inputs, OpenHaveFiltersOf, NoneIsApplied, AtEachScan, HasFewOpen, FewStayOpen, OpenKeepFiltersOf, AfterEachApplied, ReportsAreFew, ConfigurationsLeaveFewOpen, not-true}
-use Rattle.fio_input.proofs.Apart.{both, carried, changes_follow_configurations}
-use Rattle.fio_input.proofs.FewChanges.{least_filter, changes_times_filter}
-use Rattle.fio_input.proofs.FewReports.{sum-plus, sum-bound, sum-same, sum-none, reports_are_changes, open_inputs-few, open_inputs-carried, open_filters-carried}
+use Rattle.fio_input.proofs.Names.{◌≡◌, ℕ, zero, suc, ◌+◌, ◌-◌, ◌*◌, ◌/◌, ◌≤◌, Bool, true, false, not, List, [], ◌∷◌, ◌++◌, refl, ap, ◌∙◌, arith, inl, inr, mul-le-mul_left, mul-le-mul_right, div-mul-le_self, cases_lt, bit_of, InputItem, FilterEvent, Configure, Scan, all_present, input_setting, is_reported, scans_in, reports_in, all_reports_in, open_inputs, OpenHaveFiltersOf, NoneIsApplied, HasFewOpen, FewStayOpen, OpenKeepFiltersOf, AfterEachApplied, ReportsAreFew, ConfigurationsLeaveFewOpen, not-true}
+use Rattle.fio_input.proofs.FewReports.{sum-same, open_inputs-few, open_inputs-carried, open_filters-carried}
+use Rattle.fio_input.proofs.Counted.{Counts, counted_in, all_counted, FewCount, no_scan_counts_any, counted_are_few, at_each_scan-map}
 
--- what holds at each scan holds at each of the later ones and at each of the earlier ones
-pub at_each_scan-back : (P : List FilterEvent → Type 0) (later events history : List FilterEvent)
-    → AtEachScan P (later ++ events) history → AtEachScan P events history
-at_each_scan-back P [] events history each = each
-at_each_scan-back P (Scan raw ∷ later) events history each = at_each_scan-back P later events history each.1
-at_each_scan-back P (Configure items ∷ later) events history each = at_each_scan-back P later events history each
+-- the open inputs count
+abbrev pub open_count : Counts
+open_count input setting = not setting.ignore
 
-pub at_each_scan-front : (P : List FilterEvent → Type 0) (later events history : List FilterEvent)
-    → AtEachScan P (later ++ events) history → AtEachScan P later (events ++ history)
-at_each_scan-front P [] events history each = tt
-at_each_scan-front P (Scan raw ∷ later) events history each =
-    (subst P (append_assoc later events history) each.0, at_each_scan-front P later events history each.1)
-at_each_scan-front P (Configure items ∷ later) events history each = at_each_scan-front P later events history each
+reports_counted : (input : ℕ) (events history : List FilterEvent) → reports_in input events history ≡ counted_in open_count input events history
+reports_counted input [] history = refl
+reports_counted input (Scan raw ∷ events) history =
+    ap (λ n. n + bit_of (is_reported input raw (events ++ history))) (reports_counted input events history)
+reports_counted input (Configure items ∷ events) history = reports_counted input events history
 
--- so does what follows from it
-pub at_each_scan-map : (P Q : List FilterEvent → Type 0) → ((history : List FilterEvent) → P history → Q history)
-    → (events history : List FilterEvent) → AtEachScan P events history → AtEachScan Q events history
-at_each_scan-map P Q follows [] history each = tt
-at_each_scan-map P Q follows (Scan raw ∷ events) history each =
-    (follows (events ++ history) each.0, at_each_scan-map P Q follows events history each.1)
-at_each_scan-map P Q follows (Configure items ∷ events) history each = at_each_scan-map P Q follows events history each
-
--- scans among two lists of events, and what they report
-pub scans-append : (later events : List FilterEvent) → scans_in (later ++ events) ≡ scans_in later + scans_in events
-scans-append [] events = omega arith
-scans-append (Scan raw ∷ later) events = let rest = scans-append later events in omega arith
-scans-append (Configure items ∷ later) events = scans-append later events
-
-reports-append : (input : ℕ) (later events history : List FilterEvent)
-    → reports_in input (later ++ events) history ≡ reports_in input later (events ++ history) + reports_in input events history
-reports-append input [] events history = omega arith
-reports-append input (Scan raw ∷ later) events history =
-    let rest = reports-append input later events history in
-    let here : bit_of (is_reported input raw ((later ++ events) ++ history)) ≡ bit_of (is_reported input raw (later ++ (events ++ history))) =
-    ap (λ h. bit_of (is_reported input raw h)) (append_assoc later events history) in
-    omega arith
-reports-append input (Configure items ∷ later) events history = reports-append input later events history
-
-all_reports-append : (later events history : List FilterEvent)
-    → all_reports_in (later ++ events) history ≡ all_reports_in later (events ++ history) + all_reports_in events history
-all_reports-append later events history =
-    sum-same 64 (λ input. reports_in input (later ++ events) history)
-    (λ input. reports_in input later (events ++ history) + reports_in input events history)
-    (λ input. reports-append input later events history)
-    ∙ sum-plus 64 (λ input. reports_in input later (events ++ history)) (λ input. reports_in input events history)
-
--- without a scan nothing is reported
-no_scan_reports : (input : ℕ) (events history : List FilterEvent) → scans_in events ≡ 0 → reports_in input events history ≡ 0
-no_scan_reports input [] history none = refl
-no_scan_reports input (Scan raw ∷ events) history none = absurd (omega arith)
-no_scan_reports input (Configure items ∷ events) history none = no_scan_reports input events history none
-
-no_scan_reports_any : (events history : List FilterEvent) → scans_in events ≡ 0 → all_reports_in events history ≡ 0
-no_scan_reports_any events history none =
-    sum-same 64 (λ input. reports_in input events history) (λ input. 0) (λ input. no_scan_reports input events history none) ∙ sum-none 64
-
--- the latest configuration among events that applies to an input
-record LatestConfiguration (input : ℕ) (events : List FilterEvent) : Type 0 where
-  pub between : List FilterEvent
-  pub items : List InputItem
-  pub before : List FilterEvent
-  pub split : events ≡ between ++ Configure items ∷ before
-  pub leave : NoneIsAppliedTo input between
-  pub applied : applies_to input items ≡ true
-
--- the same after an event that is none
-one_later : (input : ℕ) (event : FilterEvent) (events : List FilterEvent) → NoneIsAppliedTo input (event ∷ [])
-    → (NoneIsAppliedTo input events ⊎ LatestConfiguration input events)
-    → NoneIsAppliedTo input (event ∷ events) ⊎ LatestConfiguration input (event ∷ events)
-one_later input event events leave (inl none) = inl (leave.0, none)
-one_later input event events leave (inr c) =
-    inr (record {
-      between = event ∷ c.between;
-      items = c.items;
-      before = c.before;
-      split = ap (λ es. event ∷ es) c.split;
-      leave = (leave.0, c.leave);
-      applied = c.applied;
-    })
-
-none_or_configured : (input : ℕ) (events : List FilterEvent) → NoneIsAppliedTo input events ⊎ LatestConfiguration input events
-none_or_configured input [] = inl tt
-none_or_configured input (Scan raw ∷ events) = one_later input (Scan raw) events (tt, tt) (none_or_configured input events)
-none_or_configured input (Configure items ∷ events) = here (applies_to input items) refl (none_or_configured input events)
-  where
-    here : (applied : Bool) → applies_to input items ≡ applied
-        → (NoneIsAppliedTo input events ⊎ LatestConfiguration input events)
-        → NoneIsAppliedTo input (Configure items ∷ events) ⊎ LatestConfiguration input (Configure items ∷ events)
-    here true is earlier =
-        inr (record { between = []; items = items; before = events; split = refl; leave = tt; applied = is })
-    here false is earlier = one_later input (Configure items) events (is, tt) earlier
-
-and_a_scan : (input raw : ℕ) (events : List FilterEvent) → NoneIsAppliedTo input events → NoneIsAppliedTo input (events ++ Scan raw ∷ [])
-and_a_scan input raw [] none = (tt, tt)
-and_a_scan input raw (event ∷ events) none = (none.0, and_a_scan input raw events none.1)
-
-bit-and_left : (a b : Bool) → bit_of (a && b) ≤ bit_of a
-bit-and_left true true = omega arith
-bit-and_left true false = omega arith
-bit-and_left false b = omega arith
-
-once_only : (changes least scans : ℕ) → 1 ≤ least → scans ≤ least → changes * least + 1 ≤ scans + least → changes ≤ 1
-once_only zero least scans some short few = omega arith
-once_only (suc zero) least scans some short few = omega arith
-once_only (suc (suc changes)) least scans some short few =
-    let more : suc (suc changes) * least ≡ changes * least + (least + least) = grind arith in
-    absurd (omega arith)
-
--- Where there are no more scans than a filter has samples, each input is reported once at most, and only if it
--- was open at the first of them: a configuration after that leaves too few.
-reported_once : (opened least raw input : ℕ) (later history : List FilterEvent) → input < 64 → 1 ≤ least
-    → FewStayOpen opened least (later ++ Scan raw ∷ []) history → scans_in later + 1 ≤ least
-    → reports_in input (later ++ Scan raw ∷ []) history ≤ bit_of (not (input_setting input history).ignore)
-reported_once opened least raw input [] history low some stay short =
-    let here = bit-and_left (not (input_setting input history).ignore) (is_changed input raw history) in
-    omega arith
-reported_once opened least raw input (Configure items ∷ later) history low some stay short =
-    reported_once opened least raw input later history low some stay short
-reported_once opened least raw input (Scan newest ∷ later) history low some stay short =
-    newest_is (is_reported input newest ((later ++ Scan raw ∷ []) ++ history)) refl
-    (reported_once opened least raw input later history low some stay.1 (omega arith))
-  where
-    newest_is : (reported : Bool) → is_reported input newest ((later ++ Scan raw ∷ []) ++ history) ≡ reported
-        → reports_in input (later ++ Scan raw ∷ []) history ≤ bit_of (not (input_setting input history).ignore)
-        → reports_in input (Scan newest ∷ (later ++ Scan raw ∷ [])) history ≤ bit_of (not (input_setting input history).ignore)
-    newest_is false is before =
-        let rest = later ++ Scan raw ∷ [] in
-        let here : bit_of (is_reported input newest (rest ++ history)) ≡ 0 = ap bit_of is in
-        omega arith
-    newest_is true is earlier =
-        let rest = later ++ Scan raw ∷ [] in
-        let now = input_setting input (rest ++ history) in
-        let changed = both (not now.ignore) (is_changed input newest (rest ++ history)) is in
-        let opened_now = not-true now.ignore changed.0 in
-        let filters = stay.0.filters input low opened_now in
-        let counts = scans-append later (Scan raw ∷ []) in
-        elim (none_or_configured input later) as (λ _. reports_in input (Scan newest ∷ rest) history ≤ bit_of (not (input_setting input history).ignore)) [
-          | inl none ↦
-              let leave = and_a_scan input raw later none in
-              let same = (carried input rest history leave).setting in
-              let filters' = subst (λ (s : Setting). HasFiltersOf s least) same filters in
-              let was : (input_setting input history).ignore ≡ false = sym (ap (λ (s : Setting). s.ignore) same) ∙ opened_now in
-              let bit : bit_of (not (input_setting input history).ignore) ≡ 1 = ap (λ ignore. bit_of (not ignore)) was in
-              let few = changes_times_filter input least (Scan newest ∷ rest) history (tt, leave) some filters' in
-              let one = once_only (changes_in input (Scan newest ∷ rest) history) least (scans_in (Scan newest ∷ rest)) some (omega arith) few in
-              let less = reports_are_changes input (Scan newest ∷ rest) history in
-              omega arith
-          | inr c ↦
-              let before = c.before ++ Scan raw ∷ [] in
-              let split : rest ++ history ≡ c.between ++ Configure c.items ∷ (before ++ history) =
-              ap (λ es. (es ++ Scan raw ∷ []) ++ history) c.split
-              ∙ ap (λ es. es ++ history) (append_assoc c.between (Configure c.items ∷ c.before) (Scan raw ∷ []))
-              ∙ append_assoc c.between (Configure c.items ∷ before) history in
-              let far = changes_follow_configurations input newest c.items c.between (before ++ history) c.leave c.applied
-              (subst (λ h. is_changed input newest h ≡ true) split changed.1) in
-              let filters' = subst (λ h. HasFiltersOf (input_setting input h) least) split filters in
-              let most = least_filter (input_setting input (c.between ++ Configure c.items ∷ (before ++ history))) least
-              (input_state input (Scan newest ∷ (c.between ++ Configure c.items ∷ (before ++ history)))) filters' in
-              let all = ap scans_in c.split ∙ scans-append c.between (Configure c.items ∷ c.before) in
-              absurd (omega arith)
-        ]
-
--- so no more are reported then than were open at the first of them
-few_at_once : (opened least raw : ℕ) (later history : List FilterEvent) → 1 ≤ least
-    → FewStayOpen opened least (later ++ Scan raw ∷ []) history → scans_in later + 1 ≤ least
-    → all_reports_in (later ++ Scan raw ∷ []) history ≤ opened
-few_at_once opened least raw later history some stay short =
-    let first = at_each_scan-back (HasFewOpen opened least) later (Scan raw ∷ []) history stay in
-    let few = first.0.few in
-    let all = sum-bound 64 1 0 1 (λ input. reports_in input (later ++ Scan raw ∷ []) history)
-    (λ input. bit_of (not (input_setting input history).ignore))
-    (λ input low. let once = reported_once opened least raw input later history low some stay short in omega arith) in
-    omega arith
-
--- the latest so many scans among events, or all of them
-record Latest (most : ℕ) (events : List FilterEvent) : Type 0 where
-  pub later : List FilterEvent
-  pub raw : ℕ
-  pub before : List FilterEvent
-  pub split : events ≡ later ++ Scan raw ∷ before
-  pub short : scans_in later + 1 ≤ most
-  pub rest : scans_in before ≤ scans_in events - most
-
-latest : (most : ℕ) (events : List FilterEvent) → 1 ≤ most → 1 ≤ scans_in events → Latest most events
-latest most [] some once = absurd (omega arith)
-latest most (Configure items ∷ events) some once =
-    let l = latest most events some once in
-    record {
-      later = Configure items ∷ l.later;
-      raw = l.raw;
-      before = l.before;
-      split = ap (λ es. Configure items ∷ es) l.split;
-      short = l.short;
-      rest = l.rest;
-    }
-latest most (Scan raw ∷ events) some once =
-    elim (cases_lt 1 most) as (λ _. Latest most (Scan raw ∷ events)) [
-      | inl longer ↦
-          elim (cases_lt 0 (scans_in events)) as (λ _. Latest most (Scan raw ∷ events)) [
-            | inl more ↦
-                let l = latest (most - 1) events (omega arith) (omega arith) in
-                record {
-                  later = Scan raw ∷ l.later;
-                  raw = l.raw;
-                  before = l.before;
-                  split = ap (λ es. Scan raw ∷ es) l.split;
-                  short = omega (arith, l.short);
-                  rest = omega (arith, l.rest);
-                }
-            | inr none ↦ last (omega arith)
-          ]
-      | inr no_longer ↦ last (omega arith)
-    ]
-  where
-    last : scans_in events ≤ scans_in events + 1 - most → Latest most (Scan raw ∷ events)
-    last rest = record { later = []; raw = raw; before = events; split = refl; short = omega arith; rest = omega arith }
-
--- so it is of each so many scans
-few_of_each : (times opened least : ℕ) (events history : List FilterEvent) → 1 ≤ least
-    → FewStayOpen opened least events history → scans_in events ≤ times * least
-    → all_reports_in events history ≤ opened * times
-few_of_each zero opened least events history some stay few =
-    let none = no_scan_reports_any events history (omega arith) in
-    omega arith
-few_of_each (suc times) opened least events history some stay few =
-    elim (cases_lt 0 (scans_in events)) as (λ _. all_reports_in events history ≤ opened * suc times) [
-      | inl once ↦
-          let l = latest least events some (omega arith) in
-          let newest = l.later ++ Scan l.raw ∷ [] in
-          let split : events ≡ newest ++ l.before = l.split ∙ sym (append_assoc l.later (Scan l.raw ∷ []) l.before) in
-          let stay' = subst (λ es. FewStayOpen opened least es history) split stay in
-          let one_more : suc times * least ≡ times * least + least = grind arith in
-          let earlier = few_of_each times opened least l.before history some
-          (at_each_scan-back (HasFewOpen opened least) newest l.before history stay') (omega (arith, l.rest)) in
-          let now = few_at_once opened least l.raw l.later (l.before ++ history) some
-          (at_each_scan-front (HasFewOpen opened least) newest l.before history stay') l.short in
-          let all = ap (λ es. all_reports_in es history) split ∙ all_reports-append newest l.before history in
-          let both_times : opened * suc times ≡ opened * times + opened = grind arith in
-          omega arith
-      | inr never ↦
-          let none = no_scan_reports_any events history (omega arith) in
-          omega arith
-    ]
+all_reports_counted : (events history : List FilterEvent) → all_reports_in events history ≡ all_counted open_count events history
+all_reports_counted events history =
+    sum-same 64 (λ input. reports_in input events history) (λ input. counted_in open_count input events history)
+    (λ input. reports_counted input events history)
 
 -- reports are few
 pub reports_are_few : ReportsAreFew
 reports_are_few opened least events history some stay =
-    let times = (scans_in events - 1) / least in
-    let within : scans_in events - 1 < (1 + times) * least =
-    (div-lt_iff_lt-mul {k = least} {x = scans_in events - 1} {y = 1 + times} some).0 (omega arith) in
-    few_of_each (1 + times) opened least events history some stay (omega arith)
+    let same = all_reports_counted events history in
+    let few = counted_are_few open_count opened least events history some
+    (at_each_scan-map (HasFewOpen opened least) (FewCount open_count opened least)
+    (λ before h. record { few = h.few; filters = λ input low counts. h.filters input low (not-true (input_setting input before).ignore counts) })
+    events history stay) in
+    omega arith
+
+-- without a scan nothing is reported
+no_reports_any : (events history : List FilterEvent) → scans_in events ≡ 0 → all_reports_in events history ≡ 0
+no_reports_any events history none = all_reports_counted events history ∙ no_scan_counts_any open_count events history none
 
 -- so they are, times the least filter
 pub reports_times_filter : (opened least : ℕ) (events history : List FilterEvent) → 1 ≤ least → FewStayOpen opened least events history
@@ -273,7 +49,7 @@ reports_times_filter opened least events history some stay =
           omega arith
       | inr never ↦
           let none : all_reports_in events history * least ≡ 0 * least =
-          ap (λ n. n * least) (no_scan_reports_any events history (omega arith)) in
+          ap (λ n. n * least) (no_reports_any events history (omega arith)) in
           let least_once : opened * 1 ≤ opened * (scans_in events + least) = mul-le-mul_left opened (omega arith) in
           omega arith
     ]

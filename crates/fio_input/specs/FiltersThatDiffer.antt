@@ -1,23 +1,64 @@
--- How many changes scans can report where each open input counts with its own filters.
-use Rattle.std.specs.Prelude.{ℕ, ◌+◌, ◌-◌, ◌*◌, ◌/◌, ◌≤◌, min, not, List}
+-- How many changes scans can report where the filters of the open inputs differ, by a plan of which may be open.
+use Rattle.std.specs.Prelude.{◌≡◌, ℕ, ◌+◌, ◌-◌, ◌*◌, ◌/◌, ◌==◌, ◌<◌, ◌≤◌, ◌&&◌, Bool, false, not, min, List}
 use Rattle.fio_message.specs.Bits.{bit_of}
 use Rattle.fio_message.specs.declared.limits.TheConstants.{INPUTS}
 use Rattle.fio_input.specs.FilterRule.{Setting, filter_in_force}
 use Rattle.fio_input.specs.FilterHistory.{FilterEvent, input_setting}
-use Rattle.fio_input.specs.Delivery.{scans_in, sum_below, all_reports_in, NoneIsApplied}
+use Rattle.fio_input.specs.Delivery.{scans_in, sum_below, all_reports_in, HasFiltersOf, AtEachScan, NoneIsApplied}
 
--- the smaller of both filters in force
-abbrev pub least_filter : Setting → ℕ
-least_filter setting = min (filter_in_force setting.leading) (filter_in_force setting.trailing)
+-- A plan of which inputs may be open, in groups: the group of an input with its setting, how many groups there are, how
+-- many inputs of each may be open at once, and of at least how many samples their filters are.
+pub record Plan : Type 0 where
+  pub group_of : ℕ → Setting → ℕ
+  pub groups : ℕ
+  pub most_open : ℕ → ℕ
+  pub filter_of : ℕ → ℕ
 
--- the most changes that so many scans can report: 1 + (n - 1) / f for each open input, with its own f
-abbrev pub most_reports : List FilterEvent → ℕ → ℕ
-most_reports history scans =
-    sum_below INPUTS (λ input. bit_of (not (input_setting input history).ignore)
-    * (1 + (scans - 1) / least_filter (input_setting input history)))
+-- whether an input with this setting is open, and in this group
+abbrev pub is_open_in : Plan → ℕ → ℕ → Setting → Bool
+is_open_in plan group input setting = not setting.ignore && (plan.group_of input setting == group)
 
--- Reports are few, each input with its own filters, where no configuration is applied.
+-- The open inputs are as planned: each is in one of the groups, no more of a group are open than may be, and their
+-- filters in force are at least those of their groups.
+pub record IsAsPlanned (plan : Plan) (history : List FilterEvent) : Type 0 where
+  pub few :
+      (group : ℕ)
+      → sum_below INPUTS (λ input. bit_of (is_open_in plan group input (input_setting input history))) ≤ plan.most_open group
+  pub in_group :
+      (input : ℕ) → input < INPUTS → (input_setting input history).ignore ≡ false
+      → plan.group_of input (input_setting input history) < plan.groups
+  pub filters :
+      (input : ℕ) → input < INPUTS → (input_setting input history).ignore ≡ false
+      → HasFiltersOf (input_setting input history)
+      (filter_in_force (plan.filter_of (plan.group_of input (input_setting input history))))
+
+-- at each scan of these events, which come after a history, whatever configurations come between
+abbrev pub StaysAsPlanned : Plan → List FilterEvent → List FilterEvent → Type 0
+StaysAsPlanned plan events history = AtEachScan (IsAsPlanned plan) events history
+
+-- the most changes that so many scans can report then: 1 + (n - 1) / f for each input that may be open, with the f of its
+-- group
+abbrev pub most_reports : Plan → ℕ → ℕ
+most_reports plan scans =
+    sum_below plan.groups (λ group. plan.most_open group * (1 + (scans - 1) / filter_in_force (plan.filter_of group)))
+
+-- Reports are few, where the open inputs stay as planned.
 abbrev pub ReportsAreFewOfEach : Type 0
 ReportsAreFewOfEach =
-    (events history : List FilterEvent) → NoneIsApplied events → 1 ≤ scans_in events →
-    all_reports_in events history ≤ most_reports history (scans_in events)
+    (plan : Plan) (events history : List FilterEvent) → StaysAsPlanned plan events history → 1 ≤ scans_in events →
+    all_reports_in events history ≤ most_reports plan (scans_in events)
+
+-- the plan of those that are open after a history: each input is a group, with the smaller of its own filters
+abbrev pub present_plan : List FilterEvent → Plan
+present_plan history =
+    record {
+      group_of = λ input setting. input;
+      groups = INPUTS;
+      most_open = λ input. bit_of (not (input_setting input history).ignore);
+      filter_of = λ input. min (input_setting input history).leading (input_setting input history).trailing;
+    }
+
+-- They stay so where no configuration is applied.
+abbrev pub NoneAppliedStaysAsPlanned : Type 0
+NoneAppliedStaysAsPlanned = (events history : List FilterEvent) → NoneIsApplied events →
+    StaysAsPlanned (present_plan history) events history

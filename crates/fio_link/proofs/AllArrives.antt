@@ -1,11 +1,12 @@
 -- Links that are kept up with deliver all.
-use Rattle.fio_link.proofs.Names.{◌≡◌, ℕ, ◌+◌, ◌≤◌, List, ◌++◌, length, drop, ap, sym, subst, ◌∙◌, append_cancel_right, FewStayOpen, Settings, AreInRange, Life, life_of, filter_events, log_of, newest_end, nothing_left, AtEachTime, scans_behind, IsKeptUp, Machine, Pause, left_behind}
+use Rattle.fio_link.proofs.Names.{◌≡◌, ℕ, ◌+◌, ◌≤◌, List, ◌++◌, length, drop, ap, sym, subst, ◌∙◌, append_cancel_right, HasFewOpen, FewStayOpen, Settings, AreInRange, Life, life_of, filter_events, log_of, newest_end, nothing_left, AtEachTime, scans_behind, IsKeptUp, Machine, Pause, left_behind}
 use Rattle.fio_module.specs.KeepingUp.{KeepsUp}
-use Rattle.fio_module.proofs.Pace.{few_before}
+use Rattle.fio_module.proofs.Pace.{each_before}
 use Rattle.fio_module.proofs.Polling.{kept_up_keeps_up}
 use Rattle.fio_link.specs.KeptUp.{receipts_of, IsKeptUpWith, Arrives, AllArrivesWhereKeptUpWith}
 use Rattle.fio_link.proofs.Settled.{IsOpen, at_base}
-use Rattle.fio_link.proofs.KeptUp.{Reached, reached, whole, times, through, late, exactly, levels, near_now, heard_near}
+use Rattle.fio_link.proofs.KeptUp.{Reached, reached, heard_near}
+use Rattle.fio_link.proofs.KeptUpArrives.{whole, times, through, late, exactly, levels, near_now}
 
 -- where a link is kept up with
 module _ (settings : Settings) (range : AreInRange settings) (first : ℕ) (machine : Machine) (o : IsOpen settings range first machine) where
@@ -33,7 +34,7 @@ module _ (settings : Settings) (range : AreInRange settings) (first : ℕ) (mach
     keeps l stay near = kept_up_keeps_up settings opened filter scans most life l range p.some_wait (kept_up l stay near)
 
     older : (l before : Life) → IsFew (l ++ before) → IsFew before
-    older l before = few_before opened filter l before life
+    older l before = each_before (HasFewOpen opened filter) l before life
 
     ends : newest_end settings life ≡ length (log_of life)
     ends = nothing_left settings p.some_wait life (ap length p.from.few_change.nothing_waits)

@@ -1,5 +1,5 @@
 -- What each event keeps.
-use Rattle.fio_link.proofs.Names.{◌≡◌, ℕ, suc, ◌+◌, ◌-◌, ◌^◌, ◌<◌, ◌≤◌, List, [], ◌∷◌, length, Option, Some, None, slice_get, ap, sym, subst, ◌∙◌, arith, nat_tests, same_Some, Command, Block, command_octets, poll_in, Settings, AreInRange, Event, SentFrame, Machine, number_of, item_numbered, delivery_refusal, refusal, after_module_event, after_sending, after_delivery_to_module, after_delivery_to_cpu, after, Leads, HasBlock, IsNotRestart, HaveNoRestart}
+use Rattle.fio_link.proofs.Names.{◌≡◌, ℕ, suc, ◌+◌, ◌-◌, ◌^◌, ◌<◌, ◌≤◌, List, [], ◌∷◌, length, Option, Some, None, slice_get, ap, sym, subst, ◌∙◌, arith, nat_tests, same_Some, Command, Block, command_octets, poll_in, Settings, Event, SentFrame, Machine, number_of, item_numbered, delivery_refusal, refusal, after_module_event, after_sending, after_delivery_to_module, after_delivery_to_cpu, after, Leads, HasBlock, IsNotRestart, HaveNoRestart}
 use Rattle.fio_message.specs.declared.commands.Command.TheVariants as commands
 use Rattle.fio_message.proofs.MessageLaws.{poll_back}
 use Rattle.fio_module.specs.Life as module_events
@@ -7,8 +7,7 @@ use Rattle.fio_link.specs.declared.event.Event.TheVariants as events
 use Rattle.fio_link.proofs.Places.{some_block}
 use Rattle.fio_link.proofs.RoundNumbers.{number_of-fits}
 use Rattle.fio_link.proofs.Spelled.{no_poll_in}
-use Rattle.fio_link.proofs.Kept.{HasInvariant}
-use Rattle.fio_link.proofs.HeardRows.{after_taken, after_heard}
+use Rattle.fio_link.proofs.HeardRows.{after_taken, InOrder, after_heard}
 
 -- a delivery that is not refused names a frame, not before the one delivered last
 pub record CanDeliver (frames : List SentFrame) (last index : ℕ) : Type 0 where
@@ -67,7 +66,7 @@ pub record IsKeptByEvents (settings : Settings) (first : ℕ) (Known P : Machine
   pub takes : (machine : Machine) (place : ℕ) (answer : Block) → Known machine
       → HasBlock machine.to_cpu place answer machine.round → P machine → P (after_taken machine place answer)
 
-module _ (settings : Settings) (range : AreInRange settings) (first : ℕ) where
+module _ (settings : Settings) (first : ℕ) where
   -- the CPU's own poll has its number
   own_poll : (machine : Machine) (n : ℕ) → poll_in (command_octets (commands.Poll (number_of first machine.round))) ≡ Some n
       → n ≡ number_of first machine.round
@@ -76,7 +75,7 @@ module _ (settings : Settings) (range : AreInRange settings) (first : ℕ) where
       let fits : number < 2 ^ 8 = omega (arith, number_of-fits first machine.round) in
       same_Some _ _ (sym is ∙ poll_back number fits)
 
-  module _ (Known P : Machine → Type 0) (always : (machine : Machine) → Known machine → HasInvariant settings first machine)
+  module _ (Known P : Machine → Type 0) (always : (machine : Machine) → Known machine → InOrder first machine)
       (k : IsKeptByEvents settings first Known P) where
     -- so each event that is not refused and restarts nothing keeps it
     pub once : (machine : Machine) → Known machine → P machine
@@ -95,7 +94,7 @@ module _ (settings : Settings) (range : AreInRange settings) (first : ℕ) where
     once machine i p (events.ToCpu index) none fine =
         after_delivery (λ n found. P (after_delivery_to_cpu first machine n found))
         machine.to_cpu machine.last_to_cpu index fine
-        (λ place frame le at. after_heard settings range first machine (always machine i) P place frame le at
+        (λ place frame le at. after_heard first machine (always machine i) P place frame le at
         (k.passes machine (place + 1) i le p) (λ answer has. k.takes machine place answer i has p))
 
     -- and so do all events of a run, where each keeps what is known

@@ -1,15 +1,17 @@
 -- Links that are kept up with for each input deliver all.
-use Rattle.fio_link.proofs.Names.{◌≡◌, ℕ, ◌+◌, ◌-◌, ◌*◌, ◌≤◌, List, [], ◌∷◌, ◌++◌, length, drop, ap, sym, subst, ◌∙◌, arith, inl, inr, append_assoc, cases_lt, mul-le-mul_left, append_cancel_right, NoneIsApplied, Settings, AreInRange, Life, life_of, filter_events, log_of, newest_end, waiting_of, nothing_left, AtEachTime, scans_behind, holds_now, Machine, Pause, left_behind}
+use Rattle.fio_link.proofs.Names.{◌≡◌, ℕ, ◌+◌, ◌-◌, ◌*◌, ◌≤◌, List, [], ◌∷◌, ◌++◌, length, drop, ap, sym, subst, ◌∙◌, arith, inl, inr, append_assoc, cases_lt, mul-le-mul_left, append_cancel_right, Settings, AreInRange, Life, life_of, filter_events, log_of, newest_end, waiting_of, nothing_left, AtEachTime, scans_behind, holds_now, Machine, Pause, left_behind}
 use Rattle.fio_module.specs.KeepingUp.{KeepsUp}
 use Rattle.fio_module.specs.FiltersThatDiffer.{KeepsUpForEach}
-use Rattle.fio_module.proofs.Pace.{none_before}
+use Rattle.fio_input.specs.FiltersThatDiffer.{Plan, IsAsPlanned, StaysAsPlanned}
+use Rattle.fio_module.proofs.Pace.{each_before}
 use Rattle.fio_module.proofs.KeptUpForEach.{kept_up_for_each}
 use Rattle.fio_link.specs.KeptUp.{receipts_of}
 use Rattle.fio_link.specs.ForEach.{IsPolledInTimeForEach, ArrivesForEach, AllArrivesForEach}
 use Rattle.fio_link.proofs.MadeBlocks.{each-map}
 use Rattle.fio_link.proofs.Settled.{IsOpen, at_base}
 use Rattle.fio_link.proofs.Pauses.{left_in_time, begin_in_time}
-use Rattle.fio_link.proofs.KeptUp.{Reached, reached, whole, times, late, levels, near_now}
+use Rattle.fio_link.proofs.KeptUp.{Reached, reached}
+use Rattle.fio_link.proofs.KeptUpArrives.{whole, times, late, levels, near_now}
 
 -- what waits for each input, as if each scan reported a block of changes
 as_one : (settings : Settings) (scans : ℕ) (life later : Life) → scans_behind scans later life ≤ 2 * scans
@@ -32,8 +34,8 @@ as_one settings scans life later near k =
     }
 
 module _ (settings : Settings) (range : AreInRange settings) (first : ℕ) (machine : Machine) (o : IsOpen settings range first machine)
-    (scans untaken : ℕ) (pauses : List Pause) (receipt last : Machine) (later : Life)
-    (p : IsPolledInTimeForEach settings first scans untaken machine pauses receipt last later) where
+    (plan : Plan) (scans untaken : ℕ) (pauses : List Pause) (receipt last : Machine) (later : Life)
+    (p : IsPolledInTimeForEach settings plan first scans untaken machine pauses receipt last later) where
   abbrev life : Life
   life = life_of machine.history
 
@@ -41,7 +43,7 @@ module _ (settings : Settings) (range : AreInRange settings) (first : ℕ) (mach
   most = scans + untaken
 
   abbrev IsFew : Life → Type 0
-  IsFew l = NoneIsApplied (filter_events l)
+  IsFew l = StaysAsPlanned plan (filter_events l) (filter_events life)
 
   abbrev IsNear : Life → Type 0
   IsNear l = AtEachTime (λ l. scans_behind scans l life ≤ most) l
@@ -54,9 +56,9 @@ module _ (settings : Settings) (range : AreInRange settings) (first : ℕ) (mach
   nearer (occurrence ∷ l) near = (let here = near.0 in omega (arith, p.few_untaken), nearer l near.1)
 
   for_each : (l : Life) → IsFew l → IsNear l → AtEachTime (KeepsUpForEach settings scans life) l
-  for_each l none near =
-      kept_up_for_each settings scans 2 life l some_wait (record {
-        few_change = record { nothing_waits = p.few_change.nothing_waits; not_applied = none; enough = p.few_change.enough };
+  for_each l stay near =
+      kept_up_for_each settings plan scans 2 life l some_wait (record {
+        few_change = record { nothing_waits = p.few_change.nothing_waits; as_planned = stay; enough = p.few_change.enough };
         behind = nearer l near;
         room = p.room;
       })
@@ -67,10 +69,10 @@ module _ (settings : Settings) (range : AreInRange settings) (first : ℕ) (mach
   each_as_one (occurrence ∷ l) near each = (as_one settings scans life (occurrence ∷ l) near.0 each.0, each_as_one l near.1 each.1)
 
   keeps : (l : Life) → IsFew l → IsNear l → AtEachTime (KeepsUp settings settings.per_block 1 scans life) l
-  keeps l none near = each_as_one l (nearer l near) (for_each l none near)
+  keeps l stay near = each_as_one l (nearer l near) (for_each l stay near)
 
   older : (l before : Life) → IsFew (l ++ before) → IsFew before
-  older l before none = none_before l before none
+  older l before stay = each_before (IsAsPlanned plan) l before life stay
 
   ends : newest_end settings life ≡ length (log_of life)
   ends = nothing_left settings some_wait life (ap length p.few_change.nothing_waits)
@@ -99,9 +101,9 @@ module _ (settings : Settings) (range : AreInRange settings) (first : ℕ) (mach
       let order = reached_later.since_receipt in
       omega (arith, p.heard_in_time)
 
-  all_arrives_for : ArrivesForEach settings first scans untaken machine receipt last later
+  all_arrives_for : ArrivesForEach settings plan first scans untaken machine receipt last later
   all_arrives_for =
-      let stay = p.few_change.not_applied in
+      let stay = p.few_change.as_planned in
       let r = reached_later in
       let left = left_in_time scans untaken pauses p.in_time in
       record {
@@ -112,10 +114,10 @@ module _ (settings : Settings) (range : AreInRange settings) (first : ℕ) (mach
           levels = λ input level before samples after is new long.
               levels settings range first machine settings.per_block 1 scans most some IsFew older ends keeps behinds receipts receipt last later r near stay scans now t
               input level before samples after is new (omega arith);
-          few_wait = λ stretch blocks few is none.
+          few_wait = λ stretch blocks few is stay_on.
               let near_then = near_now settings range first machine settings.per_block 1 scans most some IsFew older ends keeps behinds receipts receipt last later r near stay scans now t stretch (omega arith) is in
               let here = holds_now (λ l. scans_behind scans l life ≤ most) (stretch ++ later) near_then in
-              let k = holds_now (KeepsUpForEach settings scans life) (stretch ++ later) (for_each (stretch ++ later) none near_then) in
+              let k = holds_now (KeepsUpForEach settings scans life) (stretch ++ later) (for_each (stretch ++ later) stay_on near_then) in
               let same : life_of now.history ≡ (stretch ++ later) ++ life = is ∙ sym (append_assoc stretch later life) in
               subst (λ l. length (waiting_of settings l) ≤ blocks * settings.per_block) (sym same) (k.few_wait blocks (omega arith));
         };

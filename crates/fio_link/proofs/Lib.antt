@@ -26,6 +26,7 @@ pub mod StretchesOfLives
 pub mod RestartLosses
 pub mod Times
 pub mod CleanRounds
+pub mod WithoutPolls
 pub mod WithinRounds
 pub mod NewestPolls
 pub mod SinceRound
@@ -35,7 +36,10 @@ pub mod CatchingUp
 pub mod Arrivals
 pub mod AnyTime
 pub mod Gained
+pub mod RoundStretches
+pub mod LeftOver
 pub mod KeptUp
+pub mod KeptUpArrives
 pub mod AllArrives
 pub mod Pauses
 pub mod ForEach
@@ -46,9 +50,15 @@ pub mod WholeRecords
 pub mod GapMarks
 pub mod WholeLives
 pub mod WholeSince
+pub mod KeptNumber
+pub mod CpuOrder
+pub mod NewCpu
+pub mod CpuStretches
 pub mod Promises
 pub mod StandardLinks
 pub mod Examples
+pub mod FramesUnderWay
 pub mod DenseRuns
 pub mod Sharpness
+pub mod Instances
 pub mod PolledTooSeldom

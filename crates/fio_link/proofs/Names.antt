@@ -20,7 +20,7 @@ pub use Rattle.fio_message.specs.declared.commands.Command.{Command}
 pub use Rattle.fio_message.specs.declared.commands.Command.TheVariants.{Poll, ConfigureInputs}
 pub use Rattle.fio_message.specs.declared.fields.Entry.{Entry}
 pub use Rattle.fio_input.specs.Counter.{asked_number, one_more_if_loaded}
-pub use Rattle.fio_input.specs.Delivery.{scans_in, FewStayOpen, OpenHaveFiltersOf, NoneIsApplied}
+pub use Rattle.fio_input.specs.Delivery.{scans_in, HasFewOpen, FewStayOpen, OpenHaveFiltersOf, NoneIsApplied}
 pub use Rattle.fio_input.specs.FilterHistory.{is_reported}
 pub use Rattle.fio_module.proofs.Ages.{scans_in-append}
 pub use Rattle.fio_module.proofs.BlockLaws.{blocks_follow, blocks_end_within}

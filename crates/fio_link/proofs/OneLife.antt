@@ -5,7 +5,8 @@ use Rattle.fio_link.specs.Frames.{is_repeated, repeats, answer_before, block_ans
 use Rattle.fio_link.proofs.Places.{get_after_push, take_one_more}
 use Rattle.fio_link.proofs.RoundNumbers.{number_of-fits, rounds_from_numbers}
 use Rattle.fio_link.proofs.AllLives.{past_log, behind, past_blocks, all_blocks}
-use Rattle.fio_link.proofs.Kept.{HasInvariant, after_other, after_poll}
+use Rattle.fio_link.proofs.Kept.{after_other, after_poll}
+use Rattle.fio_link.proofs.HeardRows.{InOrder}
 
 -- a block in the record, with its wide times
 abbrev pub recorded_of : MadeBlock → List Item
@@ -86,12 +87,12 @@ pub record ContinuesPolls (first : ℕ) (polls : List ℕ) (latest : Option ℕ)
   pub met : Continues (is_new latest number) round polls
 
 -- it is known of a poll that the module receives
-pub poll_continues : (settings : Settings) (first : ℕ) (machine : Machine) → HasInvariant settings first machine
+pub poll_continues : (first : ℕ) (machine : Machine) → InOrder first machine
     → (latest : Option ℕ) → latest ≡ newest_number first machine.polls
     → (place number : ℕ) (frame : SentFrame) → machine.last_to_module ≤ place + 1
     → slice_get machine.to_module place ≡ Some frame → poll_in frame.octets ≡ Some number
     → ContinuesPolls first machine.polls latest number frame.round
-poll_continues settings first machine i latest polled place number frame le at spells =
+poll_continues first machine i latest polled place number frame le at spells =
     let round = frame.round in
     let poll : HasPoll machine.to_module place number round =
     record { frame = frame; at_place = at; spells = spells; of_round = refl } in

@@ -8,7 +8,7 @@ use Rattle.fio_link.proofs.Received.{no_block_reply, same_number, first_carries,
 use Rattle.fio_link.proofs.AllLives.{past_log, past_blocks}
 use Rattle.fio_link.proofs.Makers.{makers_of, makers_after}
 use Rattle.fio_link.proofs.Kept.{after_frame, HasInvariant, after_poll, blocks_if, sending_if, makers_if}
-use Rattle.fio_link.proofs.HeardRows.{after_taken}
+use Rattle.fio_link.proofs.HeardRows.{after_taken, in_order}
 use Rattle.fio_link.proofs.Events.{IsKeptByEvents, along}
 use Rattle.fio_link.proofs.Rows.{keeps-start, keeps_all, kept_without_restart}
 use Rattle.fio_link.proofs.OneLife.{InOneLife, all_in_life, Continues, poll_continues, record_of-next, life-other, life-new, life-repeated}
@@ -83,7 +83,7 @@ module _ (settings : Settings) (range : AreInRange settings) (first : ℕ) (mach
       (polls_with (polled_number command) frame.round machine.polls))
       (after_frame settings machine place frame command)
   received_frame place frame le at (Some (commands.Poll number)) spells =
-      let p = poll_continues settings first machine i (newest_poll life) o.polled place number frame le at
+      let p = poll_continues first machine (in_order settings first machine i) (newest_poll life) o.polled place number frame le at
       (ap polled_number spells) in
       received_poll place number frame (is_new (newest_poll life) number) refl p.named p.fits p.met
   received_frame place frame le at command spells =
@@ -163,5 +163,5 @@ module _ (settings : Settings) (range : AreInRange settings) (first : ℕ) where
       → (events : List Event) (machine last : Machine) → HaveNoRestart events → Leads settings first machine events last
       → IsKept settings first machine → P machine → P last
   kept_in_life P k =
-      along settings range first (IsKept settings first) P (λ machine k. k.always) k
+      along settings first (IsKept settings first) P (λ machine k. in_order settings first machine k.always) k
       (λ machine k event none fine. kept_all (event ∷ []) machine (after settings first machine event) (none, tt) (fine, refl) k)

@@ -10,7 +10,7 @@ use Rattle.fio_link.proofs.Makers.{makers_of}
 use Rattle.fio_link.proofs.RisingPieces.{RecordRises, rises-longer, rises-further}
 use Rattle.fio_link.proofs.Kept.{keeps_history, Invariant, HasInvariant}
 use Rattle.fio_link.proofs.ReceivedRows.{keeps_received}
-use Rattle.fio_link.proofs.HeardRows.{keeps_passed, keeps_taken}
+use Rattle.fio_link.proofs.HeardRows.{in_order, keeps_passed, keeps_taken}
 use Rattle.fio_link.proofs.Events.{IsKeptByEvents, once, along}
 
 -- the start
@@ -109,14 +109,14 @@ module _ (settings : Settings) (range : AreInRange settings) (first : ℕ) where
       → HasInvariant settings first (after settings first machine event)
   keeps machine i events.Restart fine = keeps_restart settings range first machine i
   keeps machine i event fine =
-      once settings range first (HasInvariant settings first) (HasInvariant settings first) (λ machine i. i) rows machine i i event tt fine
+      once settings first (HasInvariant settings first) (HasInvariant settings first) (in_order settings first) rows machine i i event tt fine
 
   module _ (P : Machine → Type 0) (k : IsKeptByEvents settings first (HasInvariant settings first) P) where
     -- what each event keeps but a restart, all events keep that restart nothing
     pub kept_without_restart : (events : List Event) (machine last : Machine) → HaveNoRestart events
         → Leads settings first machine events last → HasInvariant settings first machine → P machine → P last
     kept_without_restart =
-        along settings range first (HasInvariant settings first) P (λ machine i. i) k (λ machine i event none fine. keeps machine i event fine)
+        along settings first (HasInvariant settings first) P (in_order settings first) k (λ machine i event none fine. keeps machine i event fine)
 
     -- and what a restart keeps too, all events keep
     module _ (restarts : (machine : Machine) → P machine → P (after_module_event machine module_events.Restart)) where
@@ -124,7 +124,7 @@ module _ (settings : Settings) (range : AreInRange settings) (first : ℕ) where
           → (event : Event) → refusal machine event ≡ None → P (after settings first machine event)
       once_more machine i p events.Restart fine = restarts machine p
       once_more machine i p event fine =
-          once settings range first (HasInvariant settings first) P (λ machine i. i) k machine i p event tt fine
+          once settings first (HasInvariant settings first) P (in_order settings first) k machine i p event tt fine
 
       pub kept_along : (events : List Event) (machine last : Machine)
           → Leads settings first machine events last → HasInvariant settings first machine → P machine → P last

@@ -5,7 +5,7 @@ use Rattle.fio_link.specs.Claims.{TakesPresentRound, IsInSequence}
 use Rattle.fio_link.specs.Sound.{LeadToOneMachine}
 use Rattle.fio_link.proofs.RisingPieces.{rises_as_promised}
 use Rattle.fio_link.proofs.Kept.{HasInvariant}
-use Rattle.fio_link.proofs.HeardRows.{after_taken, same_round}
+use Rattle.fio_link.proofs.HeardRows.{after_taken, same_round, in_order}
 use Rattle.fio_link.proofs.Events.{deliverable, frame_at_place}
 
 -- events lead to one machine at most
@@ -59,6 +59,6 @@ takes settings range first machine i place block round has fine =
     let named : block.number ≡ number_of first round = (i.carry place block round has).number in
     let heard = round_heard settings first machine place block round has in
     let over = over_if_same block.number (number_of first machine.round) machine.round in (
-      λ taken. same_round settings range first machine i place block round le has (over.0 (sym heard ∙ taken)),
+      λ taken. same_round first machine (in_order settings first machine i) place block round le has (over.0 (sym heard ∙ taken)),
       λ same. heard ∙ over.1 (named ∙ ap (number_of first) same),
     )

@@ -9,7 +9,7 @@ use Rattle.fio_link.proofs.Spelled.{said}
 use Rattle.fio_link.proofs.MadeBlocks.{next_fits}
 use Rattle.fio_link.proofs.Received.{no_block_reply, same_number, first_carries, again_carries, carried_back, carried_says, latest_sent, newest_fits}
 use Rattle.fio_link.proofs.Kept.{after_frame, HasInvariant, after_poll, after_other, blocks_if, sending_if}
-use Rattle.fio_link.proofs.HeardRows.{after_taken, after_heard}
+use Rattle.fio_link.proofs.HeardRows.{after_taken, InOrder, in_order, after_heard}
 use Rattle.fio_link.proofs.Events.{after_delivery}
 use Rattle.fio_link.proofs.Rows.{keeps}
 use Rattle.fio_link.proofs.OneLife.{recorded_of, record_of, Continues, poll_continues, record_of-next}
@@ -33,9 +33,12 @@ pub record Since (first : ℕ) (base : Machine) (before blocks : List MadeBlock)
       → CarriesSince blocks (length before + (round - base.round)) answer
 
 -- the same of a machine, for the settings
+abbrev pub IsSinceBlocks : Settings → ℕ → Machine → List MadeBlock → Machine → Type 0
+IsSinceBlocks settings first base before machine =
+    Since first base before (blocks_in settings machine) (newest_poll (life_of machine.history)) machine
+
 abbrev pub IsSince : Settings → ℕ → Machine → Machine → Type 0
-IsSince settings first base machine =
-    Since first base (blocks_in settings base) (blocks_in settings machine) (newest_poll (life_of machine.history)) machine
+IsSince settings first base machine = IsSinceBlocks settings first base (blocks_in settings base) machine
 
 -- one more block changes none that were made
 carries-longer : (blocks : List MadeBlock) (block : MadeBlock) (place : ℕ) (answer : Block) → CarriesSince blocks place answer
@@ -133,13 +136,10 @@ module _ (first : ℕ) (base : Machine) (before blocks : List MadeBlock) (latest
             });
       }
 
-module _ (settings : Settings) (range : AreInRange settings) (first : ℕ) (base machine : Machine)
-    (i : HasInvariant settings first machine) (o : IsSince settings first base machine) where
+module _ (settings : Settings) (range : AreInRange settings) (first : ℕ) (base : Machine) (before : List MadeBlock) (machine : Machine)
+    (i : InOrder first machine) (o : IsSinceBlocks settings first base before machine) where
   abbrev life : Life
   life = life_of machine.history
-
-  abbrev before : List MadeBlock
-  before = blocks_in settings base
 
   -- a poll is received, new or not
   received_poll : (place number : ℕ) (frame : SentFrame) (new : Bool) → is_new (newest_poll life) number ≡ new
@@ -173,7 +173,7 @@ module _ (settings : Settings) (range : AreInRange settings) (first : ℕ) (base
       → Since first base before (blocks_of settings (life_after_command command life)) (newest_poll (life_after_command command life))
       (after_frame settings machine place frame command)
   received_frame place frame le at (Some (commands.Poll number)) spells =
-      let p = poll_continues settings first machine i (newest_poll life) o.polled place number frame le at
+      let p = poll_continues first machine i (newest_poll life) o.polled place number frame le at
       (ap polled_number spells) in
       received_poll place number frame (is_new (newest_poll life) number) refl p.named p.fits p.met
   received_frame place frame le at command spells =
@@ -181,19 +181,19 @@ module _ (settings : Settings) (range : AreInRange settings) (first : ℕ) (base
       (answer_if settings life command) (no_block_reply settings life command refl)
 
   -- the module receives a frame
-  since_received : (place : ℕ) (frame : SentFrame) → machine.last_to_module ≤ place + 1
+  pub since_received : (place : ℕ) (frame : SentFrame) → machine.last_to_module ≤ place + 1
       → slice_get machine.to_module place ≡ Some frame
-      → IsSince settings first base (after_delivery_to_module settings machine (place + 1) (Some frame))
+      → IsSinceBlocks settings first base before (after_delivery_to_module settings machine (place + 1) (Some frame))
   since_received place frame le at = received_frame place frame le at (command_in frame.octets) refl
 
   -- the CPU hears a frame and takes nothing
-  since_passed : (index : ℕ) → IsSince settings first base (record machine { last_to_cpu = index })
+  pub since_passed : (index : ℕ) → IsSinceBlocks settings first base before (record machine { last_to_cpu = index })
   since_passed index =
       record { rest = o.rest; split = o.split; made = o.made; polled = o.polled; started = o.started; kept = o.kept; carries = o.carries }
 
   -- the CPU takes the block of its round
-  since_taken : (place : ℕ) (answer : Block) → HasBlock machine.to_cpu place answer machine.round
-      → IsSince settings first base (after_taken machine place answer)
+  pub since_taken : (place : ℕ) (answer : Block) → HasBlock machine.to_cpu place answer machine.round
+      → IsSinceBlocks settings first base before (after_taken machine place answer)
   since_taken place answer block =
       let b = o.carries place answer machine.round block o.started in
       let k = machine.round - base.round in
@@ -220,20 +220,20 @@ module _ (settings : Settings) (range : AreInRange settings) (first : ℕ) (base
   -- the CPU hears a frame
   since_heard : (place : ℕ) (frame : SentFrame) → machine.last_to_cpu ≤ place + 1
       → slice_get machine.to_cpu place ≡ Some frame
-      → IsSince settings first base (after_delivery_to_cpu first machine (place + 1) (Some frame))
+      → IsSinceBlocks settings first base before (after_delivery_to_cpu first machine (place + 1) (Some frame))
   since_heard place frame le at =
-      after_heard settings range first machine i (IsSince settings first base) place frame le at
+      after_heard first machine i (IsSinceBlocks settings first base before) place frame le at
       (since_passed (place + 1)) (since_taken place)
 
   -- each row but a restart keeps it
   since_once : (event : Event) → IsNotRestart event → refusal machine event ≡ None
-      → IsSince settings first base (after settings first machine event)
+      → IsSinceBlocks settings first base before (after settings first machine event)
   since_once events.Restart none fine = absurd none
   since_once (events.ToModule index) none fine =
-      after_delivery (λ n found. IsSince settings first base (after_delivery_to_module settings machine n found))
+      after_delivery (λ n found. IsSinceBlocks settings first base before (after_delivery_to_module settings machine n found))
       machine.to_module machine.last_to_module index fine since_received
   since_once (events.ToCpu index) none fine =
-      after_delivery (λ n found. IsSince settings first base (after_delivery_to_cpu first machine n found))
+      after_delivery (λ n found. IsSinceBlocks settings first base before (after_delivery_to_cpu first machine n found))
       machine.to_cpu machine.last_to_cpu index fine since_heard
   since_once event none fine =
       record { rest = o.rest; split = o.split; made = o.made; polled = o.polled; started = o.started; kept = o.kept; carries = o.carries }
@@ -248,4 +248,4 @@ since_all settings range first base [] machine last none leads i o = subst (IsSi
 since_all settings range first base (event ∷ events) machine last none leads i o =
     since_all settings range first base events (after settings first machine event) last none.1 leads.1
     (keeps settings range first machine i event leads.0)
-    (since_once settings range first base machine i o event none.0 leads.0)
+    (since_once settings range first base (blocks_in settings base) machine (in_order settings first machine i) o event none.0 leads.0)

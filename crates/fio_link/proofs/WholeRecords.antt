@@ -76,9 +76,9 @@ whole_where_polled_often settings range wide machine pieces opened filter scans 
 -- where it is polled often for each input
 pub whole_where_polled_for_each : (settings : Settings) → AreInRange settings → settings.per_block ≤ settings.waiting → (machine : Machine)
     → RecordIsPieces settings machine → IsWholeWherePolledForEach settings machine
-whole_where_polled_for_each settings range wide machine pieces scans life later is few often =
+whole_where_polled_for_each settings range wide machine pieces plan scans life later is few often =
     whole_unless_full settings machine pieces
-    (subst (NeverTooMany settings) (sym is) ((polled_for_each_loses_none settings scans life later range wide often).stays few))
+    (subst (NeverTooMany settings) (sym is) ((polled_for_each_loses_none settings plan scans life later range wide often).stays few))
 
 -- after an outage
 pub whole_after_outage : (settings : Settings) (machine : Machine)

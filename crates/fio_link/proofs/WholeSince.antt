@@ -5,6 +5,7 @@ use Rattle.std.proofs.lemmas.Simd.{map-map}
 use Rattle.fio_module.proofs.ListParts.{each-push, get_from_back}
 use Rattle.fio_module.proofs.Losses.{next_not_lost}
 use Rattle.fio_module.proofs.Outages.{outage_is_ridden_out}
+use Rattle.fio_input.specs.FiltersThatDiffer.{Plan}
 use Rattle.fio_module.proofs.FiltersThatDiffer.{polled_for_each_loses_none, each_few}
 use Rattle.fio_link.specs.WholeSince.{GainsAllWhere, StaysFew, IsRoomyOutage, IsOftenForEach}
 use Rattle.fio_link.proofs.MadeBlocks.{each-take, each-append}
@@ -121,7 +122,7 @@ module _ (settings : Settings) (range : AreInRange settings) (first : ℕ) (mach
   gains_all_after_outage opened filter some s now later t is outage =
       gains_all some s now later t is (outage_is_ridden_out settings opened filter (life_of machine.history) later outage (few_beyond some s))
 
-  pub gains_all_for_each : (scans : ℕ) → GainsAllWhere (IsOftenForEach scans) settings first machine
-  gains_all_for_each scans some s now later t is often =
+  pub gains_all_for_each : (plan : Plan) (scans : ℕ) → GainsAllWhere (IsOftenForEach plan scans) settings first machine
+  gains_all_for_each plan scans some s now later t is often =
       gains_all some s now later t is (each_few settings (life_of machine.history) later
-      (polled_for_each_loses_none settings scans (life_of machine.history) later range often.0 often.1).each)
+      (polled_for_each_loses_none settings plan scans (life_of machine.history) later range often.0 often.1).each)

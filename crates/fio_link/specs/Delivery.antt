@@ -4,6 +4,7 @@ use Rattle.std.specs.Prelude.{◌≡◌, ℕ, ◌+◌, ◌<◌, true, List, [], 
 use Rattle.std.specs.List.{AllByRecursion, flat_map}
 use Rattle.fio_message.specs.declared.commands.Command.TheVariants as commands
 use Rattle.fio_message.specs.Blocks.{Block}
+use Rattle.fio_input.specs.FiltersThatDiffer.{Plan}
 use Rattle.fio_module.specs.Settings.{Settings}
 use Rattle.fio_module.specs.Life.{Life, Commanded, life_of}
 use Rattle.fio_module.specs.Log.{entry_of, log_of}
@@ -136,11 +137,11 @@ IsWholeWherePolledOften settings machine = (opened filter scans : ℕ) (life lat
     life_of machine.history ≡ later ++ life → NeverTooMany settings life →
     IsPolledOften settings opened filter scans life later → RecordIsWhole settings machine
 
--- so it is where the module is polled often for each input, with its own filters
+-- so it is where the module is polled often for each input, with the filters of its group
 abbrev pub IsWholeWherePolledForEach : Settings → Machine → Type 0
-IsWholeWherePolledForEach settings machine = (scans : ℕ) (life later : Life) →
+IsWholeWherePolledForEach settings machine = (plan : Plan) (scans : ℕ) (life later : Life) →
     life_of machine.history ≡ later ++ life → NeverTooMany settings life →
-    IsPolledForEach settings scans life later → RecordIsWhole settings machine
+    IsPolledForEach settings plan scans life later → RecordIsWhole settings machine
 
 -- so is it after an outage that the buffer has room for
 abbrev pub IsWholeAfterOutage : Settings → Machine → Type 0

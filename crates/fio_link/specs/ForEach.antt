@@ -1,6 +1,6 @@
--- Links of which the open inputs' filters differ, kept up with after pauses.
+-- Links of which the open inputs' filters differ, by a plan of which may be open, kept up with after pauses.
 use Rattle.std.specs.Prelude.{◌≡◌, ℕ, ◌+◌, ◌*◌, ◌≤◌, List, ◌++◌, length}
-use Rattle.fio_input.specs.Delivery.{NoneIsApplied}
+use Rattle.fio_input.specs.FiltersThatDiffer.{Plan, StaysAsPlanned}
 use Rattle.fio_module.specs.Settings.{Settings}
 use Rattle.fio_module.specs.Life.{Life, life_of, loads_of, filter_events}
 use Rattle.fio_module.specs.Blocks.{waiting_of}
@@ -11,8 +11,9 @@ use Rattle.fio_link.specs.NewLevels.{RecordsNewLevels}
 use Rattle.fio_link.specs.KeptUp.{Pause, RoundsAfter, AreInTime, LacksOnlyYoung}
 
 -- Polled in time for each input, from a settled point on: with pauses of at most n scans, of which at most u come after
--- the CPU had last taken all, a block takes all that the open inputs can report in n scans, and two may wait.
-pub record IsPolledInTimeForEach (settings : Settings) (first scans untaken : ℕ)
+-- the CPU had last taken all, a block takes all that the open inputs can report in n scans, while they stay as planned, and
+-- two may wait.
+pub record IsPolledInTimeForEach (settings : Settings) (plan : Plan) (first scans untaken : ℕ)
     (machine : Machine) (pauses : List Pause) (receipt last : Machine) (later : Life) : Type 0 where
   pub room : 2 * settings.per_block ≤ settings.waiting
   pub few_untaken : untaken ≤ scans
@@ -20,12 +21,12 @@ pub record IsPolledInTimeForEach (settings : Settings) (first scans untaken : �
   pub all_taken : HasTakenAll first machine
   pub rounds : RoundsAfter settings first machine pauses receipt last
   pub since : life_of last.history ≡ later ++ life_of machine.history
-  pub few_change : FewChangeEach settings scans (life_of machine.history) later
+  pub few_change : FewChangeEach settings plan scans (life_of machine.history) later
   pub heard_in_time : IsWithin scans receipt last
 
 -- What holds n scans after the newest poll was received at most: the record lacks nothing older than n + u - 1 scans,
 -- and no more wait than the blocks take that make up for n + u.
-pub record IsLateForEach (settings : Settings) (scans untaken : ℕ) (machine last now : Machine) (later : Life)
+pub record IsLateForEach (settings : Settings) (plan : Plan) (scans untaken : ℕ) (machine last now : Machine) (later : Life)
     : Type 0 where
   pub late : LacksOnlyYoung (scans + untaken) 1 settings now
   pub levels :
@@ -34,21 +35,21 @@ pub record IsLateForEach (settings : Settings) (scans untaken : ℕ) (machine la
   pub few_wait :
       (stretch : Life) (blocks : ℕ) → scans + untaken ≤ blocks * scans
       → life_of now.history ≡ stretch ++ (later ++ life_of machine.history)
-      → NoneIsApplied (filter_events (stretch ++ later))
+      → StaysAsPlanned plan (filter_events (stretch ++ later)) (filter_events (life_of machine.history))
       → length (waiting_of settings (life_of now.history)) ≤ blocks * settings.per_block
 
 -- then all arrives in time
-pub record ArrivesForEach (settings : Settings) (first scans untaken : ℕ) (machine receipt last : Machine) (later : Life)
+pub record ArrivesForEach (settings : Settings) (plan : Plan) (first scans untaken : ℕ) (machine receipt last : Machine) (later : Life)
     : Type 0 where
   pub whole : HasGainedAll settings machine last
   pub times : HaveTheirTimes settings 1 (scans + untaken) machine last
   pub at :
       (now : Machine) → LeadsInTime settings first scans receipt last now
-      → IsLateForEach settings scans untaken machine last now later
+      → IsLateForEach settings plan scans untaken machine last now later
 
 -- where a link is polled in time for each input, all arrives in time
 abbrev pub AllArrivesForEach : Settings → ℕ → Machine → Type 0
 AllArrivesForEach settings first machine =
-    (scans untaken : ℕ) (pauses : List Pause) (receipt last : Machine) (later : Life) →
-    IsPolledInTimeForEach settings first scans untaken machine pauses receipt last later →
-    ArrivesForEach settings first scans untaken machine receipt last later
+    (plan : Plan) (scans untaken : ℕ) (pauses : List Pause) (receipt last : Machine) (later : Life) →
+    IsPolledInTimeForEach settings plan first scans untaken machine pauses receipt last later →
+    ArrivesForEach settings plan first scans untaken machine receipt last later

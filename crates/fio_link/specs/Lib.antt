@@ -10,6 +10,7 @@ pub mod Rising
 pub mod Restarts
 pub mod Delivery
 pub mod Settled
+pub mod CpuRestarts
 pub mod NewLevels
 pub mod KeptUp
 pub mod ForEach
@@ -18,4 +19,5 @@ pub mod StandardLinks
 pub mod LostRounds
 pub mod MovedScans
 pub mod Sharpness
+pub mod Instances
 pub mod Sound

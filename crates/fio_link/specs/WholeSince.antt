@@ -1,5 +1,6 @@
 -- What arrives since a settled point, however seldom rounds come: all, unless the buffer was full.
 use Rattle.std.specs.Prelude.{◌≡◌, ℕ, ◌≤◌, ◌++◌}
+use Rattle.fio_input.specs.FiltersThatDiffer.{Plan}
 use Rattle.fio_module.specs.Settings.{Settings}
 use Rattle.fio_module.specs.Life.{Life, life_of}
 use Rattle.fio_module.specs.Delivery.{AtEachTime, FewBeyond, IsOutage}
@@ -23,6 +24,6 @@ abbrev pub IsRoomyOutage : ℕ → ℕ → Settings → Life → Life → Type 0
 IsRoomyOutage opened filter settings life later = IsOutage settings opened filter life later
 
 -- polled often for each input, where a whole block may wait
-abbrev pub IsOftenForEach : ℕ → Settings → Life → Life → Type 0
-IsOftenForEach scans settings life later =
-    (settings.per_block ≤ settings.waiting) × IsPolledForEach settings scans life later
+abbrev pub IsOftenForEach : Plan → ℕ → Settings → Life → Life → Type 0
+IsOftenForEach plan scans settings life later =
+    (settings.per_block ≤ settings.waiting) × IsPolledForEach settings plan scans life later

@@ -1,5 +1,6 @@
 //! Laws of the link machine: each function states some in its contract, and does nothing.
-ghost use Rattle.std.specs.Prelude.{◌≡◌, ℕ, ◌≤◌, true, false};
+ghost use Rattle.std.specs.Prelude.{◌≡◌, ℕ, ◌≤◌, true, false, [], ◌∷◌};
+ghost use Rattle.fio_input.specs.FiltersThatDiffer.{Plan};
 ghost use Rattle.fio_module.specs.Limits.{Limits, are_limits};
 ghost use Rattle.fio_module.specs.Settings.{Settings, standard_settings, settings_with, AreInRange, HasRoom};
 ghost use Rattle.fio_link.specs.Link.{Machine};
@@ -8,6 +9,7 @@ ghost use Rattle.fio_link.specs.Headline.{Headline};
 ghost use Rattle.fio_link.specs.Rounds.{PollsOf, PollsReceivedHaveRounds, NewestPollMadeNewestBlock, BlockAnswersOf, AnswersCarryBlocks};
 ghost use Rattle.fio_link.specs.Rising.{IsRising};
 ghost use Rattle.fio_link.specs.Restarts.{TakesStretchOfEachLife};
+ghost use Rattle.fio_link.specs.CpuRestarts.{KeptNumberLosesNothing, NewCpuTakesStretches, RecordsPlaces};
 ghost use Rattle.fio_link.specs.Sound.{HoldsOfRuns, HoldsWhateverRestarts, HoldsWithoutRestart, IsSoundRun, LeadToOneMachine};
 ghost use Rattle.fio_link.specs.Delivery.{RoundWithNothingBetweenIsClean, CleanRoundTakesBlock, EachCleanRoundTakesOne, IsWholeUnlessFull, GapsNameTimes, IsWholeWherePolledOften, IsWholeWherePolledForEach, IsWholeAfterOutage};
 ghost use Rattle.fio_link.specs.Settled.{StandsWithoutRestart, CleanRoundTakesAll, RoundsMakeBlocks, CleanRoundsCatchUp};
@@ -17,6 +19,7 @@ ghost use Rattle.fio_link.specs.WholeSince.{GainsAllWhere, StaysFew, IsRoomyOuta
 ghost use Rattle.fio_link.specs.StandardLinks.{StandardLinkIsNeverLater, StandardLinkRecordsNewLevels};
 ghost use Rattle.fio_link.specs.MovedScans.{ScansMoveOut};
 ghost use Rattle.fio_link.specs.Sharpness.{StandardLinkIsAsLate, LosesWhereAScanLater};
+ghost use Rattle.fio_link.specs.Instances.{IsKeptUpAfterRestarts};
 ghost use Rattle.fio_link.specs.LostRounds.{LoseFewRounds, LostRoundsArePossible};
 
 /// What the first m blocks of a life are in the record are pieces of its transition log from the
@@ -61,6 +64,28 @@ pub fn record_rises()
 #[tactic(auto, using(crate::proofs::Promises::runs_are_sound))]
 pub fn one_stretch_of_each_life_is_taken()
     ensures { HoldsOfRuns (λ settings first events machine. TakesStretchOfEachLife settings machine) }
+{}
+
+/// A CPU that begins again with the number that it had loses and doubles nothing, whatever is under way: the records
+/// of its lives, joined, are the record of one run.
+#[tactic(auto, using(crate::proofs::KeptNumber::kept_number_loses_nothing))]
+pub fn cpu_with_kept_number()
+    ensures { KeptNumberLosesNothing }
+{}
+
+/// A CPU that begins anew with any number, with nothing under way, takes one stretch of the module's blocks in each of
+/// its lives, while the module does not restart. Each restart of the CPU gives up at most one block, and takes at most
+/// one twice, which says that its number was asked for again.
+#[tactic(auto, using(crate::proofs::CpuStretches::new_cpu_takes_stretches))]
+pub fn cpu_with_any_number()
+    ensures { NewCpuTakesStretches }
+{}
+
+/// With frames under way, a CPU that begins with its first number again can lose transitions, and no gap mark tells of
+/// it: of five, the third and the fourth.
+#[tactic(auto, using(crate::proofs::FramesUnderWay::loses_two))]
+pub fn cpu_with_frames_under_way_can_lose()
+    ensures { RecordsPlaces (standard_settings 2) 0 (0 ∷ 1 ∷ 4 ∷ []) }
 {}
 
 /// The rounds of the polls sent never fall, are at most the CPU's, and from the one delivered last
@@ -133,8 +158,8 @@ pub fn nothing_is_lost()
 {}
 
 /// Without restarts: where the module is polled often enough, from a time on at which nothing waits,
-/// the record is the front of the transition log, whole, also where each input counts with its own
-/// filters; and so it is after an outage for which the buffer has room.
+/// the record is the front of the transition log, whole, also where each input counts with the filters of
+/// its group; and so it is after an outage for which the buffer has room.
 pub fn polled_often_is_whole()
     ensures polled_often { HoldsWithoutRestart (λ settings first machine.
         HasRoom settings → IsWholeWherePolledOften settings machine) }
@@ -174,12 +199,12 @@ pub fn all_arrives_in_time()
 pub fn settled_links_lose_nothing()
     ensures unless_full { HoldsWhateverRestarts (GainsAllWhere StaysFew) }
     ensures outage { (opened filter : ℕ) → HoldsWhateverRestarts (GainsAllWhere (IsRoomyOutage opened filter)) }
-    ensures for_each { (scans : ℕ) → HoldsWhateverRestarts (GainsAllWhere (IsOftenForEach scans)) }
+    ensures for_each { (plan : Plan) (scans : ℕ) → HoldsWhateverRestarts (GainsAllWhere (IsOftenForEach plan scans)) }
 {}
 
-/// So it is where the open inputs' filters differ, without configurations: with the sum of 1 + (n - 1) / f at most
-/// `per_block` none is later than n - 1 scans and no more than a block wait; where answers are lost 2 n - 1, and two
-/// blocks.
+/// So it is where the open inputs' filters differ, while they stay as planned: with the sum of 1 + (n - 1) / f over the
+/// inputs that may be open at most `per_block` none is later than n - 1 scans and no more than a block wait; where
+/// answers are lost 2 n - 1, and two blocks.
 pub fn all_arrives_for_each()
     ensures { HoldsWhateverRestarts AllArrivesForEach }
 {}
@@ -234,6 +259,14 @@ pub fn standard_links_are_as_late()
 #[tactic(auto, using(crate::proofs::PolledTooSeldom::loses))]
 pub fn links_polled_too_seldom_lose()
     ensures { LosesWhereAScanLater (record { id = 0; per_block = 64; waiting = 1024 }) 1 1 }
+{}
+
+/// The premises can be met: under the standard limits a link with 64 open inputs and filters of 5, whose module has
+/// restarted once, is kept up with for two rounds, in time and in time for each input, and its record gains 255
+/// transitions.
+#[tactic(auto, using(crate::proofs::Instances::kept_up_after_a_restart))]
+pub fn links_are_kept_up_with_after_restarts()
+    ensures { IsKeptUpAfterRestarts (standard_settings 0) 64 5 15 15 1 2 255 }
 {}
 
 /// Scans that come while a poll or its answer is under way lead where they lead before the poll is

@@ -1,12 +1,12 @@
 -- How many entries wait at most, and how late they are, with blocks and filters counted whole.
-use Rattle.fio_module.proofs.Names.{◌≡◌, ℕ, ◌+◌, ◌-◌, ◌*◌, ◌/◌, ◌<◌, ◌≤◌, [], ◌∷◌, ◌++◌, length, Some, slice_get, refl, ap, subst, ◌∙◌, arith, inl, inr, append_assoc, length-drop, mul-le-mul_left, div-mul-le_self, le-div_iff_mul-le, div-lt_iff_lt-mul, cases_lt, ConfigureInputs, scans_in, FewStayOpen, reports_are_few, Settings, AreInRange, Life, Occurrence, Scanned, Commanded, scans_of, filter_events, Transition, log_of, newest_end, waiting_from, waiting_of, AtEachTime, scans_behind, IsKeptUp, KeepsUp}
+use Rattle.fio_module.proofs.Names.{◌≡◌, ℕ, ◌+◌, ◌-◌, ◌*◌, ◌/◌, ◌<◌, ◌≤◌, [], ◌∷◌, ◌++◌, length, Some, slice_get, refl, ap, subst, ◌∙◌, arith, inl, inr, append_assoc, length-drop, mul-le-mul_left, div-mul-le_self, le-div_iff_mul-le, div-lt_iff_lt-mul, cases_lt, ConfigureInputs, scans_in, HasFewOpen, FewStayOpen, reports_are_few, Settings, AreInRange, Life, Occurrence, Scanned, Commanded, scans_of, filter_events, Transition, log_of, newest_end, waiting_from, waiting_of, AtEachTime, scans_behind, IsKeptUp, KeepsUp}
 use Rattle.fio_module.specs.ExactBounds.{KeepsUpExactly, KeptUpKeepsUpExactly}
 use Rattle.fio_module.proofs.BlockLaws.{blocks_end_within}
 use Rattle.fio_module.proofs.Losses.{holds_now}
 use Rattle.fio_module.proofs.Growth.{log-grows}
 use Rattle.fio_module.proofs.ListParts.{each-from_get, get_in_drop}
 use Rattle.fio_module.proofs.Ages.{was_logged, scans_in-append}
-use Rattle.fio_module.proofs.Pace.{IsPaced, few_before, few_since, nothing_left, paced}
+use Rattle.fio_module.proofs.Pace.{IsPaced, each_before, each_since, nothing_left, paced}
 use Rattle.fio_module.proofs.Polling.{kept_up_keeps_up}
 
 -- more scans have no fewer filters
@@ -46,7 +46,7 @@ module _ (settings : Settings) (range : AreInRange settings) (roomy : 1 ≤ sett
       ≤ length (log_of (before ++ life)) + opened * (1 + (scans_in (filter_events upto) - 1) / filter)
   gained upto before some few =
       let rest = before ++ life in
-      let reports = reports_are_few opened filter (filter_events upto) (filter_events rest) some (few_since opened filter upto before life few) in
+      let reports = reports_are_few opened filter (filter_events upto) (filter_events rest) some (each_since (HasFewOpen opened filter) upto before life few) in
       omega (arith, log-grows upto rest)
 
   exactly : (later : Life) → IsKeptUp settings opened filter scans most life later → KeepsUpExactly settings opened filter scans life later
@@ -89,7 +89,7 @@ module _ (settings : Settings) (range : AreInRange settings) (roomy : 1 ≤ sett
           let is' = subst (λ l. slice_get (log_of l) place ≡ Some transition) whole is in
           let w = was_logged p.since rest place transition (omega (arith, p.ended)) is' in
           let stay' = subst IsFew (ap (λ l. l ++ p.before) w.split ∙ append_assoc w.after w.upto p.before) stay in
-          let g = gained w.upto p.before k.few_change.some (few_before opened filter w.after (w.upto ++ p.before) life stay') in
+          let g = gained w.upto p.before k.few_change.some (each_before (HasFewOpen opened filter) w.after (w.upto ++ p.before) life stay') in
           let counts = ap (λ l. scans_in (filter_events l)) w.split ∙ scans_in-append w.after w.upto in
           let now = ap scans_of whole in
           let upto = scans_in (filter_events w.upto) in
@@ -115,7 +115,7 @@ module _ (settings : Settings) (range : AreInRange settings) (roomy : 1 ≤ sett
                 record {
                   nothing_waits = k.few_change.nothing_waits;
                   some = k.few_change.some;
-                  few_open = few_before opened filter (occurrence ∷ []) later life k.few_change.few_open;
+                  few_open = each_before (HasFewOpen opened filter) (occurrence ∷ []) later life k.few_change.few_open;
                   enough = k.few_change.enough;
                 };
             behind = k.behind.1;

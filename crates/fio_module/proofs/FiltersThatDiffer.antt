@@ -24,12 +24,12 @@ waits_each settings scans life (occurrence ∷ later) near each =
 
 -- polled often for each, the module loses none
 pub polled_for_each_loses_none : PolledForEachLosesNone
-polled_for_each_loses_none settings scans life later range wide p =
+polled_for_each_loses_none settings plan scans life later range wide p =
     let once : scans ≡ 1 * scans = grind arith in
     let near = subst (λ n. AtEachTime (λ l. scans_behind scans l life ≤ n) later) once (behind_each scans life later p.often) in
     let each = waits_each settings scans life later near
-    (kept_up_for_each settings scans 1 life later (let some = range.some_per_block in omega arith) (record {
-      few_change = record { nothing_waits = p.nothing_waits; not_applied = p.not_applied; enough = p.enough };
+    (kept_up_for_each settings plan scans 1 life later (let some = range.some_per_block in omega arith) (record {
+      few_change = p.few_change;
       behind = near;
       room = omega arith;
     })) in

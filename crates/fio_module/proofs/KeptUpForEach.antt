@@ -1,13 +1,13 @@
 -- What waits where a module is kept up with, each input with its own filters: what the latest scans reported.
-use Rattle.fio_module.proofs.Names.{◌≡◌, ℕ, zero, suc, ◌+◌, ◌-◌, ◌*◌, ◌≤◌, Bool, true, false, [], ◌∷◌, ◌++◌, length, drop, Some, slice_get, refl, ap, sym, ◌∙◌, subst, arith, inl, inr, append_assoc, length-append, length-drop, cases_lt, Poll, ConfigureInputs, scans_in, NoneIsApplied, Settings, Life, Occurrence, Scanned, Commanded, scans_of, filter_events, Transition, log_of, newest_poll, is_new, blocks_of, next_block, newest_end, waiting_from, AtEachTime, scans_behind, IsYoung}
-use Rattle.fio_input.specs.FiltersThatDiffer.{most_reports}
-use Rattle.fio_input.proofs.FiltersThatDiffer.{reports_are_few_of_each, most_reports-more, most_reports-carried}
+use Rattle.fio_module.proofs.Names.{◌≡◌, ℕ, zero, suc, ◌+◌, ◌-◌, ◌*◌, ◌≤◌, Bool, true, false, [], ◌∷◌, ◌++◌, length, drop, Some, slice_get, refl, ap, sym, ◌∙◌, subst, arith, inl, inr, append_assoc, length-append, length-drop, cases_lt, Poll, ConfigureInputs, scans_in, Settings, Life, Occurrence, Scanned, Commanded, scans_of, filter_events, Transition, log_of, newest_poll, is_new, blocks_of, next_block, newest_end, waiting_from, AtEachTime, scans_behind, IsYoung}
+use Rattle.fio_input.specs.FiltersThatDiffer.{Plan, IsAsPlanned, StaysAsPlanned, most_reports}
+use Rattle.fio_input.proofs.FiltersThatDiffer.{reports_are_few_of_each, most_reports-more}
 use Rattle.fio_module.specs.FiltersThatDiffer.{KeepsUpForEach, IsKeptUpForEach}
 use Rattle.fio_module.proofs.Ages.{scans_in-append, was_logged}
 use Rattle.fio_module.proofs.ExactBounds.{no_scan}
-use Rattle.fio_module.proofs.Growth.{filter_events-append, log-grows}
+use Rattle.fio_module.proofs.Growth.{log-grows}
 use Rattle.fio_module.proofs.ListParts.{each-from_get, get_in_drop}
-use Rattle.fio_module.proofs.Pace.{none_before, none_since, nothing_left}
+use Rattle.fio_module.proofs.Pace.{each_before, each_since, nothing_left}
 use Rattle.fio_module.proofs.Stretches.{blocks_new, behind_new, end_after_block, log-grown}
 
 -- a stretch in two: at most so many of its scans came first
@@ -35,35 +35,37 @@ parts n (other ∷ since) =
     let p = parts n since in
     record { new = other ∷ p.new; old = p.old; both = ap (λ l. other ∷ l) p.both; few = p.few; rest = p.rest }
 
-module _ (settings : Settings) (scans : ℕ) (life : Life) (enough : most_reports (filter_events life) scans ≤ settings.per_block) where
+module _ (settings : Settings) (plan : Plan) (scans : ℕ) (life : Life) (enough : most_reports plan scans ≤ settings.per_block) where
+  -- the open inputs stay as planned
+  abbrev IsPlanned : Life → Type 0
+  IsPlanned later = StaysAsPlanned plan (filter_events later) (filter_events life)
+
   -- so many scans report what a block takes
-  gained : (since before : Life) → NoneIsApplied (filter_events (since ++ before)) → scans_in (filter_events since) ≤ scans
+  gained : (since before : Life) → IsPlanned (since ++ before) → scans_in (filter_events since) ≤ scans
       → length (log_of (since ++ (before ++ life))) ≤ length (log_of (before ++ life)) + settings.per_block
-  gained since before none few =
+  gained since before stay few =
       let rest = before ++ life in
-      let joined = ap (λ es. most_reports es (scans_in (filter_events since))) (filter_events-append before life) in
-      let carried = most_reports-carried (filter_events before) (filter_events life) (scans_in (filter_events since)) (none_before since before none) in
-      let more = most_reports-more (filter_events life) (scans_in (filter_events since)) scans few in
+      let more = most_reports-more plan (scans_in (filter_events since)) scans few in
       elim (cases_lt 0 (scans_in (filter_events since))) as (λ _. length (log_of (since ++ rest)) ≤ length (log_of rest) + settings.per_block) [
         | inl once ↦
-            let reports = reports_are_few_of_each (filter_events since) (filter_events rest) (none_since since before none) once in
+            let reports = reports_are_few_of_each plan (filter_events since) (filter_events rest) (each_since (IsAsPlanned plan) since before life stay) once in
             omega (arith, log-grows since rest)
         | inr never ↦ omega (arith, no_scan since rest (omega arith))
       ]
 
   -- and so many times as many what so many blocks take
-  gained_in : (blocks : ℕ) (since before : Life) → NoneIsApplied (filter_events (since ++ before)) → scans_in (filter_events since) ≤ blocks * scans
+  gained_in : (blocks : ℕ) (since before : Life) → IsPlanned (since ++ before) → scans_in (filter_events since) ≤ blocks * scans
       → length (log_of (since ++ (before ++ life))) ≤ length (log_of (before ++ life)) + blocks * settings.per_block
-  gained_in zero since before none few = omega (arith, no_scan since (before ++ life) (omega arith))
-  gained_in (suc blocks) since before none few =
+  gained_in zero since before stay few = omega (arith, no_scan since (before ++ life) (omega arith))
+  gained_in (suc blocks) since before stay few =
       let p = parts scans since in
       let more : suc blocks * scans ≡ blocks * scans + scans = grind arith in
       let many : suc blocks * settings.per_block ≡ blocks * settings.per_block + settings.per_block = grind arith in
       let fewer = p.rest in
       let split : since ++ before ≡ p.new ++ (p.old ++ before) = ap (λ l. l ++ before) p.both ∙ append_assoc p.new p.old before in
-      let none_split = subst (λ l. NoneIsApplied (filter_events l)) split none in
-      let first = gained p.old before (none_before p.new (p.old ++ before) none_split) p.few in
-      let rest = gained_in blocks p.new (p.old ++ before) none_split (omega arith) in
+      let stay_split = subst IsPlanned split stay in
+      let first = gained p.old before (each_before (IsAsPlanned plan) p.new (p.old ++ before) life stay_split) p.few in
+      let rest = gained_in blocks p.new (p.old ++ before) stay_split (omega arith) in
       let whole : length (log_of (since ++ (before ++ life))) ≡ length (log_of (p.new ++ ((p.old ++ before) ++ life))) =
       ap (λ l. length (log_of l)) (sym (append_assoc since before life) ∙ ap (λ l. l ++ life) split ∙ append_assoc p.new (p.old ++ before) life) in
       let same : length (log_of ((p.old ++ before) ++ life)) ≡ length (log_of (p.old ++ (before ++ life))) = ap (λ l. length (log_of l)) (append_assoc p.old before life) in
@@ -92,20 +94,20 @@ module _ (settings : Settings) (scans : ℕ) (life : Life) (enough : most_report
       }
 
   taken-poll : (later : Life) (number : ℕ) (new : Bool) → is_new (newest_poll (later ++ life)) number ≡ new
-      → NoneIsApplied (filter_events later) → IsTaken later → IsTaken (Commanded (Poll number) ∷ later)
-  taken-poll later number false is none t =
+      → IsPlanned later → IsTaken later → IsTaken (Commanded (Poll number) ∷ later)
+  taken-poll later number false is stay t =
       let ends : newest_end settings (Commanded (Poll number) ∷ (later ++ life)) ≡ newest_end settings (later ++ life) = rw is refl in
       let behind : scans_behind scans (Commanded (Poll number) ∷ later) life ≡ scans_behind scans later life = rw is refl in
       taken-other later (Commanded (Poll number)) t ends (let few = t.scanned in omega arith)
-  taken-poll later number true is none t =
+  taken-poll later number true is stay t =
       let here = later ++ life in
       let p = parts scans t.since in
       let behind = behind_new scans later life number is in
       let more : length (blocks_of settings (Commanded (Poll number) ∷ here)) ≡ length (blocks_of settings here) + 1 =
       ap length (blocks_new settings here number is) ∙ length-append (blocks_of settings here) (next_block settings here ∷ []) in
       let split : later ≡ p.new ++ (p.old ++ t.before) = t.split ∙ ap (λ l. l ++ t.before) p.both ∙ append_assoc p.new p.old t.before in
-      let none_split = subst (λ l. NoneIsApplied (filter_events l)) split none in
-      let first = gained p.old t.before (none_before p.new (p.old ++ t.before) none_split) p.few in
+      let stay_split = subst IsPlanned split stay in
+      let first = gained p.old t.before (each_before (IsAsPlanned plan) p.new (p.old ++ t.before) life stay_split) p.few in
       let before = p.old ++ t.before in
       let same : length (log_of (before ++ life)) ≡ length (log_of (p.old ++ (t.before ++ life))) = ap (λ l. length (log_of l)) (append_assoc p.old t.before life) in
       let whole : here ≡ p.new ++ (before ++ life) = ap (λ l. l ++ life) split ∙ append_assoc p.new before life in
@@ -122,34 +124,34 @@ module _ (settings : Settings) (scans : ℕ) (life : Life) (enough : most_report
         scanned = omega arith;
       }
 
-  taken : (later : Life) → length (log_of life) ≤ newest_end settings life → NoneIsApplied (filter_events later) → IsTaken later
-  taken [] ends none = record { since = []; before = []; split = refl; ended = ends; scanned = omega arith }
-  taken (Scanned raw ∷ later) ends none =
-      let t = taken later ends none.1 in
+  taken : (later : Life) → length (log_of life) ≤ newest_end settings life → IsPlanned later → IsTaken later
+  taken [] ends stay = record { since = []; before = []; split = refl; ended = ends; scanned = omega arith }
+  taken (Scanned raw ∷ later) ends stay =
+      let t = taken later ends stay.1 in
       taken-other later (Scanned raw) t refl (let few = t.scanned in omega arith)
-  taken (Commanded (Poll number) ∷ later) ends none =
-      taken-poll later number (is_new (newest_poll (later ++ life)) number) refl none (taken later ends none)
-  taken (Commanded (ConfigureInputs items) ∷ later) ends none =
-      let t = taken later ends none.1 in
+  taken (Commanded (Poll number) ∷ later) ends stay =
+      taken-poll later number (is_new (newest_poll (later ++ life)) number) refl stay (taken later ends stay)
+  taken (Commanded (ConfigureInputs items) ∷ later) ends stay =
+      let t = taken later ends stay in
       taken-other later (Commanded (ConfigureInputs items)) t refl t.scanned
-  taken (other ∷ later) ends none =
-      let t = taken later ends none in
+  taken (other ∷ later) ends stay =
+      let t = taken later ends stay in
       taken-other later other t refl t.scanned
 
   keeps_up : (blocks : ℕ) (later : Life) → blocks * settings.per_block ≤ settings.waiting → length (log_of life) ≤ newest_end settings life
-      → NoneIsApplied (filter_events later) → scans_behind scans later life ≤ blocks * scans → KeepsUpForEach settings scans life later
-  keeps_up blocks later room ends none near =
+      → IsPlanned later → scans_behind scans later life ≤ blocks * scans → KeepsUpForEach settings scans life later
+  keeps_up blocks later room ends stay near =
       let here = later ++ life in
-      let t = taken later ends none in
-      let none_split = subst (λ l. NoneIsApplied (filter_events l)) t.split none in
+      let t = taken later ends stay in
+      let stay_split = subst IsPlanned t.split stay in
       let whole : here ≡ t.since ++ (t.before ++ life) = ap (λ l. l ++ life) t.split ∙ append_assoc t.since t.before life in
       let log_here = ap (λ l. length (log_of l)) whole in
       let few = t.scanned in
       let old = t.ended in
       let count = length-drop (waiting_from settings here) (log_of here) in
-      let now = gained_in blocks t.since t.before none_split (omega arith) in
+      let now = gained_in blocks t.since t.before stay_split (omega arith) in
       record {
-        few_wait = λ n low. let most = gained_in n t.since t.before none_split (omega arith) in omega arith;
+        few_wait = λ n low. let most = gained_in n t.since t.before stay_split (omega arith) in omega arith;
         few_beyond = omega arith;
         young = each-from_get (IsYoung (scans_behind scans later life) 1 here) (drop (waiting_from settings here) (log_of here))
             (λ k transition is. of_since t whole (waiting_from settings here + k) transition (omega arith) (get_in_drop (waiting_from settings here) (log_of here) k transition is));
@@ -172,16 +174,16 @@ module _ (settings : Settings) (scans : ℕ) (life : Life) (enough : most_report
           ]
 
   keeps_each : (blocks : ℕ) (later : Life) → blocks * settings.per_block ≤ settings.waiting → length (log_of life) ≤ newest_end settings life
-      → NoneIsApplied (filter_events later) → AtEachTime (λ l. scans_behind scans l life ≤ blocks * scans) later
+      → IsPlanned later → AtEachTime (λ l. scans_behind scans l life ≤ blocks * scans) later
       → AtEachTime (KeepsUpForEach settings scans life) later
-  keeps_each blocks [] room ends none near = keeps_up blocks [] room ends none near
-  keeps_each blocks (occurrence ∷ later) room ends none near =
-      (keeps_up blocks (occurrence ∷ later) room ends none near.0, keeps_each blocks later room ends (none_before (occurrence ∷ []) later none) near.1)
+  keeps_each blocks [] room ends stay near = keeps_up blocks [] room ends stay near
+  keeps_each blocks (occurrence ∷ later) room ends stay near =
+      (keeps_up blocks (occurrence ∷ later) room ends stay near.0, keeps_each blocks later room ends (each_before (IsAsPlanned plan) (occurrence ∷ []) later life stay) near.1)
 
 -- so it is at each time
-pub kept_up_for_each : (settings : Settings) (scans blocks : ℕ) (life later : Life) → 1 ≤ settings.waiting
-    → IsKeptUpForEach settings scans blocks life later → AtEachTime (KeepsUpForEach settings scans life) later
-kept_up_for_each settings scans blocks life later some k =
+pub kept_up_for_each : (settings : Settings) (plan : Plan) (scans blocks : ℕ) (life later : Life) → 1 ≤ settings.waiting
+    → IsKeptUpForEach settings plan scans blocks life later → AtEachTime (KeepsUpForEach settings scans life) later
+kept_up_for_each settings plan scans blocks life later some k =
     let f = k.few_change in
     let ends = nothing_left settings some life (ap length f.nothing_waits) in
-    keeps_each settings scans life f.enough blocks later k.room (omega arith) f.not_applied k.behind
+    keeps_each settings plan scans life f.enough blocks later k.room (omega arith) f.as_planned k.behind

@@ -9,8 +9,9 @@ pub use Rattle.std.specs.Int.{bit_at, trailing_zeros, w64, w8}
 pub use Rattle.std.specs.List.{AllByRecursion, flat_map}
 pub use Rattle.std.specs.Prelude.{fold, nat_lt, not, option_map, slice_set}
 pub use Rattle.circular_buffer.specs.Buffer.{Buffer, buffer}
-pub use Rattle.fio_input.proofs.FewStayOpen.{at_each_scan-back, at_each_scan-front, reports_are_few, reports_times_filter, scans-append}
-pub use Rattle.fio_input.specs.Delivery.{FewStayOpen, HasFewOpen, HasFiltersOf, NoneIsApplied, NoneIsAppliedTo, OpenHaveFiltersOf, all_reports_in, filter_to, is_changed, open_inputs, reports_in, scans_in}
+pub use Rattle.fio_input.proofs.Counted.{at_each_scan-back, at_each_scan-front, scans-append}
+pub use Rattle.fio_input.proofs.FewStayOpen.{reports_are_few, reports_times_filter}
+pub use Rattle.fio_input.specs.Delivery.{AtEachScan, FewStayOpen, HasFewOpen, HasFiltersOf, NoneIsApplied, NoneIsAppliedTo, OpenHaveFiltersOf, all_reports_in, filter_to, is_changed, open_inputs, reports_in, scans_in}
 unfoldable pub use Rattle.fio_input.specs.Delivery.{sum_below}
 pub use Rattle.fio_input.specs.FilterHistory.{Configure, FilterEvent, Scan, input_setting, input_state, is_reported, last_item_of, setting_by}
 pub use Rattle.fio_message.specs.Answers.{IsAnswer, SpellsAnswer, answer_octets}

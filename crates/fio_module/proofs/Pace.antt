@@ -1,34 +1,25 @@
 -- Blocks that keep up with the scans leave few entries, and young ones.
-use Rattle.fio_module.proofs.Names.{◌≡◌, ℕ, zero, suc, ◌+◌, ◌-◌, ◌*◌, ◌≤◌, Bool, true, false, [], ◌∷◌, ◌++◌, length, Some, slice_get, refl, ap, sym, subst, ◌∙◌, arith, inl, inr, append_assoc, length-drop, mul-le-mul_left, mul-le-mul_right, le_of_mul-le-mul_right, cases_lt, Poll, ConfigureInputs, scans_in, all_reports_in, HasFewOpen, FewStayOpen, NoneIsApplied, at_each_scan-back, at_each_scan-front, reports_times_filter, Settings, Life, Occurrence, Scanned, Commanded, scans_of, filter_events, Transition, log_of, newest_poll, is_new, blocks_of, next_block, newest_end, start_after, count_from, waiting_from, waiting_of, AtEachTime, FewBeyond, scans_behind, IsYoung, KeepsUp}
+use Rattle.fio_module.proofs.Names.{◌≡◌, ℕ, zero, suc, ◌+◌, ◌-◌, ◌*◌, ◌≤◌, Bool, true, false, List, [], ◌∷◌, ◌++◌, length, Some, slice_get, refl, ap, sym, subst, ◌∙◌, arith, inl, inr, append_assoc, length-drop, mul-le-mul_left, mul-le-mul_right, le_of_mul-le-mul_right, cases_lt, Poll, ConfigureInputs, scans_in, all_reports_in, AtEachScan, HasFewOpen, FewStayOpen, FilterEvent, at_each_scan-back, at_each_scan-front, reports_times_filter, Settings, Life, Occurrence, Scanned, Commanded, scans_of, filter_events, Transition, log_of, newest_poll, is_new, blocks_of, next_block, newest_end, start_after, count_from, waiting_from, waiting_of, AtEachTime, FewBeyond, scans_behind, IsYoung, KeepsUp}
 use Rattle.fio_module.proofs.Ends.{last_end-append}
 use Rattle.fio_module.proofs.BlockLaws.{blocks_end_within}
 use Rattle.fio_module.proofs.Losses.{holds_now}
 use Rattle.fio_module.proofs.Growth.{filter_events-append, log-grows}
-use Rattle.fio_module.proofs.ListParts.{each-front, each-back, each-from_get, get_in_drop}
+use Rattle.fio_module.proofs.ListParts.{each-from_get, get_in_drop}
 use Rattle.fio_module.proofs.Ages.{was_logged, scans_in-append}
 
--- where no configuration is applied, none was before
-pub none_before : (later life : Life) → NoneIsApplied (filter_events (later ++ life)) → NoneIsApplied (filter_events life)
-none_before later life none =
-    each-back _ (filter_events later) (filter_events life) (subst NoneIsApplied (filter_events-append later life) none)
+-- what holds at each scan held at each before and holds at each since
+pub each_before : (P : List FilterEvent → Type 0) (later before life : Life) → AtEachScan P (filter_events (later ++ before)) (filter_events life)
+    → AtEachScan P (filter_events before) (filter_events life)
+each_before P later before life each =
+    at_each_scan-back P (filter_events later) (filter_events before) (filter_events life)
+    (subst (λ es. AtEachScan P es (filter_events life)) (filter_events-append later before) each)
 
-pub none_since : (later life : Life) → NoneIsApplied (filter_events (later ++ life)) → NoneIsApplied (filter_events later)
-none_since later life none =
-    each-front _ (filter_events later) (filter_events life) (subst NoneIsApplied (filter_events-append later life) none)
-
--- where few stay open, few did before and do since
-pub few_before : (opened filter : ℕ) (later before life : Life) → FewStayOpen opened filter (filter_events (later ++ before)) (filter_events life)
-    → FewStayOpen opened filter (filter_events before) (filter_events life)
-few_before opened filter later before life few =
-    at_each_scan-back (HasFewOpen opened filter) (filter_events later) (filter_events before) (filter_events life)
-    (subst (λ es. FewStayOpen opened filter es (filter_events life)) (filter_events-append later before) few)
-
-pub few_since : (opened filter : ℕ) (later before life : Life) → FewStayOpen opened filter (filter_events (later ++ before)) (filter_events life)
-    → FewStayOpen opened filter (filter_events later) (filter_events (before ++ life))
-few_since opened filter later before life few =
-    subst (λ es. FewStayOpen opened filter (filter_events later) es) (sym (filter_events-append before life))
-    (at_each_scan-front (HasFewOpen opened filter) (filter_events later) (filter_events before) (filter_events life)
-    (subst (λ es. FewStayOpen opened filter es (filter_events life)) (filter_events-append later before) few))
+pub each_since : (P : List FilterEvent → Type 0) (later before life : Life) → AtEachScan P (filter_events (later ++ before)) (filter_events life)
+    → AtEachScan P (filter_events later) (filter_events (before ++ life))
+each_since P later before life each =
+    subst (λ es. AtEachScan P (filter_events later) es) (sym (filter_events-append before life))
+    (at_each_scan-front P (filter_events later) (filter_events before) (filter_events life)
+    (subst (λ es. AtEachScan P es (filter_events life)) (filter_events-append later before) each))
 
 -- where nothing waits, the newest block ends the log
 pub nothing_left : (settings : Settings) → 1 ≤ settings.waiting → (life : Life) → length (waiting_of settings life) ≡ 0
@@ -98,7 +89,7 @@ module _ (settings : Settings) (opened filter scans most : ℕ) (life : Life) (s
       record {
         reports = all_reports_in (filter_events upto) (filter_events rest);
         gained = log-grows upto rest;
-        few = reports_times_filter opened filter (filter_events upto) (filter_events rest) some (few_since opened filter upto before life few);
+        few = reports_times_filter opened filter (filter_events upto) (filter_events rest) some (each_since (HasFewOpen opened filter) upto before life few);
       }
 
   -- few are beyond the newest block
@@ -139,7 +130,7 @@ module _ (settings : Settings) (opened filter scans most : ℕ) (life : Life) (s
       let is' = subst (λ l. slice_get (log_of l) place ≡ Some transition) whole is in
       let w = was_logged p.since rest place transition (omega (arith, p.ended)) is' in
       let stay' = subst IsFew (p.split ∙ ap (λ l. l ++ p.before) w.split ∙ append_assoc w.after w.upto p.before) stay in
-      let g = has_gained w.upto p.before (few_before opened filter w.after (w.upto ++ p.before) life stay') in
+      let g = has_gained w.upto p.before (each_before (HasFewOpen opened filter) w.after (w.upto ++ p.before) life stay') in
       let counts = ap (λ l. scans_in (filter_events l)) w.split ∙ scans_in-append w.after w.upto in
       let left = place + 1 - newest_end settings (later ++ life) in
       let age = scans_in (filter_events w.after) in
@@ -281,5 +272,5 @@ module _ (settings : Settings) (opened filter scans most : ℕ) (life : Life) (s
   keeps_up_each [] ends stay near = keeps_up [] ends stay near
   keeps_up_each (occurrence ∷ later) ends stay near = (
     keeps_up (occurrence ∷ later) ends stay near,
-    keeps_up_each later ends (few_before opened filter (occurrence ∷ []) later life stay) near.1,
+    keeps_up_each later ends (each_before (HasFewOpen opened filter) (occurrence ∷ []) later life stay) near.1,
   )

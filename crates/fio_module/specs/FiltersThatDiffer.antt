@@ -1,7 +1,6 @@
--- How often to poll where the filters of the open inputs differ.
+-- How often to poll where the filters of the open inputs differ, by a plan of which may be open.
 use Rattle.std.specs.Prelude.{◌≡◌, ℕ, ◌*◌, ◌≤◌, [], ◌++◌, length}
-use Rattle.fio_input.specs.Delivery.{NoneIsApplied}
-use Rattle.fio_input.specs.FiltersThatDiffer.{most_reports}
+use Rattle.fio_input.specs.FiltersThatDiffer.{Plan, StaysAsPlanned, most_reports}
 use Rattle.fio_module.specs.Settings.{Settings, AreInRange}
 use Rattle.fio_module.specs.Life.{Life, filter_events}
 use Rattle.fio_module.specs.Blocks.{waiting_of}
@@ -9,14 +8,18 @@ use Rattle.std.specs.List.{AllByRecursion}
 use Rattle.fio_module.specs.Delivery.{AtEachTime, FewBeyond, NeverTooMany, scans_since_block}
 use Rattle.fio_module.specs.KeepingUp.{scans_behind, IsYoung}
 
--- Polled often for each: from a time on at which nothing waits, while no configuration is applied, never
--- more than so many scans lie from one new block to the next; and a block takes all that the open inputs
--- can report in so many, 1 + (n - 1) / f each, with its own f.
-pub record IsPolledForEach (settings : Settings) (scans : ℕ) (life later : Life) : Type 0 where
+-- Few change, each input with the filters of its group: nothing waits at the end of a life. Since then the open inputs
+-- stay as planned, whatever configurations come, and a block takes all that they can report in so many scans,
+-- 1 + (n - 1) / f for each that may be open.
+pub record FewChangeEach (settings : Settings) (plan : Plan) (scans : ℕ) (life later : Life) : Type 0 where
   pub nothing_waits : waiting_of settings life ≡ []
-  pub not_applied : NoneIsApplied (filter_events later)
+  pub as_planned : StaysAsPlanned plan (filter_events later) (filter_events life)
+  pub enough : most_reports plan scans ≤ settings.per_block
+
+-- Polled often for each: few change, and never more than so many scans lie from one new block to the next.
+pub record IsPolledForEach (settings : Settings) (plan : Plan) (scans : ℕ) (life later : Life) : Type 0 where
+  pub few_change : FewChangeEach settings plan scans life later
   pub often : AtEachTime (λ l. scans_since_block l life ≤ scans) later
-  pub enough : most_reports (filter_events life) scans ≤ settings.per_block
 
 -- then no more wait than a block takes, and none are pushed out
 pub record WaitsForOneBlock (settings : Settings) (life : Life) : Type 0 where
@@ -31,21 +34,14 @@ pub record LosesNoneOfEach (settings : Settings) (life later : Life) : Type 0 wh
 -- polled often for each, the module loses none
 abbrev pub PolledForEachLosesNone : Type 0
 PolledForEachLosesNone =
-    (settings : Settings) (scans : ℕ) (life later : Life) →
-    AreInRange settings → settings.per_block ≤ settings.waiting → IsPolledForEach settings scans life later →
+    (settings : Settings) (plan : Plan) (scans : ℕ) (life later : Life) →
+    AreInRange settings → settings.per_block ≤ settings.waiting → IsPolledForEach settings plan scans life later →
     LosesNoneOfEach settings life later
-
--- Few change, each input with its own filters: nothing waits at the end of a life. Since then no configuration is
--- applied, and a block takes all that the open inputs can report in so many scans, 1 + (n - 1) / f each.
-pub record FewChangeEach (settings : Settings) (scans : ℕ) (life later : Life) : Type 0 where
-  pub nothing_waits : waiting_of settings life ≡ []
-  pub not_applied : NoneIsApplied (filter_events later)
-  pub enough : most_reports (filter_events life) scans ≤ settings.per_block
 
 -- Kept up with, each input with its own filters: few change, and the blocks are never more scans behind than so many
 -- of them make up for, which may wait.
-pub record IsKeptUpForEach (settings : Settings) (scans blocks : ℕ) (life later : Life) : Type 0 where
-  pub few_change : FewChangeEach settings scans life later
+pub record IsKeptUpForEach (settings : Settings) (plan : Plan) (scans blocks : ℕ) (life later : Life) : Type 0 where
+  pub few_change : FewChangeEach settings plan scans life later
   pub behind : AtEachTime (λ l. scans_behind scans l life ≤ blocks * scans) later
   pub room : blocks * settings.per_block ≤ settings.waiting
 

@@ -11,5 +11,5 @@ returns-clause-outage c opened filter = λ settings first events machine range r
     gains_all_after_outage settings range first machine (opens settings first events machine range run) opened filter
 
 pub returns-clause-for_each : goal.returns-clause-for_each
-returns-clause-for_each c scans = λ settings first events machine range run.
-    gains_all_for_each settings range first machine (opens settings first events machine range run) scans
+returns-clause-for_each c plan scans = λ settings first events machine range run.
+    gains_all_for_each settings range first machine (opens settings first events machine range run) plan scans
