@@ -4,12 +4,18 @@ use Rattle.fio_message.specs.Bits.{bit_of}
 use Rattle.fio_check.specs.declared.checker.Breach.{Breach as BreachOf}
 use Rattle.fio_check.specs.declared.checker.Checker.{Checker as CheckerOf}
 use Rattle.fio_check.specs.declared.checker.Due.{Due}
+use Rattle.fio_check.specs.declared.limits.Limits.{Limits as LimitsOf}
+use Rattle.fio_flat.specs.declared.module.Limits.{Limits}
 use Rattle.fio_check.specs.declared.content.ContentBreach.{ContentBreach as ContentBreachOf}
 use Rattle.fio_check.specs.ContentRules.{content_rule_number}
 use Rattle.fio_check.specs.Rules.{rule_number}
 use Rattle.fio_c.specs.declared.checker.Breach.{Breach}
 use Rattle.fio_c.specs.declared.checker.Checker.{Checker}
 use Rattle.fio_c.specs.declared.content.ContentBreach.{ContentBreach}
+
+-- the limits of a module that a struct of C says
+abbrev pub limits_of : Limits → LimitsOf
+limits_of limits = record { per_block = limits.per_block; waiting = limits.waiting }
 
 -- a number that there may be
 abbrev pub octet_in : ℕ → ℕ → Option ℕ
@@ -28,6 +34,7 @@ flat_more (Some true) = 2
 -- the checker that a struct of C stands for, whatever its octets are
 abbrev pub checker_in : Checker → CheckerOf
 checker_in flat = record {
+  limits = record { per_block = flat.per_block; waiting = flat.waiting };
   facts = record {
     awaited = octet_in flat.has_awaited flat.awaited;
     absent_named = not (flat.absent_named == 0);
@@ -51,7 +58,9 @@ flat_checker checker = record {
   advanced = bit_of checker.facts.advanced;
   more = flat_more checker.facts.more;
   skips = bit_of checker.skips;
-  reserved = replicate 7 0;
+  per_block = checker.limits.per_block;
+  waiting = checker.limits.waiting;
+  reserved = replicate 4 0;
 }
 
 -- a breach of this rule
@@ -64,8 +73,11 @@ abbrev pub flat_breach : Option BreachOf → Breach
 flat_breach None = record { rule = 0; has_due = 0; due = 0; got = 0 }
 flat_breach (Some breach) = with_due (rule_number breach.rule) breach.due
 
--- a breach of a rule on content as C sees it, with its numbers 0 where there is none
+-- a breach of a rule on content as C sees it, with the input 255 for none; each number is 0 where there is no breach
 abbrev pub flat_content_breach : Option ContentBreachOf → ContentBreach
-flat_content_breach None = record { rule = 0; entry = 0; input = 0 }
-flat_content_breach (Some breach) =
-    record { rule = content_rule_number breach.rule; entry = breach.entry; input = breach.input }
+flat_content_breach None = record { rule = 0; input = 0; items = 0 }
+flat_content_breach (Some breach) = record {
+  rule = content_rule_number breach.rule;
+  input = unwrap_or breach.input 255;
+  items = breach.items;
+}

@@ -1,10 +1,13 @@
 //! The checker of the rules of transcripts, in memory of the caller.
 ghost use Rattle.std.specs.Prelude.{◌≡◌, true, false};
-ghost use Rattle.fio_check.specs.Checkers.{checker_with, found_by, new_checker};
+ghost use Rattle.fio_check.specs.Checkers.{checker_with, checker_within, found_by, new_checker};
 ghost use Rattle.fio_check.specs.Observations.{observation_in};
-ghost use Rattle.fio_c.specs.Checkers.{checker_in, flat_breach, flat_checker, flat_more, more_in, octet_in};
+ghost use Rattle.fio_flat.specs.Module.{are_limits};
+ghost use Rattle.fio_c.specs.Checkers.{checker_in, flat_breach, flat_checker, flat_more, limits_of, more_in, octet_in};
 
-use fio_check::{Breach as BreachFound, Checker as CheckerOf, Facts};
+use fio_check::{Breach as BreachFound, Checker as CheckerOf, Facts, Limits as LimitsOf};
+use fio_flat::Limits;
+use fio_module::MOST_WAITING;
 
 /// A checker. Its fields are the library's own: what it keeps of the frames that it took.
 #[derive(Clone, Copy)]
@@ -28,8 +31,12 @@ pub struct Checker {
     pub more: u8,
     /// 1 below a breach, until the next poll.
     pub skips: u8,
+    /// The most entries of a block of the module.
+    pub per_block: u8,
+    /// The most entries that wait there.
+    pub waiting: u16,
     /// 0 in each octet that the library writes.
-    pub reserved: [u8; 7],
+    pub reserved: [u8; 4],
 }
 
 /// The first rule that a frame breaks, and what was due.
@@ -54,13 +61,31 @@ const NO_BREACH: Breach = Breach {
     got: 0,
 };
 
-/// A checker above the first frame. Each octet of the struct is set.
+/// A checker above the first frame, of a module with the limits of TEES 2009. Each octet of the struct is set.
 #[unsafe(no_mangle)]
 pub extern "C" fn fio2070_checker_start(checker: &mut Checker)
     ensures made { checker_in checker.new ≡ new_checker }
     ensures octets { checker.new ≡ flat_checker new_checker }
 {
     *checker = flat_from(&CheckerOf::new());
+}
+
+/// A checker above the first frame, of a module with these limits. Each octet of the struct is set. Returns 0. Where a limit
+/// is out of its range it returns 1, and nothing changes.
+#[unsafe(no_mangle)]
+pub extern "C" fn fio2070_checker_start_within(checker: &mut Checker, limits: Limits) -> u8
+    ensures made { are_limits limits ≡ true → checker_in checker.new ≡ checker_within (limits_of limits) }
+    ensures octets { are_limits limits ≡ true → (result ≡ 0) × (checker.new ≡ flat_checker (checker_within (limits_of limits))) }
+    ensures refused { are_limits limits ≡ false → (result ≡ 1) × (checker.new ≡ checker.old) }
+{
+    if limits.waiting == 0 || limits.waiting > MOST_WAITING || limits.per_block == 0 {
+        return 1;
+    }
+    *checker = flat_from(&CheckerOf::within(LimitsOf {
+        per_block: limits.per_block,
+        waiting: limits.waiting,
+    }));
+    0
 }
 
 /// Takes a frame that the CPU's end sent: writes its breach, each octet of it, and returns the
@@ -102,6 +127,10 @@ fn checker_from(flat: &Checker) -> CheckerOf
     ensures { result ≡ checker_in flat.now }
 {
     CheckerOf {
+        limits: LimitsOf {
+            per_block: flat.per_block,
+            waiting: flat.waiting,
+        },
         facts: Facts {
             awaited: octet_in(flat.has_awaited, flat.awaited),
             absent_named: flat.absent_named != 0,
@@ -147,7 +176,9 @@ fn flat_from(checker: &CheckerOf) -> Checker
         advanced: u8::from(facts.advanced),
         more: flat_more(facts.more),
         skips: u8::from(checker.skips),
-        reserved: [0; 7],
+        per_block: checker.limits.per_block,
+        waiting: checker.limits.waiting,
+        reserved: [0; 4],
     }
 }
 

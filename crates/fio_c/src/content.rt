@@ -1,40 +1,51 @@
 //! The checker of the rules on content, in memory of the caller.
 ghost use Rattle.std.specs.Prelude.{◌≡◌, true, false};
-ghost use Rattle.fio_check.specs.ContentCheckers.{content_found, kept_with, nothing_kept};
-ghost use Rattle.fio_check.specs.ContentKept.{content_at_start, content_kept};
+ghost use Rattle.fio_check.specs.ContentCheckers.{content_found, kept_at_start, kept_with};
+ghost use Rattle.fio_check.specs.ContentKept.{content_kept};
 ghost use Rattle.fio_c.specs.Checkers.{flat_content_breach};
 
 use fio_check::{ContentBreach as BreachFound, ContentChecker};
 
-/// The first entry of a block that breaks a rule on content.
+/// What `input` of a breach says that has no input.
+const NO_INPUT: u8 = 255;
+
+/// The first rule on content that a frame breaks.
 #[derive(Clone, Copy)]
 #[repr(C)]
 pub struct ContentBreach {
-    /// 0 none; 1 order; 2 alternate; 3 apart.
+    /// 0 for none, else the number of the rule: one of `FIO2070_CONTENT_ORDER` and those after it.
     pub rule: u8,
-    /// The index of the entry in its block, from 0.
-    pub entry: u8,
-    /// The input that the entry names.
+    /// The input of the entry that breaks it, or that whose state is another; 255 for an answer.
     pub input: u8,
+    /// How many items of the frame's block are recorded above the breach, a gap mark with them: for an answer none, at
+    /// the end of a block all.
+    pub items: u16,
 }
 
-/// A block of which no entry breaks a rule on content.
+/// A frame that breaks no rule on content.
 const NO_BREACH: ContentBreach = ContentBreach {
     rule: 0,
-    entry: 0,
     input: 0,
+    items: 0,
 };
 
-/// A checker of the rules on content above the first frame. Each octet of the struct is set.
+/// A checker of the rules on content above the first frame of a log, whose ends may have begun long before.
 #[unsafe(no_mangle)]
 pub extern "C" fn fio2070_content_start(content: &mut ContentChecker)
-    ensures made { content_kept content.new ≡ nothing_kept }
-    ensures octets { content.new ≡ content_at_start }
+    ensures { content_kept content.new ≡ kept_at_start false }
 {
     *content = ContentChecker::new();
 }
 
-/// Takes a frame that the CPU's end sent, which has no entry.
+/// The same for a log that begins with both ends. It knows how the module begins, so it finds more.
+#[unsafe(no_mangle)]
+pub extern "C" fn fio2070_content_start_begun(content: &mut ContentChecker)
+    ensures { content_kept content.new ≡ kept_at_start true }
+{
+    *content = ContentChecker::begun();
+}
+
+/// Takes a frame that the CPU's end sent, which breaks no rule on content.
 #[unsafe(no_mangle)]
 pub extern "C" fn fio2070_content_sent(content: &mut ContentChecker, octets: &[u8])
     ensures { content_kept content.new ≡ kept_with (content_kept content.old) true octets.now }
@@ -42,9 +53,8 @@ pub extern "C" fn fio2070_content_sent(content: &mut ContentChecker, octets: &[u
     content.sent(octets);
 }
 
-/// Takes a frame that the CPU's end heard: writes the breach of the first entry of its block that breaks
-/// a rule on content, each octet of it, and returns the number of the rule, 0 where no entry breaks one.
-/// All entries of the block are taken, below a breach too.
+/// Takes a frame that the CPU's end heard: writes its first breach of a rule on content, each octet of it, and
+/// returns the number of the rule, 0 if it breaks none. All of the frame is taken, below a breach too.
 #[unsafe(no_mangle)]
 pub extern "C" fn fio2070_content_heard(
     content: &mut ContentChecker,
@@ -67,8 +77,8 @@ fn breach_from(found: Option<BreachFound>) -> ContentBreach
         None => NO_BREACH,
         Some(breach) => ContentBreach {
             rule: breach.rule.number(),
-            entry: breach.entry,
-            input: breach.input,
+            input: breach.input.unwrap_or(NO_INPUT),
+            items: breach.items,
         },
     }
 }

@@ -73,7 +73,7 @@ pub extern "C" fn fio2070_rule_text(rule: u8, text: &mut [u8]) -> usize
 }
 
 /// Writes the name of a rule on content, as `fio2070 record` has it: the empty text where the number is none
-/// of 1 to 3. Returns how many octets it has; where there is no room for them and a zero octet nothing is
+/// of 1 to 11. Returns how many octets it has; where there is no room for them and a zero octet nothing is
 /// written.
 #[unsafe(no_mangle)]
 pub extern "C" fn fio2070_content_rule_text(rule: u8, text: &mut [u8]) -> usize

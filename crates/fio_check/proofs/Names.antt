@@ -8,13 +8,16 @@ pub use Rattle.std.specs.Prelude.{find, fold, if◌then◌else◌, is_some, nat_
 pub use Rattle.fio_cpu.specs.Record.{gap_if, item_of, items_of_block}
 pub use Rattle.fio_cpu.specs.declared.record.Item.{Item}
 pub use Rattle.fio_cpu.specs.declared.record.Item.TheVariants.{Entry, Gap}
+pub use Rattle.fio_message.specs.Bits.{is_set}
 pub use Rattle.fio_message.specs.Blocks.{Block, block_answer}
 pub use Rattle.fio_message.specs.Status.{says_lost, says_more}
 pub use Rattle.fio_message.specs.Views.{answer_of, entries_of, items_of}
-pub use Rattle.fio_check.specs.ContentAbove.{ContentFacts, FilterPair, LatestEntry, TimedState, clear_since, cleared_at, content_at, content_with, entry_recorded, filters_of, first_poll, first_poll_at, is_asking, is_clear_end, is_poll, is_quiet_since, items_configured, latest_of, latest_said, no_content, unquiet}
-pub use Rattle.fio_check.specs.ContentCheckers.{ContentKept, breach_among, breach_found, entry_found, found_first, found_on, index_below, kept_below, kept_with, nothing_kept}
-pub use Rattle.fio_check.specs.ContentEvents.{Accepted, Configured, ContentEvent, Ended, LineEvent, Loaded, Polled, Recorded, content_event_at, events_below, events_in, events_of_answer, events_of_block, events_of_lines, item_of_event, number_with_answer, recorded_items}
-pub use Rattle.fio_check.specs.ContentKept.{content_kept, facts_kept, filters_added, filters_in, flagged_number, is_flagged, latest_added, latest_in}
+pub use Rattle.fio_check.specs.ContentAbove.{ContentFacts, InputAbove, content_at}
+pub use Rattle.fio_check.specs.ContentSaid.{FilterPair, Seen, SentItem}
+pub use Rattle.fio_check.specs.ContentCheckers.{ContentKept, breach_among, breach_below, breach_found, fault_found, found_first, found_on, items_below, kept_at_start, kept_below, kept_with}
+pub use Rattle.fio_check.specs.ContentEvents.{ContentEvent, Ended, Heard, LineEvent, Recorded, Sent, content_event_at, events_above, events_below, events_in, events_of_answer, events_of_block, events_of_lines, events_of_log, item_of_event, items_and_end, number_with_answer, recorded_items}
+pub use Rattle.fio_check.specs.ContentFacts.{content_with, no_content}
+pub use Rattle.fio_check.specs.ContentKept.{content_kept, facts_kept, flagged_number, input_kept, seen_kept}
 pub use Rattle.fio_check.specs.Facts.{facts_at, facts_with, is_answering, latest_poll, number_polled, status_of_block}
 pub use Rattle.fio_check.specs.Laws.{HasOneVerdict, IsLatestAbove, IsTheLatest, KeepsFacts}
 pub use Rattle.fio_check.specs.Lines.{TranscriptLine}

@@ -23,7 +23,7 @@ neither None (Some x) is = absurd (cc)
 neither (Some x) here is = absurd (cc)
 
 -- where nothing is found, nothing is said above
-none_said : {A : Type 0} (said : ℕ → Option A) (n place : ℕ) → earliest_above said n ≡ None → place < n → said place ≡ None
+pub none_said : {A : Type 0} (said : ℕ → Option A) (n place : ℕ) → earliest_above said n ≡ None → place < n → said place ≡ None
 none_said said zero place none below = absurd (omega (arith, below))
 none_said said (suc n) place none below =
     let both = neither (earliest_above said n) (said n) none in
@@ -31,6 +31,14 @@ none_said said (suc n) place none below =
       | inl same ↦ rw same both.1
       | inr above ↦ none_said said n place both.0 above
     ]
+
+-- what is said above a place is found, or something above it
+pub some_said : {A : Type 0} (said : ℕ → Option A) (n place : ℕ) → place < n → is_some (said place) ≡ true → is_some (earliest_above said n) ≡ true
+some_said {A} said n place below here = found (earliest_above said n) refl
+  where
+    found : (earliest : Option A) → earliest_above said n ≡ earliest → is_some earliest ≡ true
+    found (Some value) is = refl
+    found None is = let none = none_said said n place is below in rw none at here
 
 -- what is found is said at a place, and nothing is said above that place
 pub record IsSaidFirst {A : Type 0} (said : ℕ → Option A) (n : ℕ) (value : A) : Type 0 where

@@ -5,11 +5,12 @@ use Rattle.fio_check.specs.Facts.{facts_with, no_facts, number_due, number_polle
 use Rattle.fio_check.specs.Lines.{TranscriptLine}
 use Rattle.fio_check.specs.Observations.{observation_at}
 use Rattle.fio_check.specs.Places.{earliest_above}
-use Rattle.fio_check.specs.Rules.{first_broken}
+use Rattle.fio_check.specs.Rules.{first_broken_within, standard_limits}
 use Rattle.fio_check.specs.declared.checker.Breach.{Breach}
 use Rattle.fio_check.specs.declared.checker.Checker.{Checker}
 use Rattle.fio_check.specs.declared.checker.Due.{Due}
 use Rattle.fio_check.specs.declared.facts.Facts.{Facts}
+use Rattle.fio_check.specs.declared.limits.Limits.{Limits}
 use Rattle.fio_check.specs.declared.observation.Observation.{Observation}
 use Rattle.fio_check.specs.declared.observation.Observation.TheVariants.{Poll, Block, Answer}
 use Rattle.fio_check.specs.declared.rules.Rule.{Rule}
@@ -32,19 +33,23 @@ due_in facts (Block number status entries absent) Number = instead_of facts.poll
 due_in facts (Poll number) Advance = instead_of (number_due facts) number
 due_in facts observation rule = None
 
--- the first rule that a line breaks which says this, and what was due
-abbrev pub breach_of : Facts → Observation → Option Breach
-breach_of facts observation =
+-- the first rule that a line breaks which says this, with these limits, and what was due
+abbrev pub breach_of : Limits → Facts → Observation → Option Breach
+breach_of limits facts observation =
     option_map (λ rule. record { rule = rule; due = due_in facts observation rule })
-    (first_broken facts observation)
+    (first_broken_within limits facts observation)
 
--- a checker above the first line
+-- a checker above the first line, of a module with these limits
+abbrev pub checker_within : Limits → Checker
+checker_within limits = record { limits = limits; facts = no_facts; skips = false }
+
+-- the same with the limits of TEES 2009
 abbrev pub new_checker : Checker
-new_checker = record { facts = no_facts; skips = false }
+new_checker = checker_within standard_limits
 
 -- a checker below a breach
-abbrev pub checker_below_breach : Checker
-checker_below_breach = record { facts = no_facts; skips = true }
+abbrev pub checker_below_breach : Limits → Checker
+checker_below_breach limits = record { limits = limits; facts = no_facts; skips = true }
 
 -- below a breach it passes over each line to the next poll
 abbrev pub passes_over : Checker → Observation → Bool
@@ -54,31 +59,31 @@ passes_over checker observation = checker.skips
 -- what it finds in a line that says this
 abbrev pub found_by : Checker → Observation → Option Breach
 found_by checker observation =
-    if passes_over checker observation then None else breach_of checker.facts observation
+    if passes_over checker observation then None else breach_of checker.limits checker.facts observation
 
 -- the checker with a line more
 abbrev pub checker_with : Checker → Observation → Checker
 checker_with checker observation =
     if passes_over checker observation then checker
-    else (if is_some (breach_of checker.facts observation) then checker_below_breach
-    else (record { facts = facts_with checker.facts observation; skips = false }))
+    else (if is_some (breach_of checker.limits checker.facts observation) then checker_below_breach checker.limits
+    else (record checker { facts = facts_with checker.facts observation; skips = false }))
 
 -- ---- all lines
 
 -- the checker that took the lines above a place
-abbrev pub checker_at : List TranscriptLine → ℕ → Checker
-checker_at lines zero = new_checker
-checker_at lines (suc place) =
-    checker_with (checker_at lines place) (observation_at lines place)
+abbrev pub checker_at : Limits → List TranscriptLine → ℕ → Checker
+checker_at limits lines zero = checker_within limits
+checker_at limits lines (suc place) =
+    checker_with (checker_at limits lines place) (observation_at lines place)
 
 -- what it finds in the line at the place
-abbrev pub found_at : List TranscriptLine → ℕ → Option Breach
-found_at lines place = found_by (checker_at lines place) (observation_at lines place)
+abbrev pub found_at : Limits → List TranscriptLine → ℕ → Option Breach
+found_at limits lines place = found_by (checker_at limits lines place) (observation_at lines place)
 
--- the same as a verdict
+-- the same as a verdict, with the limits of TEES 2009
 abbrev pub verdict_found_at : List TranscriptLine → ℕ → Option Verdict
 verdict_found_at lines place =
-    option_and_then (λ line. option_map (λ breach. Broken line.number breach.rule) (found_at lines place))
+    option_and_then (λ line. option_map (λ breach. Broken line.number breach.rule) (found_at standard_limits lines place))
     (slice_get lines place)
 
 -- the verdict by the first breach that a checker finds
@@ -93,10 +98,10 @@ HasNoPollBetween lines above below = (between : ℕ) → above < between → bet
 
 -- below a breach nothing is found above the next poll, and from that poll on a checker finds what
 -- one finds that starts there
-pub record GoesOn (lines : List TranscriptLine) : Type 0 where
-  pub passes : (breach place : ℕ) → is_some (found_at lines breach) ≡ true → breach < place
-      → HasNoPollBetween lines breach (suc place) → found_at lines place ≡ None
-  pub starts : (breach poll further : ℕ) → is_some (found_at lines breach) ≡ true → breach < poll
+pub record GoesOn (limits : Limits) (lines : List TranscriptLine) : Type 0 where
+  pub passes : (breach place : ℕ) → is_some (found_at limits lines breach) ≡ true → breach < place
+      → HasNoPollBetween lines breach (suc place) → found_at limits lines place ≡ None
+  pub starts : (breach poll further : ℕ) → is_some (found_at limits lines breach) ≡ true → breach < poll
       → is_some (number_polled (observation_at lines poll)) ≡ true
       → HasNoPollBetween lines breach poll
-      → found_at lines (poll + further) ≡ found_at (drop poll lines) further
+      → found_at limits lines (poll + further) ≡ found_at limits (drop poll lines) further

@@ -1,93 +1,59 @@
--- What is above an event, as far as the rules on content read it.
-use Rattle.std.specs.Prelude.{ℕ, ◌==◌, Bool, true, false, List, Option, Some, None, is_some, not, nat_lt, option_map, option_and_then, if◌then◌else◌}
+-- What is above an event, as far as the rules on content read it, by the places of the events.
+--
+-- A clear block is a block answer with neither C nor E. Without E it was made at the poll directly above it, so each
+-- command above was received or is lost. Without C it took all entries that waited, so each entry below was logged later.
+use Rattle.std.specs.Prelude.{ℕ, Bool, ◌&&◌, false, List, [], Option, Some, None, drop, fold, is_some, min, not, nat_lt, option_map, option_and_then, take, if◌then◌else◌}
+use Rattle.std.specs.List.{flat_map}
+use Rattle.std.specs.Option.{option_map_or}
+use Rattle.fio_message.specs.declared.commands.Command.{Command}
+use Rattle.fio_message.specs.declared.commands.Command.TheVariants as commands
 use Rattle.fio_message.specs.declared.fields.InputItem.{InputItem}
-use Rattle.fio_input.specs.FilterHistory.{last_item_of}
-use Rattle.fio_cpu.specs.declared.record.Item.TheVariants.{Entry, Gap}
-use Rattle.fio_check.specs.ContentEvents.{ContentEvent, LineEvent, Polled, Loaded, Configured, Accepted, Recorded, Ended, content_event_at}
+use Rattle.fio_check.specs.ContentEvents.{ContentEvent, LineEvent, content_event_at}
+use Rattle.fio_check.specs.ContentSaid.{FilterPair, Floor, Seen, SentItem, TimedState, are_some, awaiting, comes_to, concealing, entry_recorded, filters_of, floor_of, hiding, is_accepting, is_clear_end, is_loading, is_set_dog, item_sent, items_for, items_of_input, items_sent, opening, said_if, stamp_heard, states_heard}
+use Rattle.fio_check.specs.Observations.{names_absent}
 use Rattle.fio_check.specs.Places.{Placed, is_some_and, latest_above}
 
--- both filters of an input, in samples
-pub record FilterPair : Type 0 where
-  pub leading : ℕ
-  pub trailing : ℕ
+-- ---- what is kept
 
--- an entry: its state and its wide time
-pub record TimedState : Type 0 where
-  pub level : Bool
-  pub wide : ℕ
-
--- the latest entry of an input, and whether no configuration can have come to the module between it and what is
--- logged now
-pub record LatestEntry : Type 0 where
-  pub level : Bool
-  pub wide : ℕ
-  pub quiet : Bool
+-- what is above of one input
+pub record InputAbove : Type 0 where
+  -- the command that awaits its answer has an item of it
+  pub named : Bool
+  -- the last item of it that was sent
+  pub item : Option SentItem
+  -- that item was taken: the answer to its command says so
+  pub taken : Bool
+  -- an item that ignores it was sent since the latest clear block
+  pub hidden : Bool
+  -- the state of its latest entry, if no change since can have been hidden
+  pub watched : Option Bool
+  -- the wide time of its latest entry, if a clear block is above that entry
+  pub timed : Option ℕ
+  -- it is ignored for each entry that is logged from now on
+  pub shut : Bool
+  -- the least filters that can be in force for it
+  pub least : FilterPair
 
 -- what the rules on content read
 pub record ContentFacts : Type 0 where
-  -- a poll was sent below the latest block
-  pub asking : Bool
-  -- no configuration was sent since the first poll for the block that is asked for
-  pub asked_quiet : Bool
-  -- no configuration was sent since the first poll for the latest block without C
-  pub clear_quiet : Bool
   -- a load of the counter was sent
   pub loaded : Bool
-  -- the latest configuration sent was taken
-  pub accepted : Bool
-  -- the filters that the latest configuration sent has for an input, if it names the input
-  pub filters : ℕ → Option FilterPair
-  -- the wide time of the entry before, if no gap mark is below it
-  pub before : Option ℕ
-  -- the latest entry of an input, if no gap mark is below it
-  pub latest : ℕ → Option LatestEntry
-
--- ---- what an event says
-
--- of a poll or the end of a block: whether it is the poll
-abbrev pub is_polling : ContentEvent → Option Bool
-is_polling Polled = Some true
-is_polling (Ended more) = Some false
-is_polling event = None
-
--- the items of a configuration that is sent
-abbrev pub items_configured : ContentEvent → Option (List InputItem)
-items_configured (Configured items) = Some items
-items_configured event = None
-
--- of a configuration that is sent, and of the answer that one was taken: whether it is the answer
-abbrev pub is_accepting : ContentEvent → Option Bool
-is_accepting (Configured items) = Some false
-is_accepting Accepted = Some true
-is_accepting event = None
-
--- a load of the counter
-abbrev pub is_loading : ContentEvent → Option Bool
-is_loading Loaded = Some true
-is_loading event = None
-
--- of a gap mark or an entry of any input: the wide time of the entry
-abbrev pub time_recorded : ContentEvent → Option (Option ℕ)
-time_recorded (Recorded Gap) = Some None
-time_recorded (Recorded (Entry input level stamp wide)) = Some (Some wide)
-time_recorded event = None
-
--- of a gap mark or an entry of this input: the entry
-abbrev pub entry_recorded : ℕ → ContentEvent → Option (Option TimedState)
-entry_recorded input (Recorded Gap) = Some None
-entry_recorded input (Recorded (Entry other level stamp wide)) =
-    if input == other then Some (Some (record { level = level; wide = wide })) else None
-entry_recorded input event = None
-
--- the end of a block without C
-abbrev pub is_clear_end : ContentEvent → Bool
-is_clear_end (Ended more) = not more
-is_clear_end event = false
-
--- a poll
-abbrev pub is_poll : ContentEvent → Bool
-is_poll Polled = true
-is_poll event = false
+  -- an answer to a watchdog was heard
+  pub watchdog_set : Bool
+  -- the flags that the command clears which awaits its answer
+  pub clearing : ℕ
+  -- that command names an input above 63
+  pub absent_named : Bool
+  -- the latest stamp, but of a block that is sent again
+  pub clock : Option ℕ
+  -- a clear block is above
+  pub clear : Bool
+  -- what the next entry is compared with
+  pub floor : Option Floor
+  -- the latest states that were asked for, if the record has not come to them
+  pub seen : Option Seen
+  -- of each input
+  pub inputs : ℕ → InputAbove
 
 -- ---- by places
 
@@ -96,98 +62,141 @@ abbrev pub latest_said : {A : Type 0} → (ContentEvent → Option A) → List L
 latest_said says events place =
     latest_above (λ above. option_and_then says (content_event_at events above)) place
 
--- a poll was sent below the latest block that ended
-abbrev pub is_asking : List LineEvent → ℕ → Bool
-is_asking events place = is_some_and (latest_said is_polling events place) (λ turn. turn.value)
+-- the same without its place
+abbrev pub last_said : {A : Type 0} → (ContentEvent → Option A) → List LineEvent → ℕ → Option A
+last_said says events place = option_map (λ found. found.value) (latest_said says events place)
 
--- the place of a poll that is the first one for its block
-abbrev pub first_poll_at : List LineEvent → ℕ → Option ℕ
-first_poll_at events place =
-    if is_some_and (content_event_at events place) is_poll then (if is_asking events place then None else Some place)
+-- events below the one place and above the other say it
+abbrev pub is_said_between : {A : Type 0} → (ContentEvent → Option A) → List LineEvent → ℕ → ℕ → Bool
+is_said_between says events above place =
+    is_some_and (latest_said says events place) (λ found. nat_lt above found.place)
+
+-- an event at a place passes a test
+abbrev pub is_at : (ContentEvent → Bool) → List LineEvent → ℕ → Bool
+is_at test events place = is_some_and (content_event_at events place) test
+
+-- a clear block is above
+abbrev pub is_clear_above : List LineEvent → ℕ → Bool
+is_clear_above events place = is_some (latest_said (λ event. said_if (is_clear_end event)) events place)
+
+-- an item that ignores this input was sent since the latest clear block
+abbrev pub is_hidden : List LineEvent → ℕ → ℕ → Bool
+is_hidden events input place = is_some_and (latest_said (hiding input) events place) (λ turn. turn.value)
+
+-- the command above, if no answer is below it
+abbrev pub awaited_command : List LineEvent → ℕ → Option Command
+awaited_command events place = option_and_then (λ found. found.value) (latest_said awaiting events place)
+
+-- the items of an input that this command has
+abbrev pub items_named : ℕ → Option Command → List InputItem
+items_named input awaited = option_map_or (λ command. items_for input (items_sent command)) awaited []
+
+-- of a command with an item of this input, and of the answer that such a command was taken: whether it is the answer
+abbrev pub taking_at : List LineEvent → ℕ → ℕ → Option Bool
+taking_at events input place =
+    if is_at (λ event. are_some (items_of_input input event)) events place then Some false
+    else said_if (is_at is_accepting events place && are_some (items_named input (awaited_command events place)))
+
+-- the last item of this input that was sent was taken
+abbrev pub is_taken_above : List LineEvent → ℕ → ℕ → Bool
+is_taken_above events input place = is_some_and (latest_above (taking_at events input) place) (λ turn. turn.value)
+
+-- at the end of a clear block: the last item of this input, if it was taken
+abbrev pub settled_at : List LineEvent → ℕ → ℕ → Option SentItem
+settled_at events input place = if is_at is_clear_end events place && is_taken_above events input place
+    then last_said (item_sent input) events place
     else None
 
--- the place of the first poll for the block that is asked for, or for the latest block where no poll was sent below it
-abbrev pub first_poll : List LineEvent → ℕ → Option ℕ
-first_poll events place = option_map (λ poll. poll.value) (latest_above (first_poll_at events) place)
+-- the latest item of this input that the module had at a clear block for certain, and the place of the block
+abbrev pub settled : List LineEvent → ℕ → ℕ → Option (Placed SentItem)
+settled events input place = latest_above (settled_at events input) place
 
--- of the end of a block without C: the place of the first poll for the block. The block was made at that poll or later.
-abbrev pub cleared_at : List LineEvent → ℕ → Option (Option ℕ)
-cleared_at events place =
-    if is_some_and (content_event_at events place) is_clear_end then Some (first_poll events place) else None
+-- an item that was settled at a place above ignores the input, and none sent since opens it
+abbrev pub is_shut_by : List LineEvent → ℕ → ℕ → Placed SentItem → Bool
+is_shut_by events input place item =
+    item.value.ignore && not (is_said_between (opening input) events item.place place)
 
--- the place of the first poll for the latest block without C
-abbrev pub clear_since : List LineEvent → ℕ → Option ℕ
-clear_since events place =
-    option_and_then (λ block. block.value) (latest_above (cleared_at events) place)
+-- the items of an input that were sent from a place on, above another
+abbrev pub items_between : ℕ → List LineEvent → ℕ → ℕ → List InputItem
+items_between input events from place =
+    flat_map (λ found. items_of_input input found.event) (drop from (take place events))
 
--- no configuration was sent below a place that is known
-abbrev pub is_quiet_since : List LineEvent → Option ℕ → ℕ → Bool
-is_quiet_since events since place = is_some_and since
-    (λ first. not (is_some_and (latest_said items_configured events place) (λ sent. nat_lt first sent.place)))
+-- the lesser filters of two pairs
+abbrev pub lesser : FilterPair → FilterPair → FilterPair
+lesser filters others = record {
+  leading = min filters.leading others.leading;
+  trailing = min filters.trailing others.trailing;
+}
 
--- the latest entry of an input and what is known between it and this place, where it is no gap mark that was found
-abbrev pub latest_of : List LineEvent → ℕ → Placed (Option TimedState) → Option LatestEntry
-latest_of events place found = option_map
-    (λ entry. record { level = entry.level; wide = entry.wide; quiet = is_quiet_since events (clear_since events found.place) place })
-    found.value
+-- the least filters of these and of items
+abbrev pub least_of : FilterPair → List InputItem → FilterPair
+least_of filters items = fold (λ least item. lesser least (filters_of item)) filters items
 
--- both filters of an item
-abbrev pub filters_of : InputItem → FilterPair
-filters_of item = record { leading = item.leading; trailing = item.trailing }
+-- no filter is less than a sample
+abbrev pub one_sample : FilterPair
+one_sample = record { leading = 1; trailing = 1 }
+
+-- the least of the filters that were settled, and of those of the items sent since
+abbrev pub least_since : List LineEvent → ℕ → ℕ → Option (Placed SentItem) → FilterPair
+least_since events input place None = least_of one_sample (items_between input events 0 place)
+least_since events input place (Some item) =
+    least_of item.value.filters (items_between input events item.place place)
+
+-- no change of an input below a place can have been hidden: a clear block is above the place, no item that ignores the
+-- input was sent since, and no gap mark is below the place
+abbrev pub is_watched_from : List LineEvent → ℕ → ℕ → ℕ → Bool
+is_watched_from events input from place =
+    (is_clear_above events from && not (is_hidden events input from))
+    && not (is_said_between (concealing input) events from place)
+
+-- the state of an entry, if it is watched from there
+abbrev pub watched_state : List LineEvent → ℕ → ℕ → Placed TimedState → Option Bool
+watched_state events input place entry =
+    if is_watched_from events input entry.place place then Some entry.value.level else None
+
+-- the wide time of an entry, if a clear block is above it
+abbrev pub timed_below : List LineEvent → Placed TimedState → Option ℕ
+timed_below events entry = if is_clear_above events entry.place then Some entry.value.wide else None
+
+-- states, if no event between comes to them
+abbrev pub seen_still : List LineEvent → ℕ → Placed Seen → Option Seen
+seen_still events place seen =
+    if is_said_between (λ event. said_if (comes_to seen.value event)) events seen.place place then None
+    else Some seen.value
+
+-- what is above a place of one input
+abbrev pub input_at : List LineEvent → ℕ → ℕ → InputAbove
+input_at events input place = record {
+  named = are_some (items_named input (awaited_command events place));
+  item = last_said (item_sent input) events place;
+  taken = is_taken_above events input place;
+  hidden = is_hidden events input place;
+  watched = option_and_then (watched_state events input place) (latest_said (entry_recorded input) events place);
+  timed = option_and_then (timed_below events) (latest_said (entry_recorded input) events place);
+  shut = is_some_and (settled events input place) (is_shut_by events input place);
+  least = least_since events input place (settled events input place);
+}
+
+-- the flags that a command clears
+abbrev pub flags_cleared : Command → ℕ
+flags_cleared (commands.Status clear) = clear
+flags_cleared command = 0
+
+-- a load of the counter was sent
+abbrev pub is_loaded : List LineEvent → ℕ → Bool
+is_loaded events place = is_some (latest_said is_loading events place)
 
 -- what is above a place
 abbrev pub content_at : List LineEvent → ℕ → ContentFacts
 content_at events place = record {
-  asking = is_asking events place;
-  asked_quiet = is_quiet_since events (first_poll events place) place;
-  clear_quiet = is_quiet_since events (clear_since events place) place;
-  loaded = is_some (latest_said is_loading events place);
-  accepted = is_some_and (latest_said is_accepting events place) (λ turn. turn.value);
-  filters = λ input. option_and_then (λ sent. option_map filters_of (last_item_of input sent.value)) (latest_said items_configured events place);
-  before = option_and_then (λ found. found.value) (latest_said time_recorded events place);
-  latest = λ input. option_and_then (latest_of events place) (latest_said (entry_recorded input) events place);
-}
-
--- ---- event by event
-
--- nothing is above the first event
-abbrev pub no_content : ContentFacts
-no_content = record {
-  asking = false;
-  asked_quiet = false;
-  clear_quiet = false;
-  loaded = false;
-  accepted = false;
-  filters = λ input. None;
-  before = None;
-  latest = λ input. None;
-}
-
--- the latest entry of an input below a configuration
-abbrev pub unquiet : LatestEntry → LatestEntry
-unquiet entry = record { level = entry.level; wide = entry.wide; quiet = false }
-
--- the facts with one event more
-abbrev pub content_with : ContentFacts → ContentEvent → ContentFacts
-content_with facts Polled =
-    record facts { asking = true; asked_quiet = if facts.asking then facts.asked_quiet else true }
-content_with facts Loaded = record facts { loaded = true }
-content_with facts (Configured items) = record facts {
-  asked_quiet = false;
-  clear_quiet = false;
-  accepted = false;
-  filters = λ input. option_map filters_of (last_item_of input items);
-  latest = λ input. option_map unquiet (facts.latest input);
-}
-content_with facts Accepted = record facts { accepted = true }
-content_with facts (Recorded Gap) = record facts { before = None; latest = λ input. None }
-content_with facts (Recorded (Entry recorded level stamp wide)) = record facts {
-  before = Some wide;
-  latest = λ input. if input == recorded
-      then Some (record { level = level; wide = wide; quiet = facts.clear_quiet })
-      else facts.latest input;
-}
-content_with facts (Ended more) = record facts {
-  asking = false;
-  clear_quiet = if more then facts.clear_quiet else facts.asked_quiet;
+  loaded = is_loaded events place;
+  watchdog_set = is_some (latest_said is_set_dog events place);
+  clearing = option_map_or flags_cleared (awaited_command events place) 0;
+  absent_named = is_some_and (awaited_command events place) names_absent;
+  clock = last_said stamp_heard events place;
+  clear = is_clear_above events place;
+  floor = last_said floor_of events place;
+  seen = if is_loaded events place then None
+      else option_and_then (seen_still events place) (latest_said states_heard events place);
+  inputs = λ input. input_at events input place;
 }

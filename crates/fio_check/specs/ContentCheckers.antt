@@ -1,12 +1,13 @@
 -- The checker of the rules on content, one frame at a time: what it finds in a frame, and what it keeps.
-use Rattle.std.specs.Prelude.{ℕ, suc, Bool, List, [], ◌∷◌, Option, None, fold, option_map}
+use Rattle.std.specs.Prelude.{ℕ, ◌+◌, Bool, List, [], ◌∷◌, Option, None, fold, length, option_map}
 use Rattle.std.specs.Option.{option_or}
-use Rattle.fio_cpu.specs.declared.record.Item.TheVariants.{Entry}
-use Rattle.fio_check.specs.ContentAbove.{ContentFacts, content_with, no_content}
-use Rattle.fio_check.specs.ContentEvents.{ContentEvent, Recorded, events_in, number_below}
-use Rattle.fio_check.specs.ContentRules.{BrokenEntry, first_content_broken}
+use Rattle.fio_check.specs.ContentAbove.{ContentFacts}
+use Rattle.fio_check.specs.ContentEvents.{ContentEvent, events_above, events_in, item_of_event, number_below}
+use Rattle.fio_check.specs.ContentFacts.{content_with, no_content}
+use Rattle.fio_check.specs.ContentRules.{ContentFault, rule_broken_by}
 use Rattle.fio_check.specs.Lines.{TranscriptLine}
 use Rattle.fio_check.specs.declared.content.ContentBreach.{ContentBreach}
+use Rattle.fio_check.specs.declared.content_rules.BrokenRule.{BrokenRule}
 use Rattle.fio_check.specs.declared.content_rules.ContentRule.{ContentRule}
 
 -- what the checker keeps: the CPU's number, if there is a poll above, and what is above
@@ -14,27 +15,27 @@ pub record ContentKept : Type 0 where
   pub number : Option ℕ
   pub facts : ContentFacts
 
--- above the first frame
-abbrev pub nothing_kept : ContentKept
-nothing_kept = record { number = None; facts = no_content }
+-- above the first frame, by whether the frames begin with both ends
+abbrev pub kept_at_start : Bool → ContentKept
+kept_at_start begun = record { number = None; facts = fold content_with no_content (events_above begun) }
 
--- the breach of an event, which is the entry with this index in its block
+-- a rule that is broken, below this many items of its frame
+abbrev pub breach_below : ℕ → BrokenRule → ContentBreach
+breach_below items broken = record { items = items; input = broken.input; rule = broken.rule }
+
+-- the breach of an event, below this many items
 abbrev pub breach_found : ContentFacts → ℕ → ContentEvent → Option ContentBreach
-breach_found facts index (Recorded (Entry input level stamp wide)) = option_map
-    (λ rule. record { entry = index; input = input; rule = rule })
-    (first_content_broken facts input (record { level = level; wide = wide }))
-breach_found facts index event = None
+breach_found facts items event = option_map (breach_below items) (rule_broken_by facts event)
 
--- the index of the next entry
-abbrev pub index_below : ℕ → ContentEvent → ℕ
-index_below index (Recorded (Entry input level stamp wide)) = suc index
-index_below index event = index
+-- how many items are above the next event
+abbrev pub items_below : ℕ → ContentEvent → ℕ
+items_below items event = items + length (item_of_event event)
 
--- the first breach of events, whose first entry has this index
+-- the first breach of events, below this many items
 abbrev pub breach_among : ContentFacts → ℕ → List ContentEvent → Option ContentBreach
-breach_among facts index [] = None
-breach_among facts index (event ∷ events) = option_or (breach_found facts index event)
-    (breach_among (content_with facts event) (index_below index event) events)
+breach_among facts items [] = None
+breach_among facts items (event ∷ events) = option_or (breach_found facts items event)
+    (breach_among (content_with facts event) (items_below items event) events)
 
 -- what is found in a frame
 abbrev pub content_found : ContentKept → Bool → List ℕ → Option ContentBreach
@@ -53,22 +54,22 @@ kept_with kept from_cpu octets = kept_below kept (number_below kept.number from_
 
 -- ---- all lines
 
--- an entry that breaks a rule: the number of its line, its input and the rule
-pub record FoundEntry : Type 0 where
+-- a fault without the items above it: the number of its line, its input and the rule
+pub record FoundFault : Type 0 where
   pub line : ℕ
-  pub input : ℕ
+  pub input : Option ℕ
   pub rule : ContentRule
 
 -- a breach in a line with this number
-abbrev pub found_on : ℕ → ContentBreach → FoundEntry
+abbrev pub found_on : ℕ → ContentBreach → FoundFault
 found_on line breach = record { line = line; input = breach.input; rule = breach.rule }
 
--- a broken entry without the items above it
-abbrev pub entry_found : BrokenEntry → FoundEntry
-entry_found broken = record { line = broken.line; input = broken.input; rule = broken.rule }
+-- a fault as a checker finds it
+abbrev pub fault_found : ContentFault → FoundFault
+fault_found fault = record { line = fault.line; input = fault.input; rule = fault.rule }
 
 -- what a checker finds first in these lines
-abbrev pub found_first : ContentKept → List TranscriptLine → Option FoundEntry
+abbrev pub found_first : ContentKept → List TranscriptLine → Option FoundFault
 found_first kept [] = None
 found_first kept (line ∷ lines) =
     option_or (option_map (found_on line.number) (content_found kept line.from_cpu line.octets))

@@ -1,40 +1,34 @@
 -- What the rules on content read of a transcript: its events, in order. They are those of a CPU's end that starts at the
 -- first poll with the number of that poll, takes each block answer with its number, and then goes on to the next
 -- number.
-use Rattle.std.specs.Prelude.{ℕ, ◌+◌, ◌%◌, ◌==◌, Bool, not, List, [], ◌∷◌, ◌++◌, map, Option, Some, None, option_map, slice_get, if◌then◌else◌}
+use Rattle.std.specs.Prelude.{ℕ, zero, suc, ◌+◌, ◌%◌, ◌==◌, Bool, true, List, [], ◌∷◌, ◌++◌, map, Option, Some, None, option_map, slice_get, if◌then◌else◌}
 use Rattle.std.specs.List.{flat_map}
-use Rattle.fio_message.specs.Blocks.{Block}
-use Rattle.fio_message.specs.Status.{says_error, says_more}
+use Rattle.fio_message.specs.Blocks.{Block, block_answer}
 use Rattle.fio_message.specs.declared.answers.Answer.{Answer}
 use Rattle.fio_message.specs.declared.answers.Answer.TheVariants as answers
 use Rattle.fio_message.specs.declared.commands.Command.{Command}
 use Rattle.fio_message.specs.declared.commands.Command.TheVariants as commands
 use Rattle.fio_message.specs.declared.fields.InputItem.{InputItem}
+use Rattle.fio_message.specs.declared.limits.TheConstants.{INPUTS}
+use Rattle.fio_input.specs.declared.filters.TheConstants.{DEFAULT_FILTER}
 use Rattle.fio_cpu.specs.Record.{items_of_block}
 use Rattle.fio_cpu.specs.declared.record.Item.{Item}
 use Rattle.fio_check.specs.Lines.{TranscriptLine, command_from, answer_from}
 use Rattle.fio_check.specs.Places.{is_some_and}
 
--- what the CPU's end does: it sends a poll with its number, a load of the counter, or a configuration with these items; it
--- hears that a configuration was taken; it records an item of a block; or it has recorded all of a block, with C or
--- without
+-- what the CPU's end does: it sends a command; it hears an answer, of the block answers those that it takes; it records an
+-- item of a block; or it has recorded all items of a block with this status and stamp
 pub data ContentEvent : Type 0 where
-  Polled : ContentEvent
-  Loaded : ContentEvent
-  Configured : (items : List InputItem) → ContentEvent
-  Accepted : ContentEvent
+  Sent : (command : Command) → ContentEvent
+  Heard : (answer : Answer) → ContentEvent
   Recorded : (item : Item) → ContentEvent
-  Ended : (more : Bool) → ContentEvent
+  Ended : (status stamp : ℕ) → ContentEvent
 
 -- ---- one frame, by the CPU's number above it, if there is a poll above
 
 -- a block answer with the CPU's number is taken
 abbrev pub is_taken : Option ℕ → ℕ → Bool
 is_taken number block = is_some_and number (λ due. block == due)
-
--- a poll with another number than the CPU's
-abbrev pub is_other_poll : Option ℕ → ℕ → Bool
-is_other_poll number polled = is_some_and number (λ due. not (polled == due))
 
 -- the number below a command: that of the first poll
 abbrev pub number_with_command : Option ℕ → Command → Option ℕ
@@ -47,26 +41,21 @@ number_with_answer number (answers.Block block entries status stamp) =
     if is_taken number block then Some ((block + 1) % 256) else number
 number_with_answer number answer = number
 
--- the events of a command
-abbrev pub events_of_command : Option ℕ → Command → List ContentEvent
-events_of_command number (commands.Poll polled) =
-    if is_other_poll number polled then [] else Polled ∷ []
-events_of_command number (commands.LoadCounter load) = Loaded ∷ []
-events_of_command number (commands.ConfigureInputs items) = Configured items.items ∷ []
-events_of_command number command = []
+-- items are recorded, and then their block has ended
+abbrev pub items_and_end : List Item → ℕ → ℕ → List ContentEvent
+items_and_end items status stamp = map Recorded items ++ (Ended status stamp ∷ [])
 
--- the events of a block that is taken: its items are recorded, and then it has ended
+-- the events of a block that is taken: it is heard, its items are recorded, and then it has ended
 abbrev pub events_of_block : Block → List ContentEvent
-events_of_block block = map Recorded (items_of_block block) ++ (Ended (says_more block.status) ∷ [])
+events_of_block block =
+    Heard (block_answer block) ∷ items_and_end (items_of_block block) block.status block.stamp
 
 -- the events of an answer
 abbrev pub events_of_answer : Option ℕ → Answer → List ContentEvent
-events_of_answer number (answers.ConfigureInputs status) =
-    if says_error status then [] else Accepted ∷ []
 events_of_answer number (answers.Block block entries status stamp) = if is_taken number block
     then events_of_block (record { number = block; entries = entries.items; status = status; stamp = stamp })
     else []
-events_of_answer number answer = []
+events_of_answer number answer = Heard answer ∷ []
 
 -- by the command that a frame sends, or the answer that it has
 abbrev pub number_after : Option ℕ → Option Command → Option Answer → Option ℕ
@@ -76,7 +65,7 @@ number_after number None None = number
 
 -- the same of the events
 abbrev pub content_events : Option ℕ → Option Command → Option Answer → List ContentEvent
-content_events number (Some command) heard = events_of_command number command
+content_events number (Some command) heard = Sent command ∷ []
 content_events number None (Some answer) = events_of_answer number answer
 content_events number None None = []
 
@@ -111,6 +100,34 @@ events_below number (line ∷ lines) =
 -- the events of a transcript
 abbrev pub events_of_lines : List TranscriptLine → List LineEvent
 events_of_lines lines = events_below None lines
+
+-- ---- a log that begins with both ends
+
+-- an item as an input stands at the start of a module: ignored, with the filters of the start
+abbrev pub item_at_start : ℕ → InputItem
+item_at_start input =
+    record { input = input; ignore = true; leading = DEFAULT_FILTER; trailing = DEFAULT_FILTER }
+
+-- such an item of each input below a number
+unfoldable pub items_at_start : ℕ → List InputItem
+items_at_start zero = []
+items_at_start (suc input) = items_at_start input ++ (item_at_start input ∷ [])
+
+-- what stands above the first line for the start of both ends: each input is configured as it is at the start of a module,
+-- and that is taken; and a clear block without entries is taken, at the time 0
+abbrev pub events_at_start : List ContentEvent
+events_at_start = Sent (commands.ConfigureInputs (record { items = items_at_start INPUTS }))
+    ∷ (Heard (answers.ConfigureInputs 0)
+    ∷ events_of_block (record { number = 0; entries = []; status = 0; stamp = 0 }))
+
+-- the events above the first line: none where a log begins later than both ends
+abbrev pub events_above : Bool → List ContentEvent
+events_above begun = if begun then events_at_start else []
+
+-- the events of a log, by whether it begins with both ends
+abbrev pub events_of_log : Bool → List TranscriptLine → List LineEvent
+events_of_log begun lines =
+    map (λ event. record { line = 0; event = event }) (events_above begun) ++ events_of_lines lines
 
 -- the event at a place, where there is one; the first has place 0
 abbrev pub content_event_at : List LineEvent → ℕ → Option ContentEvent

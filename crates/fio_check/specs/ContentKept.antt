@@ -1,11 +1,12 @@
--- What the fields of the checker of the rules on content stand for. A flag is an octet: 0 is no.
-use Rattle.std.specs.Prelude.{ℕ, ◌==◌, Bool, not, List, Option, option_map, Some, None, replicate, slice_index_or, if◌then◌else◌}
-use Rattle.std.specs.Option.{option_or}
-use Rattle.fio_message.specs.declared.fields.InputItem.{InputItem}
-use Rattle.fio_input.specs.FilterHistory.{last_item_of}
-use Rattle.fio_check.specs.ContentAbove.{ContentFacts, FilterPair, LatestEntry, filters_of}
+-- What the fields of the checker of the rules on content stand for. A flag is an octet: 0 is no. In a set of inputs, bit i
+-- is input i.
+use Rattle.std.specs.Prelude.{ℕ, ◌==◌, Bool, not, List, Option, Some, None, slice_index_or, if◌then◌else◌}
+use Rattle.fio_message.specs.Bits.{is_set}
+use Rattle.fio_check.specs.ContentAbove.{ContentFacts, InputAbove}
+use Rattle.fio_check.specs.ContentSaid.{FilterPair, Floor, Seen, SentItem}
 use Rattle.fio_check.specs.ContentCheckers.{ContentKept}
 use Rattle.fio_check.specs.declared.content_above.ContentAbove.{ContentAbove}
+use Rattle.fio_check.specs.declared.content_inputs.ContentInputs.{ContentInputs}
 use Rattle.fio_check.specs.declared.content.ContentChecker.{ContentChecker}
 
 -- a flag
@@ -16,42 +17,62 @@ is_flagged octet = not (octet == 0)
 abbrev pub flagged_number : ℕ → ℕ → Option ℕ
 flagged_number has number = if has == 0 then None else Some number
 
--- the latest entry of an input, by octets: the first is 0 where there is none, 1 where it has state 0, else state 1
-abbrev pub latest_in : ℕ → ℕ → ℕ → Option LatestEntry
-latest_in state wide quiet = if state == 0
-    then None
-    else Some (record { level = not (state == 1); wide = wide; quiet = is_flagged quiet })
+-- what is where an input is in a set
+abbrev pub some_in : {A : Type 0} → ℕ → ℕ → A → Option A
+some_in set input value = if is_set set input then Some value else None
 
--- both filters of an input, where it is named
-abbrev pub filters_in : ℕ → ℕ → ℕ → Option FilterPair
-filters_in named leading trailing =
-    if named == 0 then None else Some (record { leading = leading; trailing = trailing })
+-- both filters of an input
+abbrev pub filters_in : List ℕ → List ℕ → ℕ → FilterPair
+filters_in leading trailing input = record {
+  leading = slice_index_or leading input 1;
+  trailing = slice_index_or trailing input 1;
+}
+
+-- the last item of an input
+abbrev pub item_in : ContentInputs → ℕ → SentItem
+item_in inputs input = record {
+  ignore = is_set inputs.ignoring input;
+  filters = filters_in inputs.leading inputs.trailing input;
+}
+
+-- what is above of an input, as far as it is kept: where its last item is settled, no other was sent since, and its filters
+-- are the least ones
+abbrev pub input_kept : ContentInputs → ℕ → InputAbove
+input_kept inputs input = record {
+  named = is_set inputs.named input;
+  item = some_in inputs.sent input (item_in inputs input);
+  taken = is_set inputs.taken input;
+  hidden = is_set inputs.hidden input;
+  watched = some_in inputs.watched input (is_set inputs.levels input);
+  timed = some_in inputs.timed input (slice_index_or inputs.times input 0);
+  shut = is_set inputs.shut input;
+  least = if is_set inputs.settled input then filters_in inputs.leading inputs.trailing input
+      else filters_in inputs.least_leading inputs.least_trailing input;
+}
+
+-- the floor of later entries, by octets: the first is 0 where there is none, 1 where it is an entry, else the end of a
+-- block
+abbrev pub floor_in : ℕ → ℕ → ℕ → Option Floor
+floor_in kind time input = if kind == 0
+    then None
+    else Some (record { time = time; input = if kind == 1 then Some input else None })
+
+-- the states of the latest 181
+abbrev pub seen_kept : ContentAbove → Seen
+seen_kept above = record { stamp = above.seen; levels = above.seen_levels }
 
 -- what is above, as far as it is kept
 abbrev pub facts_kept : ContentAbove → ContentFacts
 facts_kept above = record {
-  asking = is_flagged above.asking;
-  asked_quiet = is_flagged above.asked_quiet;
-  clear_quiet = is_flagged above.clear_quiet;
   loaded = is_flagged above.loaded;
-  accepted = is_flagged above.accepted;
-  filters = λ input. filters_in (slice_index_or above.named input 0)
-      (slice_index_or above.leading input 0) (slice_index_or above.trailing input 0);
-  before = flagged_number above.has_before above.before;
-  latest = λ input. latest_in (slice_index_or above.states input 0)
-      (slice_index_or above.times input 0) (slice_index_or above.quiet input 0);
-}
-
--- the facts with the filters of these items, the last that names an input
-abbrev pub filters_added : ContentFacts → List InputItem → ContentFacts
-filters_added facts items = record facts {
-  filters = λ input. option_or (option_map filters_of (last_item_of input items)) (facts.filters input);
-}
-
--- the facts with this latest entry of an input
-abbrev pub latest_added : ContentFacts → ℕ → Option LatestEntry → ContentFacts
-latest_added facts input entry = record facts {
-  latest = λ other. if other == input then entry else facts.latest other;
+  watchdog_set = is_flagged above.watchdog_set;
+  clearing = above.clearing;
+  absent_named = is_flagged above.absent_named;
+  clock = flagged_number above.has_clock above.clock;
+  clear = is_flagged above.clear;
+  floor = floor_in above.floor_kind above.floor above.floor_input;
+  seen = if above.has_seen == 0 then None else Some (seen_kept above);
+  inputs = λ input. input_kept above.inputs input;
 }
 
 -- what a checker keeps
@@ -59,32 +80,4 @@ abbrev pub content_kept : ContentChecker → ContentKept
 content_kept checker = record {
   number = flagged_number checker.has_number checker.number;
   facts = facts_kept checker.above;
-}
-
--- what is kept of no events: each octet is 0
-abbrev pub above_at_start : ContentAbove
-above_at_start = record {
-  times = replicate 128 0;
-  before = 0;
-  states = replicate 128 0;
-  quiet = replicate 128 0;
-  named = replicate 128 0;
-  leading = replicate 128 0;
-  trailing = replicate 128 0;
-  has_before = 0;
-  asking = 0;
-  asked_quiet = 0;
-  clear_quiet = 0;
-  loaded = 0;
-  accepted = 0;
-  reserved = replicate 2 0;
-}
-
--- a checker above the first frame: each octet is 0
-abbrev pub content_at_start : ContentChecker
-content_at_start = record {
-  above = above_at_start;
-  has_number = 0;
-  number = 0;
-  reserved = replicate 2 0;
 }

@@ -1,7 +1,8 @@
 -- Laws of the rules on content.
 use Rattle.std.specs.Prelude.{◌≡◌, ℕ, suc, List, Some, slice_get}
-use Rattle.fio_check.specs.ContentAbove.{content_at, content_with, no_content}
+use Rattle.fio_check.specs.ContentAbove.{content_at}
 use Rattle.fio_check.specs.ContentEvents.{LineEvent}
+use Rattle.fio_check.specs.ContentFacts.{content_with, no_content}
 
 -- what is kept event by event is what is above
 pub record KeepsContent (events : List LineEvent) : Type 0 where

@@ -1,106 +1,199 @@
--- The rules on content: what an entry of the record may break, of a transcript that keeps those of `Rules`.
+-- The rules on content: what an answer, an entry or the end of a block may break, of a transcript that keeps the rules of
+-- `Rules`.
 --
--- Each rule is stated once, by what is above an entry and what the entry says.
-use Rattle.std.specs.Prelude.{ℕ, ◌==◌, ◌+◌, ◌-◌, ◌%◌, ◌^◌, Bool, ◌&&◌, List, [], ◌∷◌, Option, None, codes, find, length, nat_le, nat_lt, not, option_map, option_and_then, slice_get, take, if◌then◌else◌}
+-- Each rule is stated once, by what is above an event and what the event says.
+use Rattle.std.specs.Prelude.{ℕ, ◌==◌, Bool, ◌&&◌, ◌||◌, false, List, [], ◌∷◌, Option, Some, None, bit_and, codes, find, is_some, length, nat_lt, not, option_map, option_and_then, slice_get, take, if◌then◌else◌}
 use Rattle.std.specs.Bool.{beq}
-use Rattle.fio_input.specs.FilterRule.{filter_in_force}
+use Rattle.std.specs.Option.{option_or}
+use Rattle.fio_message.specs.Bits.{is_set}
+use Rattle.fio_message.specs.Status.{says_error, says_set_before}
+use Rattle.fio_message.specs.declared.answers.Answer.{Answer}
+use Rattle.fio_message.specs.declared.answers.Answer.TheVariants as answers
+use Rattle.fio_message.specs.declared.limits.TheConstants.{INPUTS}
 use Rattle.fio_cpu.specs.declared.record.Item.{Item}
 use Rattle.fio_cpu.specs.declared.record.Item.TheVariants.{Entry}
-use Rattle.fio_check.specs.ContentAbove.{ContentFacts, FilterPair, TimedState, content_at}
-use Rattle.fio_check.specs.ContentEvents.{ContentEvent, LineEvent, Recorded, events_of_lines, recorded_items}
+use Rattle.fio_check.specs.ContentAbove.{ContentFacts, InputAbove, content_at}
+use Rattle.fio_check.specs.ContentSaid.{FilterPair, Floor, Seen, TimedState, comes_to, is_before, is_later, milliseconds_between, stamp_of}
+use Rattle.fio_check.specs.ContentEvents.{ContentEvent, LineEvent, Heard, Recorded, Ended, events_of_log, recorded_items}
 use Rattle.fio_check.specs.Lines.{TranscriptLine}
 use Rattle.fio_check.specs.Places.{earliest_above, is_some_and}
+use Rattle.fio_check.specs.declared.content_rules.BrokenRule.{BrokenRule}
 use Rattle.fio_check.specs.declared.content_rules.ContentRule.{ContentRule}
-use Rattle.fio_check.specs.declared.content_rules.ContentRule.TheVariants.{Order, Alternate, Apart}
+use Rattle.fio_check.specs.declared.content_rules.ContentRule.TheVariants.{Order, Fresh, Alternate, Apart, Ignored, State, Clock, Done, Accepted, Cleared, Watchdog}
 
--- how far the later of two times is from the earlier one, modulo 2 ^ 32
-abbrev pub milliseconds_between : ℕ → ℕ → ℕ
-milliseconds_between earlier later = (later + 2 ^ 32 - earlier) % 2 ^ 32
+-- ---- an entry
 
--- a time is before another: it is not less than 2 ^ 31 ahead of it
-abbrev pub is_before : ℕ → ℕ → Bool
-is_before time other = nat_le (2 ^ 31) (milliseconds_between other time)
+-- an entry of this input comes behind one of that input: it is later, or of the same time and a higher input
+abbrev pub comes_behind : ℕ → ℕ → ℕ → ℕ → Bool
+comes_behind input wide above time = is_later wide time || (wide == time && nat_lt above input)
+
+-- an entry does not come behind the entry above it
+abbrev pub is_out_of_order : ℕ → ℕ → Floor → Bool
+is_out_of_order input wide floor =
+    is_some_and floor.input (λ above. not (comes_behind input wide above floor.time))
+
+-- an entry is not later than the block without C above it
+abbrev pub is_stale : ℕ → Floor → Bool
+is_stale wide floor = not (is_some floor.input) && not (is_later wide floor.time)
 
 -- the filter that is in force for a change to this state
 abbrev pub filter_towards : Bool → FilterPair → ℕ
-filter_towards level filters = filter_in_force (if level then filters.trailing else filters.leading)
+filter_towards level filters = if level then filters.trailing else filters.leading
 
 -- an entry is nearer to an earlier one of its input than the filter for the change
-abbrev pub is_too_near : TimedState → ℕ → FilterPair → Bool
-is_too_near entry earlier filters =
+abbrev pub is_too_near : TimedState → FilterPair → ℕ → Bool
+is_too_near entry filters earlier =
     nat_lt (milliseconds_between earlier entry.wide) (filter_towards entry.level filters)
 
--- the same by the latest configuration sent, where it was taken and names the input
-abbrev pub is_nearer : ContentFacts → ℕ → TimedState → ℕ → Bool
-is_nearer facts input entry earlier =
-    facts.accepted && is_some_and (facts.filters input) (is_too_near entry earlier)
-
 -- An entry of this input breaks a rule:
-abbrev pub breaks_content : ContentFacts → ℕ → TimedState → ContentRule → Bool
--- Order: its wide time is before that of the entry before it, and no load of the counter was sent.
-breaks_content facts input entry Order =
-    not facts.loaded && is_some_and facts.before (λ before. is_before entry.wide before)
--- Alternate: it has the state of the latest entry of the same input, and no configuration was sent since the first poll
--- for the latest block without C above that entry's block.
-breaks_content facts input entry Alternate = is_some_and (facts.latest input)
-    (λ older. older.quiet && beq entry.level older.level)
--- Apart: it has the other state, likewise with no configuration since; no load of the counter was sent; the latest
--- configuration sent was taken and names the input; and the times are nearer than the filter for the change.
-breaks_content facts input entry Apart = not facts.loaded && is_some_and (facts.latest input)
-    (λ older. older.quiet
-    && (not (beq entry.level older.level) && is_nearer facts input entry older.wide))
+abbrev pub breaks_entry : ContentFacts → ℕ → TimedState → ContentRule → Bool
+-- Order: it does not come behind the entry above it, a clear block is above, and no load of the counter was sent.
+breaks_entry facts input entry Order = (not facts.loaded && facts.clear)
+    && is_some_and facts.floor (is_out_of_order input entry.wide)
+-- Fresh: it is not later than the block without C above it, likewise.
+breaks_entry facts input entry Fresh =
+    (not facts.loaded && facts.clear) && is_some_and facts.floor (is_stale entry.wide)
+-- Alternate: it has the state of its input's latest entry, and no change between them can have been hidden.
+breaks_entry facts input entry Alternate =
+    is_some_and (facts.inputs input).watched (λ level. beq entry.level level)
+-- Apart: it is nearer to its input's latest entry than the least filter that can be in force for the change, a clear block
+-- is above that entry, and no load of the counter was sent.
+breaks_entry facts input entry Apart = not facts.loaded
+    && is_some_and (facts.inputs input).timed (is_too_near entry (facts.inputs input).least)
+-- Ignored: its input was ignored.
+breaks_entry facts input entry Ignored = (facts.inputs input).shut
+breaks_entry facts input entry rule = false
+
+-- in the order in which they are tried
+abbrev pub entry_rules : List ContentRule
+entry_rules = Order ∷ Fresh ∷ Alternate ∷ Apart ∷ Ignored ∷ []
+
+-- ---- the states that were asked for
+
+-- the latest entry of an input has another state, and no change since can have been hidden
+abbrev pub differs : Seen → ℕ → InputAbove → Bool
+differs seen input above =
+    is_some_and above.watched (λ level. not (beq level (is_set seen.levels input)))
+
+-- the same as the input
+abbrev pub differing : ContentFacts → Seen → ℕ → Option ℕ
+differing facts seen input = if differs seen input (facts.inputs input) then Some input else None
+
+-- the lowest input that differs
+unfoldable pub first_differing : ContentFacts → Seen → Option ℕ
+first_differing facts seen = earliest_above (differing facts seen) INPUTS
+
+-- ---- an answer
+
+-- An answer breaks a rule:
+abbrev pub breaks_answer : ContentFacts → Answer → ContentRule → Bool
+-- Done: it says that a load of the counter is refused.
+breaks_answer facts (answers.LoadCounter status) Done = says_error status
+-- Accepted: it says that a configuration is refused, and its command names no input above 63.
+breaks_answer facts (answers.ConfigureInputs status) Accepted =
+    says_error status && not facts.absent_named
+-- Cleared: it has a flag that its command clears.
+breaks_answer facts (answers.Status flags receive transmit stamp) Cleared =
+    not (bit_and flags facts.clearing == 0)
+-- Watchdog: it says that the watchdog had not been set, and one was answered above.
+breaks_answer facts (answers.Watchdog status) Watchdog =
+    not (says_set_before status) && facts.watchdog_set
+-- Clock: its stamp is before the latest one above, it is no block that is sent again, and no load of the counter was sent.
+breaks_answer facts answer Clock = not facts.loaded
+    && is_some_and (stamp_of answer) (λ stamp. is_some_and facts.clock (is_before stamp))
+breaks_answer facts answer rule = false
+
+-- in the order in which they are tried
+abbrev pub answer_rules : List ContentRule
+answer_rules = Done ∷ Accepted ∷ Cleared ∷ Watchdog ∷ Clock ∷ []
+
+-- ---- an event
+
+-- the breach of the states that were asked for, if the record comes to them and this input differs
+abbrev pub state_breach : Bool → Option ℕ → Option BrokenRule
+state_breach comes input =
+    if comes then option_map (λ found. record { input = Some found; rule = State }) input else None
+
+-- State: the record comes to the states that were asked for, and an input has another one in it.
+abbrev pub broken_state : ContentFacts → ContentEvent → Option Seen → Option BrokenRule
+broken_state facts event None = None
+broken_state facts event (Some seen) = state_breach (comes_to seen event) (first_differing facts seen)
+
+-- the first rule that an event breaks: an answer, an entry, or the end of a block
+abbrev pub rule_broken_by : ContentFacts → ContentEvent → Option BrokenRule
+rule_broken_by facts (Heard answer) = option_map (λ rule. record { input = None; rule = rule })
+    (find (breaks_answer facts answer) answer_rules)
+rule_broken_by facts (Recorded (Entry input level stamp wide)) = option_or
+    (broken_state facts (Recorded (Entry input level stamp wide)) facts.seen)
+    (option_map (λ rule. record { input = Some input; rule = rule })
+    (find (breaks_entry facts input (record { level = level; wide = wide })) entry_rules))
+rule_broken_by facts (Ended status stamp) = broken_state facts (Ended status stamp) facts.seen
+rule_broken_by facts event = None
+
+-- ---- of a transcript
+
+-- where a rule on content is broken: the number of the line, the input if there is one, the rule, and the items of the
+-- record above
+pub record ContentFault : Type 0 where
+  pub line : ℕ
+  pub input : Option ℕ
+  pub rule : ContentRule
+  pub above : List Item
+
+-- a rule that is broken by an event in a line with this number, below these items
+abbrev pub fault_of : ℕ → List Item → BrokenRule → ContentFault
+fault_of line above broken =
+    record { line = line; input = broken.input; rule = broken.rule; above = above }
+
+-- the fault at a place
+abbrev pub content_fault_at : List LineEvent → ℕ → Option ContentFault
+content_fault_at events place = option_and_then
+    (λ found. option_map (fault_of found.line (recorded_items (take place events))) (rule_broken_by (content_at events place) found.event))
+    (slice_get events place)
+
+-- the first fault of these events
+abbrev pub first_fault_in : List LineEvent → Option ContentFault
+first_fault_in events = earliest_above (content_fault_at events) (length events)
+
+-- the first fault of a transcript, by whether it begins with both ends
+abbrev pub content_fault_in : Bool → List TranscriptLine → Option ContentFault
+content_fault_in begun lines = first_fault_in (events_of_log begun lines)
+
+-- ---- names and numbers
 
 -- the name of a rule on content
 abbrev pub content_rule_name : ContentRule → List ℕ
 content_rule_name Order = codes "order"
+content_rule_name Fresh = codes "fresh"
 content_rule_name Alternate = codes "alternate"
 content_rule_name Apart = codes "apart"
+content_rule_name Ignored = codes "ignored"
+content_rule_name State = codes "state"
+content_rule_name Clock = codes "clock"
+content_rule_name Done = codes "done"
+content_rule_name Accepted = codes "accepted"
+content_rule_name Cleared = codes "cleared"
+content_rule_name Watchdog = codes "watchdog"
 
--- the place of a rule on content in the order in which they are tried, from 1
+-- its number, from 1
 abbrev pub content_rule_number : ContentRule → ℕ
 content_rule_number Order = 1
-content_rule_number Alternate = 2
-content_rule_number Apart = 3
+content_rule_number Fresh = 2
+content_rule_number Alternate = 3
+content_rule_number Apart = 4
+content_rule_number Ignored = 5
+content_rule_number State = 6
+content_rule_number Clock = 7
+content_rule_number Done = 8
+content_rule_number Accepted = 9
+content_rule_number Cleared = 10
+content_rule_number Watchdog = 11
 
--- in the order in which they are tried
+-- all rules on content, by their numbers
 abbrev pub content_rules : List ContentRule
-content_rules = Order ∷ Alternate ∷ Apart ∷ []
+content_rules =
+    Order ∷ Fresh ∷ Alternate ∷ Apart ∷ Ignored ∷ State ∷ Clock ∷ Done ∷ Accepted ∷ Cleared ∷ Watchdog ∷ []
 
 -- the rule on content with this number
 abbrev pub content_rule_of_number : ℕ → Option ContentRule
 content_rule_of_number number = find (λ rule. content_rule_number rule == number) content_rules
-
--- the first rule on content that an entry breaks
-abbrev pub first_content_broken : ContentFacts → ℕ → TimedState → Option ContentRule
-first_content_broken facts input entry = find (breaks_content facts input entry) content_rules
-
--- ---- of a transcript
-
--- an entry that breaks a rule on content: the number of its line, its input, the rule, and the items of the record above
--- it
-pub record BrokenEntry : Type 0 where
-  pub line : ℕ
-  pub input : ℕ
-  pub rule : ContentRule
-  pub above : List Item
-
--- the breach of an event of a line, at a place, if it records an entry that breaks a rule
-abbrev pub breach_of_event : List LineEvent → ℕ → ℕ → ContentEvent → Option BrokenEntry
-breach_of_event events place line (Recorded (Entry input level stamp wide)) =
-    option_map
-    (λ rule. record { line = line; input = input; rule = rule; above = recorded_items (take place events) })
-    (first_content_broken (content_at events place) input (record { level = level; wide = wide }))
-breach_of_event events place line event = None
-
--- the breach at a place
-abbrev pub content_breach_at : List LineEvent → ℕ → Option BrokenEntry
-content_breach_at events place =
-    option_and_then (λ found. breach_of_event events place found.line found.event) (slice_get events place)
-
--- the first breach of these events
-abbrev pub first_breach_in : List LineEvent → Option BrokenEntry
-first_breach_in events = earliest_above (content_breach_at events) (length events)
-
--- the first entry of a transcript's record that breaks a rule on content
-abbrev pub broken_entry_in : List TranscriptLine → Option BrokenEntry
-broken_entry_in lines = first_breach_in (events_of_lines lines)

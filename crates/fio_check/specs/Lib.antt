@@ -10,8 +10,11 @@ pub mod Pollers
 pub mod Checkers
 pub mod Laws
 pub mod ContentEvents
+pub mod ContentSaid
 pub mod ContentAbove
 pub mod ContentRules
+pub mod ContentFacts
 pub mod ContentCheckers
 pub mod ContentKept
 pub mod ContentLaws
+pub mod Finding

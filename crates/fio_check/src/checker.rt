@@ -1,11 +1,12 @@
 //! The checker of a transcript, one frame at a time.
 ghost use Rattle.std.specs.Prelude.{◌≡◌, true, false};
-ghost use Rattle.fio_check.specs.Checkers.{breach_of, checker_with, due_in, found_by, new_checker, passes_over};
+ghost use Rattle.fio_check.specs.Checkers.{breach_of, checker_with, checker_within, due_in, found_by, new_checker, passes_over};
 ghost use Rattle.fio_check.specs.Observations.{observation_in};
 
 use crate::facts::Facts;
+use crate::limits::Limits;
 use crate::observation::Observation;
-use crate::rules::{Rule, rule_broken};
+use crate::rules::{Rule, rule_broken_within};
 use fio_message::types::BLOCK_ANSWER;
 
 /// A number or a type that was due.
@@ -30,6 +31,8 @@ pub struct Breach {
 /// A checker: what it keeps of the frames that it took.
 #[derive(Clone, Copy, Debug, PartialEq, Eq, Hash)]
 pub struct Checker {
+    /// The limits of the module.
+    pub limits: Limits,
     /// What is above the next frame.
     pub facts: Facts,
     /// Whether it passes over all frames to the next poll, as it does below a breach.
@@ -37,11 +40,19 @@ pub struct Checker {
 }
 
 impl Checker {
-    /// Returns a checker above the first frame.
+    /// Returns a checker above the first frame, of a module with the limits of TEES 2009.
     pub fn new() -> Checker
         ensures { result ≡ new_checker }
     {
+        Checker::within(Limits::standard())
+    }
+
+    /// Returns a checker above the first frame, of a module with these limits.
+    pub fn within(limits: Limits) -> Checker
+        ensures { result ≡ checker_within limits }
+    {
         Checker {
+            limits,
             facts: Facts::default(),
             skips: false,
         }
@@ -72,7 +83,7 @@ impl Checker {
         if self.passes_over(observation) {
             return None;
         }
-        let breach = breach_of(&self.facts, observation);
+        let breach = breach_of(self.limits, &self.facts, observation);
         if breach.is_some() {
             self.facts = Facts::default();
             self.skips = true;
@@ -93,11 +104,11 @@ impl Checker {
     }
 }
 
-/// Returns the breach of a frame that says this, below lines of which these facts hold.
-fn breach_of(facts: &Facts, observation: Observation) -> Option<Breach>
-    ensures { result ≡ breach_of facts.now observation }
+/// Returns the breach of a frame that says this, below lines of which these facts hold, with these limits.
+fn breach_of(limits: Limits, facts: &Facts, observation: Observation) -> Option<Breach>
+    ensures { result ≡ breach_of limits facts.now observation }
 {
-    match rule_broken(facts, observation) {
+    match rule_broken_within(limits, facts, observation) {
         Some(rule) => {
             let due = due_in(facts, observation, rule);
             Some(Breach { rule, due })

@@ -1,38 +1,38 @@
 //! The checker of the rules on content, one frame at a time.
-ghost use Rattle.std.specs.Prelude.{◌≡◌, ℕ, fold, map, true, false};
+ghost use Rattle.std.specs.Prelude.{◌≡◌, ◌+◌, ◌≤◌, ◌++◌, ◌∷◌, [], ℕ, fold, length, map, true, false, None};
 ghost use Rattle.std.specs.Option.{option_or};
-ghost use Rattle.fio_message.specs.Status.{says_lost, says_more};
+ghost use Rattle.fio_message.specs.Status.{says_lost};
 ghost use Rattle.fio_message.specs.Views.{answer_of, command_of, entries_of};
-ghost use Rattle.fio_message.specs.declared.commands.Command.TheVariants as commands;
 ghost use Rattle.fio_cpu.specs.Record.{gap_if, item_of};
 ghost use Rattle.fio_cpu.specs.declared.record.Item.TheVariants as Item;
-ghost use Rattle.fio_check.specs.ContentAbove.{content_with};
-ghost use Rattle.fio_check.specs.ContentCheckers.{breach_among, breach_found, content_found, kept_below, kept_with, nothing_kept};
-ghost use Rattle.fio_check.specs.ContentEvents.{Ended, Recorded, events_of_answer, events_of_block, events_of_command, number_with_answer, number_with_command};
-ghost use Rattle.fio_check.specs.ContentKept.{content_at_start, content_kept, facts_kept};
+ghost use Rattle.fio_check.specs.ContentCheckers.{breach_among, breach_below, breach_found, content_found, kept_below, kept_at_start, kept_with};
+ghost use Rattle.fio_check.specs.ContentEvents.{Ended, Heard, Recorded, Sent, events_of_answer, items_and_end, number_with_answer, number_with_command};
+ghost use Rattle.fio_check.specs.ContentFacts.{content_with};
+ghost use Rattle.fio_check.specs.ContentKept.{content_kept, facts_kept};
 
 use crate::content_above::ContentAbove;
-use crate::content_rules::ContentRule;
+use crate::content_rules::{BrokenRule, ContentRule};
 use fio_input::widen;
 use fio_message::{
     AnswerView, BlockStatus, CommandView, EntriesView, Entry, InputNumber, read_answer,
-    read_command, says_error,
+    read_command,
 };
 
-/// An entry that breaks a rule on content.
+/// Where a frame breaks a rule on content.
 #[derive(Clone, Copy, Debug, PartialEq, Eq, Hash)]
 pub struct ContentBreach {
-    /// The index of the entry within its block, from 0.
-    pub entry: u8,
-    /// The input that it names.
-    pub input: u8,
-    /// The first rule that it breaks.
+    /// How many items of the frame's block are recorded above the breach: for an answer none, at the end of a
+    /// block all of them.
+    pub items: u16,
+    /// The input of the entry that breaks it, or that whose state is another; `None` for an answer.
+    pub input: Option<u8>,
+    /// The first rule that is broken.
     pub rule: ContentRule,
 }
 
 /// A checker of the rules on content: what it keeps of the frames that it took. It judges the
-/// entries of the block answers that a CPU's end takes which starts at the first poll: those with that
-/// end's number. So a block that is heard again is judged once.
+/// answers and entries that a CPU's end takes which starts at the first poll: of the block answers those with
+/// that end's number. So a block that is heard again is judged once.
 #[derive(Clone, Copy, Debug)]
 #[repr(C)]
 pub struct ContentChecker {
@@ -42,21 +42,38 @@ pub struct ContentChecker {
     has_number: u8,
     /// The number that the next block to be taken has.
     number: u8,
-    /// Padding to a multiple of 4 octets.
-    reserved: [u8; 2],
+    /// Padding to a multiple of 8 octets.
+    reserved: [u8; 6],
 }
 
 impl ContentChecker {
-    /// Returns a checker above the first frame.
+    /// Returns a checker above the first frame of a log, whose ends may have begun long before.
+    #[inline(always)]
     pub fn new() -> ContentChecker
-        ensures kept { content_kept result ≡ nothing_kept }
-        ensures octets { result ≡ content_at_start }
+        ensures { content_kept result ≡ kept_at_start false }
+    {
+        ContentChecker::above(ContentAbove::new())
+    }
+
+    /// Returns a checker above the first frame of a log that begins with both ends. It knows how the
+    /// module begins, so it finds more.
+    #[inline(always)]
+    #[tactic(auto, using(crate::proofs::ContentStart::begun_is))]
+    pub fn begun() -> ContentChecker
+        ensures { content_kept result ≡ kept_at_start true }
+    {
+        ContentChecker::above(ContentAbove::begun())
+    }
+
+    #[inline(always)]
+    fn above(above: ContentAbove) -> ContentChecker
+        ensures { content_kept result ≡ (record { number = None; facts = facts_kept above }) }
     {
         ContentChecker {
-            above: ContentAbove::new(),
+            above,
             has_number: 0,
             number: 0,
-            reserved: [0; 2],
+            reserved: [0; 6],
         }
     }
 
@@ -69,8 +86,8 @@ impl ContentChecker {
         }
     }
 
-    /// Takes a frame that the CPU's end heard, and returns the first entry of its block that breaks a
-    /// rule on content. All entries of the block are kept, below a breach too.
+    /// Takes a frame that the CPU's end heard, and returns its first breach of a rule on content. All of the
+    /// frame is kept, below a breach too.
     pub fn heard(&mut self, octets: &[u8]) -> Option<ContentBreach>
         ensures found { result ≡ content_found (content_kept self.old) false octets.now }
         ensures next { content_kept self.new ≡ kept_with (content_kept self.old) false octets.now }
@@ -84,26 +101,15 @@ impl ContentChecker {
     /// Takes a command that is read already, as `sent` takes its octets.
     #[inline]
     pub fn send(&mut self, command: &CommandView<'_>)
-        ensures { content_kept self.new ≡ kept_below (content_kept self.old) (number_with_command (content_kept self.old).number (command_of command.now)) (events_of_command (content_kept self.old).number (command_of command.now)) }
+        ensures { content_kept self.new ≡ kept_below (content_kept self.old) (number_with_command (content_kept self.old).number (command_of command.now)) (Sent (command_of command.now) ∷ []) }
     {
-        match *command {
-            CommandView::Poll { block } => self.send_poll(block),
-            CommandView::LoadCounter { .. } => self.above.add_load(),
-            CommandView::ConfigureInputs { items } => self.above.add_configuration(&items),
-            _ => {}
+        if let CommandView::Poll { block } = *command {
+            if self.has_number == 0 {
+                self.has_number = 1;
+                self.number = block;
+            }
         }
-    }
-
-    fn send_poll(&mut self, polled: u8)
-        ensures { content_kept self.new ≡ kept_below (content_kept self.old) (number_with_command (content_kept self.old).number (commands.Poll polled)) (events_of_command (content_kept self.old).number (commands.Poll polled)) }
-    {
-        if self.has_number == 0 {
-            self.has_number = 1;
-            self.number = polled;
-        }
-        if self.number == polled {
-            self.above.add_poll();
-        }
+        self.above.add_command(command);
     }
 
     /// Takes an answer that is read already, as `heard` takes its octets.
@@ -123,111 +129,142 @@ impl ContentChecker {
                     return None;
                 }
                 self.number = block.wrapping_add(1);
-                take_block(&mut self.above, &entries, status, stamp)
+                let found = take_answer(&mut self.above, answer);
+                take_items(&mut self.above, found, &entries, status, stamp)
             }
-            AnswerView::ConfigureInputs { status } => {
-                if !says_error(status) {
-                    self.above.add_acceptance();
-                }
-                None
-            }
-            _ => None,
+            _ => take_answer(&mut self.above, answer),
         }
     }
 }
 
-/// Takes a block, and returns the first entry of it that breaks a rule.
-fn take_block(
+/// Returns the breach of a rule below this many items of its frame.
+fn breach_below(items: u16, broken: BrokenRule) -> ContentBreach
+    ensures { result ≡ breach_below items broken }
+{
+    ContentBreach {
+        items,
+        input: broken.input,
+        rule: broken.rule,
+    }
+}
+
+/// Takes an answer without the items of a block, and returns its breach.
+fn take_answer(above: &mut ContentAbove, answer: &AnswerView<'_>) -> Option<ContentBreach>
+    ensures found { result ≡ breach_found (facts_kept above.old) 0 (Heard (answer_of answer.now)) }
+    ensures next { facts_kept above.new ≡ content_with (facts_kept above.old) (Heard (answer_of answer.now)) }
+{
+    let broken = above.broken_by_answer(answer);
+    above.add_answer(answer);
+    Some(breach_below(0, broken?))
+}
+
+/// Takes the items of a block and its end, and returns the first breach with these.
+fn take_items(
     above: &mut ContentAbove,
+    found: Option<ContentBreach>,
     entries: &EntriesView<'_>,
     status: u8,
     stamp: u32,
 ) -> Option<ContentBreach>
-    ensures found { (number : ℕ) → result ≡ breach_among (facts_kept above.old) 0
-        (events_of_block (record { number = number; entries = entries_of entries.now; status = status; stamp = stamp })) }
-    ensures next { (number : ℕ) → facts_kept above.new ≡ fold content_with (facts_kept above.old)
-        (events_of_block (record { number = number; entries = entries_of entries.now; status = status; stamp = stamp })) }
+    ensures found { result ≡ option_or found (breach_among (facts_kept above.old) 0
+        (items_and_end (gap_if (says_lost status) ++ map (item_of stamp) (entries_of entries.now)) status stamp)) }
+    ensures next { facts_kept above.new ≡ fold content_with (facts_kept above.old)
+        (items_and_end (gap_if (says_lost status) ++ map (item_of stamp) (entries_of entries.now)) status stamp) }
 {
-    begin_block(above, status);
-    let found = take_entries(above, entries, stamp);
-    end_block(above, status);
-    found
+    let items = begin_block(above, status);
+    let found = take_entries(above, found, items, entries, stamp);
+    take_end(above, found, items + entries.len() as u16, status, stamp)
 }
 
-/// Begins a block: where entries were lost, by a gap mark.
-fn begin_block(above: &mut ContentAbove, status: u8)
-    ensures { facts_kept above.new ≡ fold content_with (facts_kept above.old)
+/// Begins a block, if entries were lost by a gap mark, and returns how many items that are.
+fn begin_block(above: &mut ContentAbove, status: u8) -> u16
+    ensures items { result ≡ length (gap_if (says_lost status)) }
+    ensures next { facts_kept above.new ≡ fold content_with (facts_kept above.old)
         (map Recorded (gap_if (says_lost status))) }
 {
     if BlockStatus::from_octet(status).lost() {
         above.add_gap();
+        return 1;
     }
+    0
 }
 
-/// Ends a block.
-fn end_block(above: &mut ContentAbove, status: u8)
-    ensures { facts_kept above.new ≡ content_with (facts_kept above.old) (Ended (says_more status)) }
-{
-    above.end_block(BlockStatus::from_octet(status).more());
-}
-
-/// Takes the entries of a block, and returns the first of them that breaks a rule.
+/// Takes the entries of a block below this many items of it, and returns the first breach with these.
 fn take_entries(
     above: &mut ContentAbove,
+    found: Option<ContentBreach>,
+    items: u16,
     entries: &EntriesView<'_>,
     stamp: u32,
 ) -> Option<ContentBreach>
-    ensures found { result ≡ breach_among (facts_kept above.old) 0
-        (map Recorded (map (item_of stamp) (entries_of entries.now))) }
+    requires { items ≤ 1 }
+    ensures found { result ≡ option_or found (breach_among (facts_kept above.old) items
+        (map Recorded (map (item_of stamp) (entries_of entries.now)))) }
     ensures next { facts_kept above.new ≡ fold content_with (facts_kept above.old)
         (map Recorded (map (item_of stamp) (entries_of entries.now))) }
 {
-    let mut found = None;
-    let mut index = 0;
+    let mut found = found;
+    let mut items = items;
     'entries: for entry in entries.iter() {
-        found = take_entry(above, found, index, entry, stamp);
-        index += 1;
+        found = take_entry(above, found, items, entry, stamp);
+        items += 1;
     }
     found
 }
 
-/// Takes the entry with this index in its block, and returns the first breach with this entry more.
+/// Takes an entry below this many items of its block, and returns the first breach with this entry.
 fn take_entry(
     above: &mut ContentAbove,
     found: Option<ContentBreach>,
-    index: u8,
+    items: u16,
     entry: Entry,
     stamp: u32,
 ) -> Option<ContentBreach>
     ensures found { result
-        ≡ option_or found (breach_found (facts_kept above.old) index (Recorded (item_of stamp entry))) }
+        ≡ option_or found (breach_found (facts_kept above.old) items (Recorded (item_of stamp entry))) }
     ensures next { facts_kept above.new ≡ content_with (facts_kept above.old) (Recorded (item_of stamp entry)) }
 {
     let wide = widen(stamp, entry.stamp);
-    let found = breach_with(found, above, index, entry.input, entry.level, wide);
-    above.add_entry(entry.input, entry.level, wide);
+    let Entry { input, level, .. } = entry;
+    let found = entry_breach(above, found, items, input, level, wide);
+    above.add_entry(input, level, wide);
     found
 }
 
-/// Returns the first breach with this entry more. The rules are tried only where none is found yet.
-fn breach_with(
-    found: Option<ContentBreach>,
+/// Returns the first breach with an entry of this wide time. The rules are tried only where none is found yet.
+fn entry_breach(
     above: &ContentAbove,
-    index: u8,
+    found: Option<ContentBreach>,
+    items: u16,
     input: InputNumber,
     level: bool,
     wide: u32,
 ) -> Option<ContentBreach>
-    ensures { (stamp : ℕ) → result
-        ≡ option_or found (breach_found (facts_kept above.now) index (Recorded (Item.Entry input level stamp wide))) }
+    ensures { (stamp : ℕ) → result ≡ option_or found (breach_found (facts_kept above.now) items
+        (Recorded (Item.Entry input level stamp wide))) }
 {
     if found.is_some() {
         return found;
     }
-    let rule = above.broken_rule(input, level, wide)?;
-    Some(ContentBreach {
-        entry: index,
-        input: input.get(),
-        rule,
-    })
+    let broken = above.broken_by_entry(input, level, wide)?;
+    Some(breach_below(items, broken))
+}
+
+/// Takes the end of a block below this many items of it, and returns the first breach with the end.
+fn take_end(
+    above: &mut ContentAbove,
+    found: Option<ContentBreach>,
+    items: u16,
+    status: u8,
+    stamp: u32,
+) -> Option<ContentBreach>
+    ensures found { result ≡ option_or found (breach_found (facts_kept above.old) items (Ended status stamp)) }
+    ensures next { facts_kept above.new ≡ content_with (facts_kept above.old) (Ended status stamp) }
+{
+    let broken = above.broken_by_end(status, stamp);
+    above.end_block(status, stamp);
+    if found.is_some() {
+        return found;
+    }
+    Some(breach_below(items, broken?))
 }

@@ -1,142 +1,195 @@
 //! What the rules on content keep of the events above, in plain memory that C code can hold too: a flag
 //! is an octet, and 0 is no.
-ghost use Rattle.std.specs.Prelude.{◌≡◌, ◌<◌, ◌∷◌, [], ℕ, find, slice_index_or};
-ghost use Rattle.fio_message.specs.Views.{items_of};
-ghost use Rattle.fio_input.specs.FilterHistory.{last_item_of};
+ghost use Rattle.std.specs.Prelude.{◌≡◌, ℕ, Some, if◌then◌else◌};
+ghost use Rattle.std.specs.Option.{option_or};
+ghost use Rattle.fio_message.specs.Views.{answer_of, command_of, items_of};
 ghost use Rattle.fio_cpu.specs.declared.record.Item.TheVariants.{Entry, Gap};
-ghost use Rattle.fio_check.specs.ContentAbove.{content_with, no_content};
-ghost use Rattle.fio_check.specs.ContentEvents.{Accepted, Configured, Ended, Loaded, Polled, Recorded};
-ghost use Rattle.fio_check.specs.ContentKept.{above_at_start, facts_kept, filters_added, latest_added, latest_in};
-ghost use Rattle.fio_check.specs.declared.content_above.TheConstants.{NUMBERS};
-ghost use Rattle.fio_check.specs.ContentRules.{breaks_content, first_content_broken, is_nearer};
+ghost use Rattle.fio_check.specs.ContentSaid.{accepts_items, stamp_of};
+ghost use Rattle.fio_check.specs.ContentEvents.{Ended, Heard, Recorded, Sent};
+ghost use Rattle.fio_check.specs.ContentFacts.{below_answer, content_begun, content_with, no_content, with_command, with_items};
+ghost use Rattle.fio_check.specs.ContentKept.{facts_kept};
 
-use crate::content_rules::ContentRule;
-use fio_message::{INPUT_NUMBERS, InputItem, InputNumber, ItemsView};
-
-/// How many numbers of inputs a message can carry, in seven bits.
-const NUMBERS: usize = INPUT_NUMBERS as usize;
-
-/// Half of all wide times: a time that is not less than this ahead of another is before it.
-const HALF: u32 = 1 << 31;
+use crate::content_inputs::ContentInputs;
+use crate::content_times::{is_before, is_later};
+use crate::observation::names_absent_item;
+use fio_message::{
+    AnswerView, BlockStatus, CommandView, INPUTS, InputNumber, ItemsView, says_error,
+};
 
 /// What the rules on content keep of the events above.
 #[derive(Clone, Copy, Debug)]
 #[repr(C)]
 pub struct ContentAbove {
-    /// The wide time of the latest entry of each input.
-    times: [u32; NUMBERS],
-    /// The wide time of the entry before.
-    before: u32,
-    /// The state of the latest entry of each input: 1 for 0, 2 for 1, and 0 where there is no entry.
-    states: [u8; NUMBERS],
-    /// Whether no configuration can have come to the module since that entry was logged.
-    quiet: [u8; NUMBERS],
-    /// Whether the latest configuration sent names the input, and both filters that it has for it.
-    named: [u8; NUMBERS],
-    leading: [u8; NUMBERS],
-    trailing: [u8; NUMBERS],
-    has_before: u8,
-    /// Whether a poll was sent below the latest block.
-    asking: u8,
-    /// Whether no configuration was sent since the first poll for the block that is asked for.
-    asked_quiet: u8,
-    /// Whether no configuration was sent since the first poll for the latest block without C.
-    clear_quiet: u8,
+    /// What is kept of each input.
+    pub(crate) inputs: ContentInputs,
+    /// The states of the latest 181.
+    pub(crate) seen_levels: u64,
+    /// The latest stamp, but of a block that is sent again.
+    pub(crate) clock: u32,
+    /// The time with which the next entry is compared.
+    pub(crate) floor: u32,
+    /// The stamp of the latest 181.
+    pub(crate) seen: u32,
     /// Whether a load of the counter was sent.
-    loaded: u8,
-    /// Whether the latest configuration sent was taken.
-    accepted: u8,
-    /// Padding to a multiple of 4 octets.
-    reserved: [u8; 2],
+    pub(crate) loaded: u8,
+    /// Whether an answer to a watchdog was heard.
+    pub(crate) watchdog_set: u8,
+    /// The flags that the command clears which awaits its answer.
+    pub(crate) clearing: u8,
+    /// Whether that command names an input above 63.
+    pub(crate) absent_named: u8,
+    pub(crate) has_clock: u8,
+    /// Whether a clear block is above.
+    pub(crate) clear: u8,
+    /// What has the time of the floor: 1 an entry, 2 a block without C, and 0 where there is neither.
+    pub(crate) floor_kind: u8,
+    /// The input of that entry.
+    pub(crate) floor_input: u8,
+    /// Whether the record has not come to the latest 181.
+    pub(crate) has_seen: u8,
+    /// Padding to a multiple of 8 octets.
+    reserved: [u8; 3],
 }
 
 impl ContentAbove {
     /// Nothing is above.
+    #[inline(always)]
     pub(crate) fn new() -> ContentAbove
-        ensures kept { facts_kept result ≡ no_content }
-        ensures octets { result ≡ above_at_start }
+        ensures { facts_kept result ≡ no_content }
     {
         ContentAbove {
-            times: [0; NUMBERS],
-            before: 0,
-            states: [0; NUMBERS],
-            quiet: [0; NUMBERS],
-            named: [0; NUMBERS],
-            leading: [0; NUMBERS],
-            trailing: [0; NUMBERS],
-            has_before: 0,
-            asking: 0,
-            asked_quiet: 0,
-            clear_quiet: 0,
+            inputs: ContentInputs::new(),
+            seen_levels: 0,
+            clock: 0,
+            floor: 0,
+            seen: 0,
             loaded: 0,
-            accepted: 0,
-            reserved: [0; 2],
+            watchdog_set: 0,
+            clearing: 0,
+            absent_named: 0,
+            has_clock: 0,
+            clear: 0,
+            floor_kind: 0,
+            floor_input: 0,
+            has_seen: 0,
+            reserved: [0; 3],
         }
     }
 
-    /// Adds a poll with the CPU's number.
-    pub(crate) fn add_poll(&mut self)
-        ensures { facts_kept self.new ≡ content_with (facts_kept self.old) Polled }
+    /// Both ends begin.
+    #[inline(always)]
+    pub(crate) fn begun() -> ContentAbove
+        ensures { facts_kept result ≡ content_begun }
     {
-        if self.asking == 0 {
-            self.asking = 1;
-            self.asked_quiet = 1;
+        ContentAbove {
+            inputs: ContentInputs::begun(),
+            clock: 0,
+            has_clock: 1,
+            clear: 1,
+            floor: 0,
+            floor_kind: 2,
+            ..ContentAbove::new()
         }
     }
 
-    /// Adds a load of the counter.
-    pub(crate) fn add_load(&mut self)
-        ensures { facts_kept self.new ≡ content_with (facts_kept self.old) Loaded }
+    // ---- Commands
+
+    /// Adds a command that is sent.
+    pub(crate) fn add_command(&mut self, command: &CommandView<'_>)
+        ensures { facts_kept self.new ≡ content_with (facts_kept self.old) (Sent (command_of command.now)) }
     {
-        self.loaded = 1;
+        self.begin_command(command);
+        if let CommandView::ConfigureInputs { items } = *command {
+            self.add_items(&items);
+        }
     }
 
-    /// Adds a configuration that is sent.
-    pub(crate) fn add_configuration(&mut self, items: &ItemsView<'_>)
-        ensures { facts_kept self.new
-            ≡ content_with (facts_kept self.old) (Configured (items_of items.now)) }
+    /// Adds a command before its items.
+    fn begin_command(&mut self, command: &CommandView<'_>)
+        ensures { facts_kept self.new ≡ with_command (facts_kept self.old) (command_of command.now) }
     {
-        self.asked_quiet = 0;
-        self.clear_quiet = 0;
-        self.accepted = 0;
-        self.quiet = [0; NUMBERS];
-        self.named = [0; NUMBERS];
-        self.name_inputs(items);
+        self.inputs.begin_command();
+        self.clearing = 0;
+        self.absent_named = 0;
+        match *command {
+            CommandView::Status { clear } => self.clearing = clear,
+            CommandView::LoadCounter { .. } => {
+                self.loaded = 1;
+                self.has_seen = 0;
+            }
+            CommandView::ConfigureInputs { items } => {
+                self.absent_named = u8::from(names_absent_item(&items));
+            }
+            _ => {}
+        }
     }
 
-    /// Adds the items of the latest configuration: the last one that names an input counts.
-    fn name_inputs(&mut self, items: &ItemsView<'_>)
-        ensures { facts_kept self.new
-            ≡ filters_added (facts_kept self.old) (items_of items.now) }
+    /// Adds the items of a command.
+    fn add_items(&mut self, items: &ItemsView<'_>)
+        ensures { facts_kept self.new ≡ with_items (facts_kept self.old) (items_of items.now) }
     {
         'items: for item in items.iter() {
-            self.name_input(item);
+            self.inputs.add_item(item);
         }
     }
 
-    /// Adds an item of the latest configuration.
-    fn name_input(&mut self, item: InputItem)
-        ensures { facts_kept self.new ≡ filters_added (facts_kept self.old) (item ∷ []) }
+    // ---- Answers
+
+    /// Adds an answer that is heard.
+    pub(crate) fn add_answer(&mut self, answer: &AnswerView<'_>)
+        ensures { facts_kept self.new ≡ content_with (facts_kept self.old) (Heard (answer_of answer.now)) }
     {
-        let input = usize::from(item.input.get());
-        self.named[input] = 1;
-        self.leading[input] = item.leading;
-        self.trailing[input] = item.trailing;
+        self.end_command(answer);
+        match *answer {
+            AnswerView::Watchdog { .. } => self.watchdog_set = 1,
+            AnswerView::FilteredInputs { inputs, stamp } => self.set_seen(inputs, stamp),
+            _ => {}
+        }
     }
 
-    /// Adds that the latest configuration was taken.
-    pub(crate) fn add_acceptance(&mut self)
-        ensures { facts_kept self.new ≡ content_with (facts_kept self.old) Accepted }
+    /// Ends the command that the answer is to, and sets the latest stamp.
+    fn end_command(&mut self, answer: &AnswerView<'_>)
+        ensures { facts_kept self.new ≡ below_answer (facts_kept self.old) (answer_of answer.now) }
     {
-        self.accepted = 1;
+        self.inputs.add_answer(accepts_items(answer));
+        self.clearing = 0;
+        self.absent_named = 0;
+        self.set_clock(stamp_of(answer));
     }
+
+    /// Sets the latest stamp, if there is one.
+    fn set_clock(&mut self, stamp: Option<u32>)
+        ensures { facts_kept self.new ≡ (record (facts_kept self.old) {
+          clock = option_or stamp (facts_kept self.old).clock;
+        }) }
+    {
+        if let Some(stamp) = stamp {
+            self.has_clock = 1;
+            self.clock = stamp;
+        }
+    }
+
+    /// Sets the states of the latest 181, if no load was sent.
+    fn set_seen(&mut self, levels: u64, stamp: u32)
+        ensures { facts_kept self.new ≡ (record (facts_kept self.old) {
+          seen = if (facts_kept self.old).loaded then (facts_kept self.old).seen
+              else Some (record { stamp = stamp; levels = levels });
+        }) }
+    {
+        if self.loaded == 0 {
+            self.has_seen = 1;
+            self.seen = stamp;
+            self.seen_levels = levels;
+        }
+    }
+
+    // ---- The items of a block, and its end
 
     /// Adds a gap mark.
     pub(crate) fn add_gap(&mut self)
         ensures { facts_kept self.new ≡ content_with (facts_kept self.old) (Recorded Gap) }
     {
-        self.has_before = 0;
-        self.states = [0; NUMBERS];
+        self.inputs.add_gap();
     }
 
     /// Adds an entry with this wide time.
@@ -144,89 +197,59 @@ impl ContentAbove {
         ensures { (stamp : ℕ) → facts_kept self.new
             ≡ content_with (facts_kept self.old) (Recorded (Entry input level stamp wide)) }
     {
-        self.has_before = 1;
-        self.before = wide;
-        let state = if level { 2 } else { 1 };
-        self.set_latest(input, state, wide, self.clear_quiet);
-    }
-
-    /// Sets the latest entry of an input, by its octets.
-    fn set_latest(&mut self, input: InputNumber, state: u8, wide: u32, quiet: u8)
-        ensures { facts_kept self.new
-            ≡ latest_added (facts_kept self.old) input (latest_in state wide quiet) }
-    {
+        if self.has_seen != 0 && is_later(wide, self.seen) {
+            self.has_seen = 0;
+        }
+        self.floor_kind = 1;
+        self.floor = wide;
+        self.floor_input = input.get();
         let place = usize::from(input.get());
-        self.states[place] = state;
-        self.times[place] = wide;
-        self.quiet[place] = quiet;
+        if place < INPUTS {
+            self.inputs.add_entry(place, level, wide, self.clear != 0);
+        }
     }
 
-    /// Adds the end of a block, with C or without.
-    pub(crate) fn end_block(&mut self, more: bool)
-        ensures { facts_kept self.new ≡ content_with (facts_kept self.old) (Ended more) }
+    /// Adds the end of a block.
+    pub(crate) fn end_block(&mut self, status: u8, stamp: u32)
+        ensures { facts_kept self.new ≡ content_with (facts_kept self.old) (Ended status stamp) }
     {
-        if !more {
-            self.clear_quiet = self.asked_quiet;
+        let status = BlockStatus::from_octet(status);
+        if status.more() {
+            return;
         }
-        self.asking = 0;
+        if self.has_seen != 0 && !is_before(stamp, self.seen) {
+            self.has_seen = 0;
+        }
+        self.floor_kind = 2;
+        self.floor = stamp;
+        if !status.again() {
+            self.clear = 1;
+            self.inputs.add_clear_block();
+        }
     }
+}
 
-    /// Returns the first rule that an entry breaks.
-    pub(crate) fn broken_rule(
-        &self,
-        input: InputNumber,
-        level: bool,
-        wide: u32,
-    ) -> Option<ContentRule>
-        ensures { result ≡ first_content_broken (facts_kept self.now) input
-            (record { level = level; wide = wide }) }
-    {
-        if self.breaks_order(input, level, wide) {
-            return Some(ContentRule::Order);
-        }
-        self.broken_by_latest(input, level, wide)
+/// Returns whether an answer says that a configuration was taken.
+fn accepts_items(answer: &AnswerView<'_>) -> bool
+    ensures { result ≡ accepts_items (answer_of answer.now) }
+{
+    match *answer {
+        AnswerView::ConfigureInputs { status } => !says_error(status),
+        _ => false,
     }
+}
 
-    /// Returns the first rule of the two that ask for the latest entry of the same input.
-    fn broken_by_latest(&self, input: InputNumber, level: bool, wide: u32) -> Option<ContentRule>
-        ensures { result ≡ find (breaks_content (facts_kept self.now) input
-            (record { level = level; wide = wide })) (ContentRule.Alternate ∷ ContentRule.Apart ∷ []) }
-    {
-        let place = usize::from(input.get());
-        if self.states[place] == 0 || self.quiet[place] == 0 {
-            return None;
+/// Returns the stamp of an answer, but of a block that is sent again.
+pub(crate) fn stamp_of(answer: &AnswerView<'_>) -> Option<u32>
+    ensures { result ≡ stamp_of (answer_of answer.now) }
+{
+    match *answer {
+        AnswerView::Status { stamp, .. }
+        | AnswerView::RawInputs { stamp, .. }
+        | AnswerView::FilteredInputs { stamp, .. } => Some(stamp),
+        AnswerView::Block { status, stamp, .. } if !BlockStatus::from_octet(status).again() => {
+            Some(stamp)
         }
-        if level == (self.states[place] != 1) {
-            return Some(ContentRule::Alternate);
-        }
-        if self.loaded == 0 && self.is_nearer(place, level, wide) {
-            return Some(ContentRule::Apart);
-        }
-        None
-    }
-
-    fn breaks_order(&self, input: InputNumber, level: bool, wide: u32) -> bool
-        ensures { result ≡ breaks_content (facts_kept self.now) input
-            (record { level = level; wide = wide }) ContentRule.Order }
-    {
-        self.loaded == 0 && self.has_before != 0 && wide.wrapping_sub(self.before) >= HALF
-    }
-
-    /// Returns whether an entry is nearer to the latest one of its input than the filter for its
-    /// state.
-    fn is_nearer(&self, place: usize, level: bool, wide: u32) -> bool
-        requires { place < NUMBERS }
-        ensures { result ≡ is_nearer (facts_kept self.now) place
-            (record { level = level; wide = wide }) (slice_index_or self.now.times place 0) }
-    {
-        if self.accepted == 0 || self.named[place] == 0 {
-            return false;
-        }
-        let filter = if level {
-            self.trailing[place]
-        } else {
-            self.leading[place]
-        };
-        wide.wrapping_sub(self.times[place]) < u32::from(filter.max(1))
+        _ => None,
     }
 }

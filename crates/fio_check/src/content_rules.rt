@@ -1,25 +1,85 @@
-//! The rules on content, by what is above an entry and what the entry says.
+//! The rules on content, by what is above an event and what the event says.
 ghost use Rattle.std.specs.Prelude.{◌≡◌};
 ghost use Rattle.fio_check.specs.ContentRules.{content_rule_name, content_rule_number, content_rule_of_number};
 
-/// What an entry of the record may break, in the order in which the rules are tried (own profile).
-/// They judge a transcript that keeps the rules of `Rule`. `tools/generate-constants` makes the words
-/// of pages and tools of these.
+/// What an entry of the record, the states of a 181 or an answer may break (own profile). They judge a transcript
+/// that keeps the rules of `Rule`. A clear block is a block answer with neither C nor E. An input is watched from an
+/// entry on if a clear block is above that entry, and no configuration that ignores the input was sent since that
+/// block; a gap mark ends it. Of each rule: what a right link does, when it is judged, and what a breach means, with
+/// the input I and its state S. `tools/generate-constants` makes the words of pages and tools of these.
 #[derive(Clone, Copy, Debug, PartialEq, Eq, PartialOrd, Ord, Hash)]
 pub enum ContentRule {
-    /// Broken by an entry that has a wide time before that of the entry above it: two are swapped, or
-    /// the module restarted. A gap mark between them, or a load of the counter sent above, lifts the
-    /// rule.
+    /// An entry is later than the entry above it, or has its time and a higher input.
+    ///
+    /// Judged if a clear block is above the upper entry, and no load of the counter is sent above.
+    ///
+    /// Breach: input I is not later than the entry above it: two are swapped, one is doubled, or the module restarted
     Order,
-    /// Broken by an entry that has the state of the latest entry of its input: one is lost, doubled or
-    /// turned. A gap mark between them lifts the rule, and a configuration that may have come to the
-    /// module between them: one sent since the first poll for the latest block without C above the
-    /// older entry's block.
+    /// An entry is later than the stamp of the latest block without C, which had all entries up to that stamp.
+    ///
+    /// Judged if that block or one above it is clear, and no load of the counter is sent above.
+    ///
+    /// Breach: input I changed before the block above was made, which has all changes until then: this one is doubled or late
+    Fresh,
+    /// The entries of an input have the states 0 and 1 in turn.
+    ///
+    /// Judged if the input is watched from the earlier entry on.
+    ///
+    /// Breach: input I went to S twice: a change between was lost, or this one doubled
     Alternate,
-    /// Broken by an entry that has the other state than the latest entry of its input, but is nearer to
-    /// it than the filter for the change. Lifted as `Alternate`, and by a load of the counter sent
-    /// above; it is tried only if the latest configuration sent was taken and names the input.
+    /// An entry of an input follows the one before no sooner than the filter for its change lets it.
+    ///
+    /// Judged if a clear block is above the earlier entry, and no load of the counter is sent above. The filter is the
+    /// least that can be in force: at first 1; an item that is sent can lower it; a clear block sets it to the
+    /// last item of the input, if its answer says done.
+    ///
+    /// Breach: input I went to S sooner than its filter lets it: a time or a filter is wrong
     Apart,
+    /// An input that is ignored has no entry.
+    ///
+    /// Judged if above some clear block the last item of the input ignores it, and its answer says done, and no item
+    /// that is sent below opens the input.
+    ///
+    /// Breach: input I is ignored, and changed in the record all the same
+    Ignored,
+    /// An answer 181 has the states of the record at its stamp.
+    ///
+    /// Judged if the input is watched and no load of the counter is sent above: at the first entry later than the stamp
+    /// of the latest 181, or the end of the first block without C whose stamp is not before it.
+    ///
+    /// Breach: input I had another state in the answer 181 than in the record: a change was lost or turned
+    State,
+    /// The stamp of a 177, 180 or 181, or of a block without E, is not before the latest one above.
+    ///
+    /// Judged if no load of the counter is sent above.
+    ///
+    /// Breach: the counter went back: the module restarted, or a stamp is wrong
+    Clock,
+    /// An answer 178 has no S: a load of the counter is never refused.
+    ///
+    /// Breach: the module refused a load of the counter
+    Done,
+    /// An answer 179 has no S, if its configuration names no input above 63.
+    ///
+    /// Breach: the module refused a configuration of inputs that it has
+    Accepted,
+    /// An answer 177 has none of the flags that its command clears.
+    ///
+    /// Breach: a flag is set that the command clears
+    Cleared,
+    /// An answer 186 has Y, if another 186 is above.
+    ///
+    /// Breach: the module says that no watchdog was set before, and one was
+    Watchdog,
+}
+
+/// A rule on content that is broken.
+#[derive(Clone, Copy, Debug, PartialEq, Eq, Hash)]
+pub struct BrokenRule {
+    /// The input of the entry that breaks it, or that whose state is another; `None` for an answer.
+    pub input: Option<u8>,
+    /// The rule.
+    pub rule: ContentRule,
 }
 
 impl ContentRule {
@@ -29,20 +89,35 @@ impl ContentRule {
     {
         match self {
             ContentRule::Order => "order",
+            ContentRule::Fresh => "fresh",
             ContentRule::Alternate => "alternate",
             ContentRule::Apart => "apart",
+            ContentRule::Ignored => "ignored",
+            ContentRule::State => "state",
+            ContentRule::Clock => "clock",
+            ContentRule::Done => "done",
+            ContentRule::Accepted => "accepted",
+            ContentRule::Cleared => "cleared",
+            ContentRule::Watchdog => "watchdog",
         }
     }
 
-    /// Returns the place of the rule in the order in which they are tried, from 1, by which C and
-    /// the bindings know it.
+    /// Returns the number of the rule, from 1, by which C and the bindings know it.
     pub fn number(self) -> u8
         ensures { result ≡ content_rule_number self }
     {
         match self {
             ContentRule::Order => 1,
-            ContentRule::Alternate => 2,
-            ContentRule::Apart => 3,
+            ContentRule::Fresh => 2,
+            ContentRule::Alternate => 3,
+            ContentRule::Apart => 4,
+            ContentRule::Ignored => 5,
+            ContentRule::State => 6,
+            ContentRule::Clock => 7,
+            ContentRule::Done => 8,
+            ContentRule::Accepted => 9,
+            ContentRule::Cleared => 10,
+            ContentRule::Watchdog => 11,
         }
     }
 
@@ -52,8 +127,16 @@ impl ContentRule {
     {
         match number {
             1 => Some(ContentRule::Order),
-            2 => Some(ContentRule::Alternate),
-            3 => Some(ContentRule::Apart),
+            2 => Some(ContentRule::Fresh),
+            3 => Some(ContentRule::Alternate),
+            4 => Some(ContentRule::Apart),
+            5 => Some(ContentRule::Ignored),
+            6 => Some(ContentRule::State),
+            7 => Some(ContentRule::Clock),
+            8 => Some(ContentRule::Done),
+            9 => Some(ContentRule::Accepted),
+            10 => Some(ContentRule::Cleared),
+            11 => Some(ContentRule::Watchdog),
             _ => None,
         }
     }

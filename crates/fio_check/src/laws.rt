@@ -1,16 +1,18 @@
 //! Laws of the definitions that the contracts cite: a function states one in its contract, and does
 //! nothing.
-ghost use Rattle.std.specs.Prelude.{◌≡◌, ℕ, List, option_map};
+ghost use Rattle.std.specs.Prelude.{◌≡◌, ℕ, Bool, List, option_map};
 ghost use Rattle.fio_check.specs.Checkers.{GoesOn, verdict_of_checker};
-ghost use Rattle.fio_check.specs.ContentCheckers.{entry_found, found_first, nothing_kept};
+ghost use Rattle.fio_check.specs.ContentCheckers.{fault_found, found_first, kept_at_start};
 ghost use Rattle.fio_check.specs.ContentEvents.{LineEvent};
 ghost use Rattle.fio_check.specs.ContentLaws.{KeepsContent};
-ghost use Rattle.fio_check.specs.ContentRules.{broken_entry_in};
+ghost use Rattle.fio_check.specs.ContentRules.{content_fault_in};
 ghost use Rattle.fio_check.specs.Facts.{is_answering, number_polled, status_of_block};
+ghost use Rattle.fio_check.specs.Finding.{FindsDoubled, FindsDropped, FindsSwapped, FindsTurned, FindsTurnedLater};
 ghost use Rattle.fio_check.specs.Laws.{HasOneVerdict, IsTheLatest, KeepsFacts};
 ghost use Rattle.fio_check.specs.Lines.{TranscriptLine};
 ghost use Rattle.fio_check.specs.Observations.{observation_at};
 ghost use Rattle.fio_check.specs.Verdicts.{verdict_on};
+ghost use Rattle.fio_check.specs.declared.limits.Limits.{Limits};
 
 /// The latest poll above a line is the latest that is sent above it, and so are the latest block
 /// answer and the latest of both.
@@ -43,7 +45,7 @@ pub fn checkers_find_the_first_breach()
 
 /// Below a breach a checker goes on as one does that starts at the next poll.
 pub fn checkers_go_on()
-    ensures { (lines : List TranscriptLine) → GoesOn lines }
+    ensures { (limits : Limits) (lines : List TranscriptLine) → GoesOn limits lines }
 {}
 
 /// What a checker of the rules on content keeps event by event is what is above the next event.
@@ -51,9 +53,37 @@ pub fn content_is_kept()
     ensures { (events : List LineEvent) → KeepsContent events }
 {}
 
-/// What a checker of the rules on content finds first is the first entry of the transcript's record that breaks one.
-#[tactic(auto, using(crate::proofs::ContentFound::finds_the_broken_entry))]
-pub fn content_checkers_find_the_broken_entry()
-    ensures { (lines : List TranscriptLine)
-        → found_first nothing_kept lines ≡ option_map entry_found (broken_entry_in lines) }
+/// What a checker of the rules on content finds first is the first fault of the transcript, whether it begins with both
+/// ends or later.
+#[tactic(auto, using(crate::proofs::ContentFound::finds_the_fault))]
+pub fn content_checkers_find_the_fault()
+    ensures { (begun : Bool) (lines : List TranscriptLine)
+        → found_first (kept_at_start begun) lines ≡ option_map fault_found (content_fault_in begun lines) }
+{}
+
+/// A doubled entry is found at once: where an entry is in a block twice in succession, below a clear block and with no
+/// load of the counter above, the log has a fault by that block, whatever else is in it.
+#[tactic(auto, using(crate::proofs::Found::finds_doubled))]
+pub fn doubled_entries_are_found()
+    ensures { (begun : Bool) → FindsDoubled begun }
+{}
+
+/// Swapped neighbours are found at once: where two neighbours in a block of a log without a fault are exchanged, below a
+/// clear block and with no load of the counter above, the log has a fault by that block.
+#[tactic(auto, using(crate::proofs::Found::finds_swapped))]
+pub fn swapped_entries_are_found()
+    ensures { (begun : Bool) → FindsSwapped begun }
+{}
+
+/// A turned entry is found, of a log without a fault: by its block if it is compared with the entry above it, and by the
+/// line at which it is compared with what follows it, the next entry of its input or a 181 that the record comes to.
+pub fn turned_entries_are_found()
+    ensures at_once { (begun : Bool) → FindsTurned begun }
+    ensures later { (begun : Bool) → FindsTurnedLater begun }
+{}
+
+/// A dropped entry is found, of a log without a fault, if the entry is compared with the one above it: by the line at which
+/// it is compared with what follows it, the next entry of its input or a 181 that the record comes to.
+pub fn dropped_entries_are_found()
+    ensures { (begun : Bool) → FindsDropped begun }
 {}

@@ -9,7 +9,8 @@
 //! rules (`Observations`), the latest that is said above a place (`Places`), what is above a line
 //! (`Facts`), the rules (`Rules`), the verdict (`Verdicts`), the checker
 //! (`Checkers`). Their laws (`Laws`) are the contracts of
-//! the module `laws`.
+//! the module `laws`. Those of the rules on content follow: events, what is above one by places
+//! (`ContentAbove`), the rules, the same event by event (`ContentFacts`), the checker.
 //!
 //! # Examples
 //!
@@ -27,9 +28,14 @@
 mod checker;
 mod content;
 mod content_above;
+mod content_inputs;
+mod content_judging;
 mod content_rules;
+mod content_times;
 mod facts;
+mod input_sets;
 pub mod laws;
+mod limits;
 mod line;
 mod observation;
 mod rules;
@@ -37,9 +43,10 @@ mod verdict;
 
 pub use checker::{Breach, Checker, Due};
 pub use content::{ContentBreach, ContentChecker};
-pub use content_rules::ContentRule;
+pub use content_rules::{BrokenRule, ContentRule};
 pub use facts::Facts;
+pub use limits::Limits;
 pub use line::Line;
 pub use observation::Observation;
-pub use rules::{Rule, rule_broken};
+pub use rules::{Rule, rule_broken, rule_broken_within};
 pub use verdict::{Verdict, check_trace};

@@ -146,7 +146,7 @@ fn names_absent_entry(entries: &EntriesView<'_>) -> bool
 }
 
 /// Returns whether an item names an absent input.
-fn names_absent_item(items: &ItemsView<'_>) -> bool
+pub(crate) fn names_absent_item(items: &ItemsView<'_>) -> bool
     ensures { result ≡ list_any (λ item. is_absent item.input) (items_of items.now) }
 {
     for item in items.iter() {

@@ -1,11 +1,12 @@
 //! The rules of a transcript, by what is above a line and what the line says.
 ghost use Rattle.std.specs.Prelude.{◌≡◌};
-ghost use Rattle.fio_check.specs.Rules.{breaks, first_broken, is_overfull, rule_name, rule_number, rule_of_number};
+ghost use Rattle.fio_check.specs.Rules.{breaks_within, first_broken, first_broken_within, is_overfull_within, rule_name, rule_number, rule_of_number};
 
 use crate::facts::Facts;
+use crate::limits::Limits;
 use crate::observation::Observation;
+use fio_message::BlockStatus;
 use fio_message::types::BLOCK_ANSWER;
-use fio_message::{BLOCK_ENTRIES, BlockStatus};
 
 /// What a line of a transcript may break, in the order in which the rules are tried (own profile).
 /// `tools/generate-constants` makes the words of pages and tools of these.
@@ -26,7 +27,8 @@ pub enum Rule {
     /// Broken by a line that is a block answer with G and E, or with G and a block answer before it.
     Sequence,
     /// Broken by a line that is a block answer with F and without C, or with C and a count other
-    /// than 255, or with an input above 63.
+    /// than 255, or with an input above 63. With other limits of the module: F without C only if more
+    /// entries may wait than a block takes, and C with any other count than a block takes.
     Limits,
     /// Broken by a line that is a block answer without entries, and the block answer before it has C.
     Rest,
@@ -103,10 +105,10 @@ impl Rule {
     }
 
     /// Returns whether a line that says this breaks the rule, below lines of which these facts
-    /// hold.
+    /// hold, of a module with these limits.
     #[inline(always)]
-    pub fn is_broken(self, facts: &Facts, observation: Observation) -> bool
-        ensures { result ≡ breaks facts.now observation self }
+    pub fn is_broken(self, limits: Limits, facts: &Facts, observation: Observation) -> bool
+        ensures { result ≡ breaks_within limits facts.now observation self }
     {
         match (self, observation) {
             (Rule::Readable, Observation::Unreadable) => true,
@@ -133,7 +135,7 @@ impl Rule {
                     names_absent,
                     ..
                 },
-            ) => is_overfull(status, entries) || names_absent,
+            ) => is_overfull(limits, status, entries) || names_absent,
             (Rule::Rest, Observation::Block { entries, .. }) => {
                 entries == 0 && facts.more == Some(true)
             }
@@ -144,23 +146,34 @@ impl Rule {
 }
 
 /// Returns the first rule that a line breaks which says this, below lines of which these facts
-/// hold.
+/// hold, of a module with the limits of TEES 2009.
 #[inline(always)]
 pub fn rule_broken(facts: &Facts, observation: Observation) -> Option<Rule>
     ensures { result ≡ first_broken facts.now observation }
 {
+    rule_broken_within(Limits::standard(), facts, observation)
+}
+
+/// As `rule_broken`, of a module with these limits.
+#[inline(always)]
+pub fn rule_broken_within(limits: Limits, facts: &Facts, observation: Observation) -> Option<Rule>
+    ensures { result ≡ first_broken_within limits facts.now observation }
+{
     'rules: for rule in Rule::ALL {
-        if rule.is_broken(facts, observation) {
+        if rule.is_broken(limits, facts, observation) {
             return Some(rule);
         }
     }
     None
 }
 
-/// Returns whether a block answer has F without C, or C with other than 255 entries.
-fn is_overfull(status: u8, entries: usize) -> bool
-    ensures { result ≡ is_overfull status entries }
+/// Returns whether a block answer has F without C, if more entries may wait than a block takes, or C with another count
+/// than a block takes.
+fn is_overfull(limits: Limits, status: u8, entries: usize) -> bool
+    ensures { result ≡ is_overfull_within limits status entries }
 {
     let status = BlockStatus::from_octet(status);
-    status.lost() && !status.more() || status.more() && entries != BLOCK_ENTRIES
+    let per_block = usize::from(limits.per_block);
+    per_block < usize::from(limits.waiting) && status.lost() && !status.more()
+        || status.more() && entries != per_block
 }

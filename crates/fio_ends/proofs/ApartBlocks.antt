@@ -1,189 +1,245 @@
--- The entries of a block are as far from the latest ones of their inputs as the filters in force ask for.
-use Rattle.fio_ends.proofs.Names.{◌≡◌, ◌∙◌, ◌+◌, ◌-◌, ◌%◌, ◌^◌, ◌<◌, ◌≤◌, ◌&&◌, inl, inr, ℕ, zero, suc, Bool, true, false, not, List, [], ◌∷◌, ◌++◌, length, map, Option, Some, None, slice_get, refl, ap, sym, subst, arith, append-nil, append_assoc, fold, nat_lt, beq, AllZip, nat_tests, slice_get_within, input_setting, MadeBlock, Life, filter_events, Transition, entry_of, log_of, filter_events-append, get_in_front, Item, Entry, item_of, ContentFacts, FilterPair, LatestEntry, content_with, Recorded, breaks_content, is_nearer, is_some_and, Apart, Source, From, SentFrame, IsOfAnother, NextOfInputIsNear}
-use Rattle.std.proofs.lemmas.Bool.{cases_lt}
-use Rattle.fio_input.specs.Delivery.{filter_to}
-use Rattle.fio_input.specs.FilterRule.{Setting, filter_in_force}
+-- The entries of a block that the CPU takes are far enough from those of their inputs above.
+use Rattle.fio_ends.proofs.Names.{◌≡◌, ◌∙◌, ◌+◌, ◌<◌, ◌≤◌, ◌&&◌, inl, inr, ℕ, Bool, true, false, List, [], ◌∷◌, ◌++◌, length, Option, Some, None, refl, ap, sym, subst, arith, append-nil, if◌then◌else◌, ◌==◌, slice_get, slice_get_within, eqb_tells, nat_lt, nat_tests, Block, says_again, says_more, Settings, AreInRange, Life, Commanded, life_of, log_of, Transition, entry_of, MadeBlock, ContentFacts, InputAbove, content_with, Ended, Recorded, Gap, Machine, after_taken, Apart, length-append}
+use Rattle.fio_message.specs.declared.commands.Command.TheVariants as commands
 use Rattle.fio_input.specs.Widening.{wide_time_of}
-use Rattle.fio_input.proofs.Apart.{carried}
-use Rattle.fio_input.proofs.FewReports.{leaves_each}
-use Rattle.fio_check.specs.ContentRules.{filter_towards, is_too_near, milliseconds_between}
-use Rattle.fio_ends.proofs.AlternateBlocks.{HasContent, HasLatest, alternate_since, content_entry}
-use Rattle.fio_ends.proofs.Clocks.{IsClocked}
-use Rattle.fio_ends.proofs.ContentLines.{EntriesKeep}
-use Rattle.fio_ends.proofs.FiltersTaken.{AreInForce, KnowsFilters, filters-same}
-use Rattle.fio_ends.proofs.LatestTimes.{KnowsLatest, LatestTime, latest-entry}
-use Rattle.fio_ends.proofs.QuietSince.{IsQuietSince}
+use Rattle.fio_check.specs.ContentSaid.{SentItem, milliseconds_between}
+use Rattle.fio_check.specs.ContentFacts.{input_below_clear, input_with_entry, settled_now}
+use Rattle.fio_check.specs.ContentRules.{filter_towards, is_too_near}
+use Rattle.fio_ends.specs.ContentPremises.{InputsAreNear, IsWithinAge, WaitBriefly, blocks_taken, latest_with}
+use Rattle.fio_ends.specs.ContentRuns.{KeepsRule}
+use Rattle.fio_ends.proofs.Ahead.{log_ahead}
+use Rattle.fio_ends.proofs.BlockPlaces.{end_at, is_next}
+use Rattle.fio_ends.proofs.BlockWalk.{IsWalk, entry_event}
+use Rattle.fio_ends.proofs.Clocks.{clock, offset_of}
+use Rattle.fio_ends.proofs.ContentSteps.{IsKnown, Takes}
+use Rattle.fio_ends.proofs.EntryTimes.{clear_few, end_is, entry_time, made}
+use Rattle.fio_ends.proofs.Shut.{KeepsBoth}
+use Rattle.fio_ends.proofs.IgnoredKept.{Both, both_ended, both_entry, both_gap}
+use Rattle.fio_ends.proofs.LeastFilters.{AreNoMore, IsLoggedWith, KeepsLeast, least-further, logged_quietly}
+use Rattle.fio_ends.proofs.Lives.{log_grows, logged_since}
+use Rattle.fio_ends.proofs.MadeNow.{made_now}
+use Rattle.fio_ends.proofs.Settled.{setting-since, setting_of}
+use Rattle.fio_ends.proofs.Spaced.{spaced}
+use Rattle.fio_ends.proofs.Steady.{IsSteady}
+use Rattle.fio_ends.proofs.Taken.{taken_with}
+use Rattle.fio_ends.proofs.Watching.{input_at}
+use Rattle.fio_ends.proofs.ApartTimes.{AreNearByInput, IsTimed, KeepsApart, KeepsTimes, ahead_of, brief_last, entries_in, entries_with, far_enough, if_clear, latest_after, latest_after-append, least_by, none_near, none_yet, timed-later, times-later, towards}
 
-never : (b : Bool) → (b && false) ≡ false
-never true = refl
-never false = refl
+module _ (settings : Settings) (range : AreInRange settings) (first : ℕ) (begin : Machine) where
+  abbrev begin_life : Life
+  begin_life = life_of begin.history
 
--- ---- two times
+  module _ (from : Life) (machine : Machine) (place number : ℕ) (answer : Block) (block : MadeBlock)
+      (known : IsKnown settings first begin from machine) (t : Takes settings first from machine place number answer block)
+      (asked : AreNearByInput (blocks_taken settings begin machine ++ block ∷ [])) (loaded : Bool) (steady : IsSteady loaded (life_of begin.history) (life_of machine.history)) where
+    abbrev now : Life
+    now = life_of machine.history
 
--- a time that is a filter after another is not nearer
-not_nearer : (older newer filter : ℕ) → older + filter ≤ newer → newer < older + 2 ^ 32
-    → nat_lt (milliseconds_between (older % 2 ^ 32) (newer % 2 ^ 32)) filter ≡ false
-not_nearer older newer filter apart near =
-    let between : (newer % 2 ^ 32 + 2 ^ 32 - older % 2 ^ 32) % 2 ^ 32 ≡ newer - older = omega arith in
-    let far : filter ≤ newer - older = omega arith in
-    grind (arith, nat_tests)
+    abbrev latest_above : ℕ → Option ℕ
+    latest_above = latest_after none_yet (entries_in (blocks_taken settings begin machine))
 
--- the filter of a pair is that of the setting
-same_filter : (setting : Setting) (pair : FilterPair) (level : Bool) → setting.leading ≡ pair.leading → setting.trailing ≡ pair.trailing
-    → filter_to setting level ≡ filter_towards level pair
-same_filter setting pair true leading trailing = ap filter_in_force trailing
-same_filter setting pair false leading trailing = ap filter_in_force leading
+    brief : WaitBriefly block
+    brief = brief_last (blocks_taken settings begin machine) block asked.brief
 
-module _ (life : Life) (frames : List SentFrame) (last : ℕ) where
-  abbrev log : List Transition
-  log = log_of life
+    -- what is kept between the entries
+    pub record KeepsRest (upto : ℕ) (rest : List Transition) (facts : ContentFacts) : Type 0 where
+      pub loaded_is : facts.loaded ≡ loaded
+      pub both : Both settings range first begin from machine place number answer block known t upto rest facts
+      pub least : (input : ℕ) → input < 64 → KeepsLeast now machine.to_module machine.last_to_module upto input (facts.inputs input).least
+      pub latest : ℕ → Option ℕ
+      pub near : InputsAreNear latest rest
+      pub latest_is : latest_after latest rest ≡ latest_after latest_above block.transitions
+      pub times : loaded ≡ false → KeepsTimes settings begin_life now upto machine.round latest facts
 
-  -- the latest entry of an input is one transition, however it is found
-  one_place : (upto input wide : ℕ) (sources : List Source) (entry : LatestEntry) (h : HasLatest life frames last upto input entry)
-      → (l : LatestTime log upto sources input wide) → h.place ≡ l.place
-  one_place upto input wide sources entry h l =
-      elim (cases_lt h.place l.place) as (λ _. h.place ≡ l.place) [
-        | inl less ↦ absurd (h.none_behind l.place l.transition less l.before l.at l.of_input)
-        | inr not_less ↦ elim (cases_lt l.place h.place) as (λ _. h.place ≡ l.place) [
-          | inl less ↦ absurd (l.none_behind h.place h.transition less h.before h.at h.of_input)
-          | inr not_more ↦ omega arith
-        ]
-      ]
+    gap_step : (facts : ContentFacts) → end_at settings now machine.round ≤ block.start → KeepsRest (end_at settings now machine.round) block.transitions facts
+        → KeepsRest block.start block.transitions (content_with facts (Recorded Gap))
+    gap_step facts forward q = record {
+      loaded_is = q.loaded_is;
+      both = both_gap settings range first begin from machine place number answer block known t facts forward q.both;
+      least = λ input low. least-further machine.to_module machine.last_to_module (end_at settings now machine.round) input (facts.inputs input).least low now block.start forward (q.least input low);
+      latest = q.latest;
+      near = q.near;
+      latest_is = q.latest_is;
+      times = λ unloaded.
+          (let k = times-later settings begin_life now now [] (end_at settings now machine.round) block.start machine.round q.latest q.latest facts (sym (append-nil (log_of now))) forward refl (q.times unloaded) in
+          record { clear = k.clear; timed = k.timed });
+    }
 
-  -- ---- one entry
+    -- an entry is far enough from the latest one of its input
+    entry_far : (k upto : ℕ) (transition : Transition) (rest : List Transition) (facts : ContentFacts) → slice_get block.transitions k ≡ Some transition
+        → slice_get (log_of now) upto ≡ Some transition → KeepsRest upto (transition ∷ rest) facts
+        → loaded ≡ false → (time : ℕ) → (facts.inputs transition.input).timed ≡ Some time
+        → is_too_near (record { level = transition.level; wide = wide_time_of answer.stamp (entry_of transition).stamp }) (facts.inputs transition.input).least time ≡ false
+    entry_far k upto transition rest facts at logged q unloaded time is =
+        let low = input_at now upto transition logged in
+        let found = (q.times unloaded).timed transition.input low time is in
+        let c = (q.times unloaded).clear found.0 in
+        let e = found.1 in
+        let wide = entry_time settings first begin from machine place number answer block known t brief (steady unloaded) k upto transition at logged c.0 c.1 in
+        let w = (q.least transition.input low).logged upto transition (omega arith) logged refl in
+        let older = logged_since [] now e.place e.transition (record { more = now; is = sym (append-nil now) }) (omega arith) e.at in
+        let less : e.transition.scans < transition.scans = ahead_of e.transition transition (log_ahead now e.place upto e.transition transition e.below e.at logged) e.of_input in
+        let apart = spaced now older.raw w.raw older.life w.life e.transition transition older.upto w.upto older.of_scan w.of_scan (sym e.of_input) less in
+        let least = towards transition.level (facts.inputs transition.input).least transition.input w.life w.filters in
+        let near : IsWithinAge (Some e.transition.scans) transition.scans = subst (λ l. IsWithinAge l transition.scans) e.latest_is q.near.0 in
+        subst (λ wide. nat_lt (milliseconds_between time wide) (filter_towards transition.level (facts.inputs transition.input).least) ≡ false) (sym wide)
+        (subst (λ earlier. nat_lt (milliseconds_between earlier (clock (offset_of begin_life) transition.scans)) (filter_towards transition.level (facts.inputs transition.input).least) ≡ false) (sym e.time_is)
+        (far_enough (offset_of begin_life) e.transition.scans transition.scans (filter_towards transition.level (facts.inputs transition.input).least) (omega arith) (omega (arith, near))))
 
-  module _ (upto : ℕ) (sources rest : List Source) (t : Transition) (block : MadeBlock) (at : slice_get log upto ≡ Some t)
-      (near : NextOfInputIsNear (sources ++ From t block ∷ rest)) where
-    here : (before after : List Source) (source : Source) → slice_get (before ++ source ∷ after) (length before) ≡ Some source
-    here [] after source = refl
-    here (x ∷ before) after source = here before after source
+    entry_step : (k : ℕ) (transition : Transition) (rest : List Transition) (facts : ContentFacts) → slice_get block.transitions k ≡ Some transition
+        → slice_get (log_of now) (block.start + k) ≡ Some transition → KeepsRest (block.start + k) (transition ∷ rest) facts
+        → KeepsRule Apart facts (entry_event answer.stamp transition)
+        × KeepsRest (block.start + (k + 1)) rest (content_with facts (entry_event answer.stamp transition))
+    entry_step k transition rest facts at logged q =
+        let upto = block.start + k in
+        let further = block.start + (k + 1) in
+        let wide = wide_time_of answer.stamp (entry_of transition).stamp in
+        let both = both_entry settings range first begin from machine place number answer block known t k transition rest facts at logged q.both in (
+          none_near (is_too_near (record { level = transition.level; wide = wide }) (facts.inputs transition.input).least) facts.loaded (facts.inputs transition.input).timed
+              (λ is time found. entry_far k upto transition rest facts at logged q (sym q.loaded_is ∙ is) time found),
+          record {
+            loaded_is = q.loaded_is;
+            both = both.1;
+            least = λ input low.
+                subst (KeepsLeast now machine.to_module machine.last_to_module further input)
+                (sym (least_by ((input == transition.input) && nat_lt input 64) facts transition.level wide (facts.inputs input)))
+                (least-further machine.to_module machine.last_to_module upto input (facts.inputs input).least low now further (omega arith) (q.least input low));
+            latest = latest_with q.latest transition;
+            near = q.near.1;
+            latest_is = q.latest_is;
+            times = λ unloaded.
+                (let c = q.times unloaded in
+                record {
+                  clear = λ is. (let was = c.clear is in (omega (arith, was.0), was.1));
+                  timed = λ input low time is.
+                      elim (eqb_tells input transition.input) as (λ _. (facts.clear ≡ true) × IsTimed (offset_of begin_life) now further input (latest_with q.latest transition input) time) [
+                        | inl same ↦
+                            let there : nat_lt input 64 ≡ true = grind (arith, nat_tests) in
+                            let met : ((input == transition.input) && nat_lt input 64) ≡ true = ap (λ b. b && nat_lt input 64) same.0 ∙ there in
+                            let now_timed : (if facts.clear then Some wide else None) ≡ Some time =
+                            sym (ap (λ (b : Bool). (if b then input_with_entry facts transition.level wide (facts.inputs input) else facts.inputs input).timed) met) ∙ is in
+                            let parts = if_clear facts.clear wide time now_timed in
+                            let was = c.clear parts.0 in (
+                              parts.0,
+                              record {
+                                place = upto;
+                                transition = transition;
+                                at = logged;
+                                of_input = sym same.1;
+                                below = omega arith;
+                                time_is = sym parts.1 ∙ entry_time settings first begin from machine place number answer block known t brief (steady unloaded) k upto transition at logged was.0 was.1;
+                                latest_is = ap (λ (b : Bool). if b then Some transition.scans else q.latest input) same.0;
+                              },
+                            )
+                        | inr apart ↦
+                            let met : ((input == transition.input) && nat_lt input 64) ≡ false = ap (λ b. b && nat_lt input 64) apart.0 in
+                            let was_timed : (facts.inputs input).timed ≡ Some time =
+                            sym (ap (λ (b : Bool). (if b then input_with_entry facts transition.level wide (facts.inputs input) else facts.inputs input).timed) met) ∙ is in
+                            let before = c.timed input low time was_timed in (
+                              before.0,
+                              timed-later (offset_of begin_life) now now [] upto further input (q.latest input) (latest_with q.latest transition input) time
+                                  (sym (append-nil (log_of now))) (omega arith) (ap (λ (b : Bool). if b then Some transition.scans else q.latest input) apart.0) before.1,
+                            )
+                      ];
+                });
+          },
+        )
 
-    -- its time is a whole turn of the counter after the latest at most
-    comes_near : (wide : ℕ) (l : LatestTime log upto sources t.input wide) → t.scans < l.transition.scans + 2 ^ 32
-    comes_near wide l =
-        let all = sources ++ From t block ∷ rest in
-        let low = slice_get_within sources l.source (From l.transition l.block) l.at_source in
-        near l.source (length sources) l.transition t l.block block low (sym l.of_input)
-        (get_before sources (From t block ∷ rest) l.source (From l.transition l.block) l.at_source) (here sources rest (From t block))
-        (λ between source above below there.
-        subst (λ i. IsOfAnother i source) (sym l.of_input)
-        (l.none_after between source above (get_in_front sources (From t block ∷ rest) between source below there)))
-      where
-        get_before : (xs ys : List Source) (k : ℕ) (y : Source) → slice_get xs k ≡ Some y → slice_get (xs ++ ys) k ≡ Some y
-        get_before [] ys k y is = absurd (cc is)
-        get_before (x ∷ xs) ys zero y is = is
-        get_before (x ∷ xs) ys (suc k) y is = get_before xs ys k y is
+    -- at a clear block the filters of an item that was taken are those in force
+    settle_least : (input : ℕ) → input < 64 → block.more ≡ false → says_again answer.status ≡ false → (above : InputAbove) (taken : Bool) → above.taken ≡ taken
+        → (item : Option SentItem) → above.item ≡ item
+        → KeepsBoth now machine.to_module machine.last_to_module block.end input above
+        → KeepsLeast now machine.to_module machine.last_to_module block.end input above.least
+        → KeepsLeast now machine.to_module machine.last_to_module block.end input (input_below_clear above (if taken then item else None)).least
+    settle_least input low all anew above false is item item_is both k = k
+    settle_least input low all anew above true is None item_is both k = k
+    settle_least input low all anew above true is (Some item) item_is both k =
+        let has = (both.item.taken_one is item item_is).1 in
+        let m = made_now settings first begin from machine place number answer block known t anew in
+        let filters : AreNoMore item.filters (setting_of input now) = record { leading = omega (arith, has.leading); trailing = omega (arith, has.trailing) } in
+        let begun = Commanded (commands.Poll number) ∷ t.life in
+        let same : setting_of input now ≡ setting_of input begun = ap (setting_of input) t.since.is ∙ setting-since t.since.more begun input t.since.none in
+        record {
+          now = filters;
+          coming = λ place frame high there. absurd (omega (arith, t.received, slice_get_within machine.to_module place frame there));
+          logged = λ j transition high there of_input.
+              subst (λ life. IsLoggedWith item.filters life transition) (sym t.since.is)
+              (logged_quietly input item.filters begun (subst (AreNoMore item.filters) same filters) t.since.more t.since.none j transition (omega (arith, m.took all))
+              (ap (λ life. slice_get (log_of life) j) (sym t.since.is) ∙ there) of_input);
+        }
 
-    -- and a filter after it at least
-    comes_apart : (older : LatestEntry) (h : HasLatest life frames last upto t.input older) → IsQuietSince life frames last h.place
-        → (l : LatestTime log upto sources t.input older.wide)
-        → l.transition.scans + filter_to (input_setting t.input (filter_events life)) t.level ≤ t.scans
-    comes_apart older h quiet l =
-        let q = subst (IsQuietSince life frames last) (one_place upto t.input older.wide sources older h l) quiet in
-        let a = alternate_since life frames last l.place upto l.transition t q l.before l.at at l.of_input l.none_behind in
-        let n = q.none_since in
-        let leave = leaves_each t.input (filter_events n.later) n.none_applied in
-        let setting : input_setting t.input (filter_events life) ≡ input_setting t.input (filter_events q.earlier) =
-        ap (λ l. input_setting t.input (filter_events l)) n.at
-        ∙ ap (input_setting t.input) (filter_events-append n.later q.earlier)
-        ∙ (carried t.input (filter_events n.later) (filter_events q.earlier) leave).setting in
-        subst (λ s. l.transition.scans + filter_to s t.level ≤ t.scans) (sym setting) a.apart
+    timed_below : (above : InputAbove) (item : Option SentItem) → (input_below_clear above item).timed ≡ above.timed
+    timed_below above None = refl
+    timed_below above (Some item) = refl
 
-    not_too_near : (wide : ℕ) (older : LatestEntry) (h : HasLatest life frames last upto t.input older) → IsQuietSince life frames last h.place
-        → (l : LatestTime log upto sources t.input older.wide) → wide ≡ t.scans % 2 ^ 32
-        → (pair : FilterPair) → AreInForce life t.input pair
-        → is_too_near (record { level = t.level; wide = wide }) older.wide pair ≡ false
-    not_too_near wide older h q l clocked pair f =
-        let filter = same_filter (input_setting t.input (filter_events life)) pair t.level f.leading f.trailing in
-        let apart = subst (λ n. l.transition.scans + n ≤ t.scans) filter (comes_apart older h q l) in
-        ap (λ w. nat_lt (milliseconds_between older.wide w) (filter_towards t.level pair)) clocked
-        ∙ ap (λ w. nat_lt (milliseconds_between w (t.scans % 2 ^ 32)) (filter_towards t.level pair)) l.clocked
-        ∙ not_nearer l.transition.scans t.scans (filter_towards t.level pair) apart (comes_near older.wide l)
+    -- what is kept below the end of the block
+    record KeepsEnd (facts : ContentFacts) : Type 0 where
+      pub loaded_is : facts.loaded ≡ loaded
+      pub both : Both settings range first begin from machine place number answer block known t block.end [] facts
+      pub least : (input : ℕ) → input < 64 → KeepsLeast now machine.to_module machine.last_to_module block.end input (facts.inputs input).least
+      pub times : loaded ≡ false → KeepsTimes settings begin_life now block.end (machine.round + 1) (latest_after latest_above block.transitions) facts
 
-    -- by the configuration, if it was taken and names the input
-    not_nearer_by : (wide : ℕ) (facts : ContentFacts) (older : LatestEntry) (h : HasLatest life frames last upto t.input older)
-        → IsQuietSince life frames last h.place → (l : LatestTime log upto sources t.input older.wide) → wide ≡ t.scans % 2 ^ 32
-        → KnowsFilters life frames last facts → (accepted : Bool) → facts.accepted ≡ accepted
-        → (filters : Option FilterPair) → facts.filters t.input ≡ filters
-        → is_nearer facts t.input (record { level = t.level; wide = wide }) older.wide ≡ false
-    not_nearer_by wide facts older h q l clocked known false is filters at_input =
-        ap (λ a. a && is_some_and (facts.filters t.input) (is_too_near (record { level = t.level; wide = wide }) older.wide)) is
-    not_nearer_by wide facts older h q l clocked known true is None at_input =
-        ap (λ found. facts.accepted && is_some_and found (is_too_near (record { level = t.level; wide = wide }) older.wide)) at_input
-        ∙ never facts.accepted
-    not_nearer_by wide facts older h q l clocked known true is (Some pair) at_input =
-        ap (λ found. facts.accepted && is_some_and found (is_too_near (record { level = t.level; wide = wide }) older.wide)) at_input
-        ∙ ap (λ near. facts.accepted && near) (not_too_near wide older h q l clocked pair ((known.accepted is).in_force t.input pair at_input))
-        ∙ never facts.accepted
+    times_next : (facts : ContentFacts) (latest : ℕ → Option ℕ) → latest ≡ latest_after latest_above block.transitions → KeepsTimes settings begin_life now block.end machine.round latest facts
+        → KeepsTimes settings begin_life now block.end (machine.round + 1) (latest_after latest_above block.transitions) facts
+    times_next facts latest same k = record {
+      clear = λ is. (let c = k.clear is in (c.0, omega (arith, c.1)));
+      timed = λ input low time is.
+          (let e = k.timed input low time is in (
+            e.0,
+            timed-later (offset_of begin_life) now now [] block.end block.end input (latest input) (latest_after latest_above block.transitions input) time
+                (sym (append-nil (log_of now))) (omega arith) (sym (ap (λ (f : ℕ → Option ℕ). f input) same)) e.1,
+          ));
+    }
 
-    -- what the rule says of the latest entry
-    abbrev IsBroken : ℕ → ContentFacts → LatestEntry → Bool
-    IsBroken wide facts older =
-        older.quiet && (not (beq t.level older.level) && is_nearer facts t.input (record { level = t.level; wide = wide }) older.wide)
+    end_step : (facts : ContentFacts) (more again : Bool) → says_more answer.status ≡ more → says_again answer.status ≡ again → KeepsRest block.end [] facts
+        → KeepsEnd (content_with facts (Ended answer.status answer.stamp))
+    end_step facts true again more_is again_is q =
+        rw more_is (record { loaded_is = q.loaded_is; both = λ input low. (let k = q.both input low in record { item = k.item; shut = k.shut }); least = q.least; times = λ is. (let k = times_next facts q.latest q.latest_is (q.times is) in record { clear = k.clear; timed = k.timed }) })
+    end_step facts false true more_is again_is q =
+        rw (more_is, again_is) (record { loaded_is = q.loaded_is; both = λ input low. (let k = q.both input low in record { item = k.item; shut = k.shut }); least = q.least; times = λ is. (let k = times_next facts q.latest q.latest_is (q.times is) in record { clear = k.clear; timed = k.timed }) })
+    end_step facts false false more_is again_is q =
+        let all : block.more ≡ false = sym t.carried.more ∙ more_is in
+        let both = both_ended settings range first begin from machine place number answer block known t facts false false more_is again_is q.both in
+        let few = clear_few settings first begin from machine place number answer block known t again_is in
+        let ends = end_is settings first begin from machine place number answer block known t few all in
+        let m = made settings first begin from machine place number answer block known t few in
+        let grown = log_grows begin_life m.life m.begun in
+        rw (more_is, again_is) (record {
+          loaded_is = q.loaded_is;
+          both = rw (more_is, again_is) at both;
+          least = λ input low. settle_least input low all again_is (facts.inputs input) (facts.inputs input).taken refl (facts.inputs input).item refl (q.both input low) (q.least input low);
+          times = λ unloaded. record {
+            clear = λ is. (omega (arith, ends, ap length grown.1, length-append (log_of begin_life) grown.0), omega (arith, few));
+            timed = λ input low time is.
+                (let e = (times_next facts q.latest q.latest_is (q.times unloaded)).timed input low time
+                (sym (timed_below (facts.inputs input) (settled_now (facts.inputs input))) ∙ is) in
+                (refl, e.1));
+          };
+        })
 
-    quiet_keeps : (wide : ℕ) (facts : ContentFacts) (older : LatestEntry) → HasLatest life frames last upto t.input older
-        → LatestTime log upto sources t.input older.wide → wide ≡ t.scans % 2 ^ 32 → KnowsFilters life frames last facts
-        → (quiet : Bool) → older.quiet ≡ quiet → IsBroken wide facts older ≡ false
-    quiet_keeps wide facts older h l clocked known false is =
-        ap (λ q. q && (not (beq t.level older.level) && is_nearer facts t.input (record { level = t.level; wide = wide }) older.wide)) is
-    quiet_keeps wide facts older h l clocked known true is =
-        ap (λ near. older.quiet && (not (beq t.level older.level) && near))
-        (not_nearer_by wide facts older h (h.quiet is) l clocked known facts.accepted refl (facts.filters t.input) refl)
-        ∙ ap (λ b. older.quiet && b) (never (not (beq t.level older.level)))
-        ∙ never older.quiet
+    apart_last : (facts : ContentFacts) → KeepsEnd facts → KeepsApart settings begin loaded (after_taken machine place answer) facts
+    apart_last facts e =
+        let upto = (is_next settings now machine.round block t.made).ends in
+        let taken : latest_after none_yet (entries_in (blocks_taken settings begin (after_taken machine place answer))) ≡ latest_after latest_above block.transitions =
+        ap (λ blocks. latest_after none_yet (entries_in blocks)) (taken_with settings range first begin AreNearByInput machine place answer block known.rounds t.made)
+        ∙ ap (latest_after none_yet) (entries_with (blocks_taken settings begin machine) block)
+        ∙ latest_after-append none_yet (entries_in (blocks_taken settings begin machine)) block.transitions in
+        record {
+          loaded_is = e.loaded_is;
+          steady = steady;
+          both = λ input low. subst (λ n. KeepsBoth now machine.to_module machine.last_to_module n input (facts.inputs input)) upto (e.both input low);
+          least = λ input low. subst (λ n. KeepsLeast now machine.to_module machine.last_to_module n input (facts.inputs input).least) upto (e.least input low);
+          times = λ unloaded.
+              times-later settings begin_life now now [] block.end (end_at settings now (machine.round + 1)) (machine.round + 1) (latest_after latest_above block.transitions)
+              (latest_after none_yet (entries_in (blocks_taken settings begin (after_taken machine place answer)))) facts (sym (append-nil (log_of now))) (omega (arith, upto)) taken (e.times unloaded);
+        }
 
-    pub apart_entry : (wide : ℕ) (facts : ContentFacts) → HasContent life frames last upto facts → KnowsLatest log upto sources facts
-        → wide ≡ t.scans % 2 ^ 32 → KnowsFilters life frames last facts
-        → (found : Option LatestEntry) → facts.latest t.input ≡ found
-        → breaks_content facts t.input (record { level = t.level; wide = wide }) Apart ≡ false
-    apart_entry wide facts c knows clocked known None is =
-        ap (λ (found : Option LatestEntry). not facts.loaded && is_some_and found (IsBroken wide facts)) is ∙ never (not facts.loaded)
-    apart_entry wide facts c knows clocked known (Some older) is =
-        ap (λ (found : Option LatestEntry). not facts.loaded && is_some_and found (IsBroken wide facts)) is
-        ∙ ap (λ broken. not facts.loaded && broken)
-        (quiet_keeps wide facts older (c.latest t.input older is) (knows t.input older is) clocked known older.quiet refl)
-        ∙ never (not facts.loaded)
-
-  -- ---- the entries of a block
-
-  -- the entries and what is known below them
-  pub record LeavesTimes (facts : ContentFacts) (items : List Item) (upto : ℕ) (sources : List Source) : Type 0 where
-    pub keep : EntriesKeep Apart facts (map Recorded items)
-    pub knows : KnowsLatest log upto sources (fold content_with facts (map Recorded items))
-
-  pub apart_entries : (block : MadeBlock) (stamp : ℕ) (ts : List Transition) (upto : ℕ) (sources : List Source) (facts : ContentFacts)
-      → ((k : ℕ) (t : Transition) → slice_get ts k ≡ Some t → slice_get log (upto + k) ≡ Some t)
-      → HasContent life frames last upto facts → KnowsLatest log upto sources facts → KnowsFilters life frames last facts
-      → AllZip IsClocked (map (item_of stamp) (map entry_of ts)) (map (λ t. From t block) ts)
-      → NextOfInputIsNear (sources ++ map (λ t. From t block) ts)
-      → LeavesTimes facts (map (item_of stamp) (map entry_of ts)) (upto + length ts) (sources ++ map (λ t. From t block) ts)
-  apart_entries block stamp [] upto sources facts there c knows known clocked near =
-      let end : upto ≡ upto + 0 = omega arith in
-      record {
-        keep = tt;
-        knows = subst (λ n. KnowsLatest log n (sources ++ []) facts) end
-            (subst (λ s. KnowsLatest log upto s facts) (sym (append-nil sources)) knows);
-      }
-  apart_entries block stamp (t ∷ ts) upto sources facts there c knows known clocked near =
-      let first : upto + 0 ≡ upto = omega arith in
-      let at : slice_get log upto ≡ Some t = ap (slice_get log) (sym first) ∙ there 0 t refl in
-      let wide = wide_time_of stamp (t.counter % 2 ^ 16) in
-      let entry : Item = Entry t.input t.level (t.counter % 2 ^ 16) wide in
-      let below = content_with facts (Recorded entry) in
-      let more = map (λ u. From u block) ts in
-      let one : (sources ++ From t block ∷ []) ++ more ≡ sources ++ From t block ∷ more = append_assoc sources (From t block ∷ []) more in
-      let left = apart_entries block stamp ts (upto + 1) (sources ++ From t block ∷ []) below
-      (λ k u is. (let next : upto + 1 + k ≡ upto + suc k = omega arith in ap (slice_get log) next ∙ there (suc k) u is))
-      (content_entry life frames last upto (t.counter % 2 ^ 16) wide facts t at c)
-      (latest-entry log upto (t.counter % 2 ^ 16) wide sources facts t block at clocked.0 knows)
-      (filters-same life frames last facts below (record { accepted = refl; filters = λ input. refl; loaded = refl }) known)
-      clocked.1 (subst NextOfInputIsNear (sym one) near) in
-      let end : upto + 1 + length ts ≡ upto + suc (length ts) = omega arith in
-      record {
-        keep = (
-          apart_entry upto sources more t block at near wide facts c knows clocked.0 known (facts.latest t.input) refl,
-          left.keep,
-        );
-        knows = subst (λ s. KnowsLatest log (upto + suc (length ts)) s (fold content_with below (map Recorded (map (item_of stamp) (map entry_of ts))))) one
-            (subst (λ n. KnowsLatest log n ((sources ++ From t block ∷ []) ++ more) (fold content_with below (map Recorded (map (item_of stamp) (map entry_of ts))))) end left.knows);
-      }
+    pub apart_walk : IsWalk Apart settings now machine.round answer block KeepsRest (KeepsApart settings begin loaded (after_taken machine place answer))
+    apart_walk = record {
+      gap = gap_step;
+      entry = entry_step;
+      ended = λ facts q. (
+        tt,
+        apart_last (content_with facts (Ended answer.status answer.stamp)) (end_step facts (says_more answer.status) (says_again answer.status) refl refl q),
+      );
+    }

@@ -1,148 +1,108 @@
--- Where no counter was loaded, the wide times of the record are the scans of its transitions.
-use Rattle.fio_ends.proofs.Names.{◌≡◌, ◌∙◌, ◌+◌, ◌-◌, ◌%◌, ◌^◌, ◌<◌, ◌≤◌, ℕ, Bool, true, false, List, [], ◌∷◌, ◌++◌, map, Option, Some, None, refl, ap, subst, arith, if◌then◌else◌, AllByRecursion, AllZip, flat_map, LoadCounter, Poll, asked_number, one_more_if_loaded, Settings, Life, Scanned, LineSynced, Raised, Commanded, counter_events, loads_of, scans_of, Transition, MadeBlock, newest_poll, is_new, blocks_of, next_block, Item, Entry, Gap, Source, Loss, From, sources_of, each-append, each-map, each_block, recorded_of, WaitsBriefly}
-use Rattle.std.specs.Prelude.{unwrap_or}
-use Rattle.fio_input.specs.Counter.{CounterEvent, Tick, AskLoad, LineSync, loaded_number, loads_in, ticks_after_load, ticks_in, ticks_unless_loaded}
+-- Where no load of the counter takes effect since a life, each counter since then is the scans and an offset.
+use Rattle.fio_ends.proofs.Names.{◌≡◌, ◌≢◌, ◌∙◌, ◌∷◌, ◌+◌, ◌-◌, ◌%◌, ◌^◌, ◌<◌, ◌≤◌, ℕ, true, false, Some, ap, sym, subst, arith, slice_get, nat_tests, Settings, Life, Scanned, counter_events, loads_of, scans_of, Transition, MadeBlock, each-at}
+use Rattle.fio_input.specs.Counter.{counter, loads_in, ticks_in}
+use Rattle.fio_input.specs.Widening.{wide_time_of}
+use Rattle.fio_input.proofs.Ticks.{counter-append}
 use Rattle.fio_module.specs.Life.{counter_of}
-use Rattle.fio_link.specs.Claims.{IsTimed}
-use Rattle.fio_link.proofs.Times.{BlockTimely, IsTimely, blocks_timed, blocks_timely}
+use Rattle.fio_check.specs.ContentSaid.{is_before, is_later, milliseconds_between}
+use Rattle.fio_link.proofs.Times.{BlockTimely, IsTimely, wide_time}
+use Rattle.fio_ends.proofs.Following.{GoesOn}
+use Rattle.fio_ends.proofs.Lives.{IsLoggedSince, IsMadeSince, counter_events-append, goes_on-scan, loads_grow, scans_grow, scans_more}
 
--- ---- the counter
+-- the counter at a life, less its scans
+abbrev pub offset_of : Life → ℕ
+offset_of life = counter_of life + (2 ^ 32 - scans_of life % 2 ^ 32)
 
-sync-counts : (asked : Option ℕ) (loaded after ticks loads : ℕ) → one_more_if_loaded asked loads ≡ 0
-    → (loads ≡ 0 → (loaded ≡ 0) × (after ≡ ticks))
-    → (unwrap_or asked loaded ≡ 0) × (ticks_unless_loaded asked after ≡ ticks)
-sync-counts None loaded after ticks loads none before = before none
-sync-counts (Some number) loaded after ticks loads none before = absurd (omega (arith, none))
+-- the counter after so many scans
+abbrev pub clock : ℕ → ℕ → ℕ
+clock offset scans = (offset + scans) % 2 ^ 32
 
-counts_ticks : (history : List CounterEvent) → loads_in history ≡ 0
-    → (loaded_number history ≡ 0) × (ticks_after_load history ≡ ticks_in history)
-counts_ticks [] none = (refl, refl)
-counts_ticks (Tick ∷ history) none = let c = counts_ticks history none in (c.0, ap (λ n. n + 1) c.1)
-counts_ticks (AskLoad number ∷ history) none = counts_ticks history none
-counts_ticks (LineSync ∷ history) none =
-    sync-counts (asked_number history) (loaded_number history) (ticks_after_load history) (ticks_in history) (loads_in history) none
-    (counts_ticks history)
+from_scans : (counter scans ticks : ℕ) → (counter + ticks) % 2 ^ 32 ≡ (counter + (2 ^ 32 - scans % 2 ^ 32) + (ticks + scans)) % 2 ^ 32
+from_scans counter scans ticks = omega arith
 
-counter_is_scans : (life : Life) → loads_of life ≡ 0 → counter_of life ≡ scans_of life % 2 ^ 32
-counter_is_scans life none =
-    let c = counts_ticks (counter_events life) none in
-    let loaded : loaded_number (counter_events life) ≡ 0 = c.0 in
-    let ticks : ticks_after_load (counter_events life) ≡ scans_of life = c.1 in
-    omega arith
+pub counter_is_clock : (begin now : Life) → GoesOn begin now → loads_of now ≡ loads_of begin → counter_of now ≡ clock (offset_of begin) (scans_of now)
+counter_is_clock begin now g same =
+    let whole = ap counter_events g.is ∙ counter_events-append g.more begin in
+    let loads = sym (ap loads_in whole) ∙ same in
+    let ticks = scans_more begin now g in
+    ap counter whole ∙ counter-append (counter_events g.more) (counter_events begin) loads
+    ∙ from_scans (counter_of begin) (scans_of begin) (ticks_in (counter_events g.more))
+    ∙ ap (clock (offset_of begin)) (sym ticks)
 
--- ---- blocks
+-- ---- two times
 
--- a block made where no counter was loaded has its scans as its stamp
-abbrev IsClock : MadeBlock → Type 0
-IsClock block = block.loads ≡ 0 → block.stamp ≡ block.scans % 2 ^ 32
+pub between_clocks : (offset earlier later : ℕ) → earlier ≤ later → later < earlier + 2 ^ 32
+    → milliseconds_between (clock offset earlier) (clock offset later) ≡ later - earlier
+between_clocks offset earlier later low high = omega arith
 
--- no block had more loads than the life
-abbrev LoadedUpTo : ℕ → MadeBlock → Type 0
-LoadedUpTo loads block = block.loads ≤ loads
+pub later_clock : (offset earlier later : ℕ) → earlier < later → later < earlier + 2 ^ 31
+    → is_later (clock offset later) (clock offset earlier) ≡ true
+later_clock offset earlier later low high =
+    let between : milliseconds_between (clock offset earlier) (clock offset later) ≡ later - earlier =
+    between_clocks offset earlier later (omega arith) (omega arith) in
+    let apart : clock offset later ≢ clock offset earlier = (λ same. absurd (omega arith)) in
+    grind (arith, nat_tests)
 
-more_loads : (asked : Option ℕ) (loads : ℕ) → loads ≤ one_more_if_loaded asked loads
-more_loads None loads = omega arith
-more_loads (Some number) loads = omega arith
+pub not_before : (offset earlier later : ℕ) → earlier ≤ later → later < earlier + 2 ^ 31
+    → is_before (clock offset later) (clock offset earlier) ≡ false
+not_before offset earlier later low high =
+    let between : milliseconds_between (clock offset earlier) (clock offset later) ≡ later - earlier =
+    between_clocks offset earlier later low (omega arith) in
+    grind (arith, nat_tests)
 
-poll-loads : (new : Bool) (loads : ℕ) (blocks : List MadeBlock) (block : MadeBlock) → block.loads ≡ loads
-    → AllByRecursion (LoadedUpTo loads) blocks
-    → AllByRecursion (LoadedUpTo loads) (if new then blocks ++ block ∷ [] else blocks)
-poll-loads true loads blocks block is upto = each-append (LoadedUpTo loads) blocks (block ∷ []) upto (omega (arith, is), tt)
-poll-loads false loads blocks block is upto = upto
+-- ---- entries
 
-loads_upto : (settings : Settings) (life : Life) → AllByRecursion (LoadedUpTo (loads_of life)) (blocks_of settings life)
-loads_upto settings [] = tt
-loads_upto settings (Scanned raw ∷ life) = loads_upto settings life
-loads_upto settings (LineSynced ∷ life) =
-    let more = more_loads (asked_number (counter_events life)) (loads_of life) in
-    each-map (LoadedUpTo (loads_of life)) (LoadedUpTo (loads_of (LineSynced ∷ life))) (λ block le. omega (arith, le, more))
-    (blocks_of settings life) (loads_upto settings life)
-loads_upto settings (Raised mask ∷ life) = loads_upto settings life
-loads_upto settings (Commanded (Poll number) ∷ life) =
-    poll-loads (is_new (newest_poll life) number) (loads_of life) (blocks_of settings life) (next_block settings life) refl (loads_upto settings life)
-loads_upto settings (Commanded (LoadCounter load) ∷ life) = loads_upto settings life
-loads_upto settings (Commanded other ∷ life) = loads_upto settings life
+module _ (begin now : Life) (g : GoesOn begin now) (steady : loads_of now ≡ loads_of begin) where
+  abbrev offset : ℕ
+  offset = offset_of begin
 
--- what a block of a life without loads keeps
-pub record KeepsClock (block : MadeBlock) : Type 0 where
-  pub unloaded : block.loads ≡ 0
-  pub stamp : block.stamp ≡ block.scans % 2 ^ 32
-  pub timely : BlockTimely block
+  -- a transition that was logged since
+  pub record IsClocked (transition : Transition) : Type 0 where
+    pub counter : transition.counter ≡ clock offset transition.scans
+    pub loads : transition.loads ≡ loads_of begin
+    pub after_begin : scans_of begin < transition.scans
+    pub upto : transition.scans ≤ scans_of now
 
-keep_clock : (blocks : List MadeBlock) → AllByRecursion IsClock blocks → AllByRecursion (LoadedUpTo 0) blocks
-    → AllByRecursion BlockTimely blocks → AllByRecursion KeepsClock blocks
-keep_clock [] clock upto timely = tt
-keep_clock (block ∷ blocks) clock upto timely =
-    let none : block.loads ≡ 0 = omega (arith, upto.0) in
-    (record { unloaded = none; stamp = clock.0 none; timely = timely.0 }, keep_clock blocks clock.1 upto.1 timely.1)
+  pub transition_clocked : (transition : Transition) → IsLoggedSince begin now transition → IsClocked transition
+  transition_clocked transition l =
+      let at = goes_on-scan begin l.life l.raw l.begun in
+      let low = loads_grow begin (Scanned l.raw ∷ l.life) at in
+      let high = loads_grow (Scanned l.raw ∷ l.life) now l.upto in
+      let scans = scans_grow begin l.life l.begun in
+      let upto = scans_grow (Scanned l.raw ∷ l.life) now l.upto in
+      let loads : loads_of (Scanned l.raw ∷ l.life) ≡ loads_of begin = omega arith in
+      subst IsClocked (sym l.of_scan.is)
+      (record {
+        counter = counter_is_clock begin (Scanned l.raw ∷ l.life) at loads;
+        loads = loads;
+        after_begin = omega arith;
+        upto = upto;
+      })
 
-pub blocks_keep_clock : (settings : Settings) (life : Life) → loads_of life ≡ 0 → AllByRecursion KeepsClock (blocks_of settings life)
-blocks_keep_clock settings life none =
-    keep_clock (blocks_of settings life) (each_block IsClock settings (λ l is. counter_is_scans l is) life)
-    (subst (λ loads. AllByRecursion (LoadedUpTo loads) (blocks_of settings life)) none (loads_upto settings life))
-    (blocks_timely settings life)
+  -- a block that was made since
+  pub record IsStamped (block : MadeBlock) : Type 0 where
+    pub stamp : block.stamp ≡ clock offset block.scans
+    pub loads : block.loads ≡ loads_of begin
+    pub from_begin : scans_of begin ≤ block.scans
+    pub upto : block.scans ≤ scans_of now
 
--- ---- the record
+  pub block_stamped : (settings : Settings) (block : MadeBlock) → IsMadeSince settings begin now block → IsStamped block
+  block_stamped settings block m =
+      let low = loads_grow begin m.life m.begun in
+      let high = loads_grow m.life now m.upto in
+      let loads : loads_of m.life ≡ loads_of begin = omega arith in
+      subst IsStamped (sym m.is)
+      (record {
+        stamp = counter_is_clock begin m.life m.begun loads;
+        loads = loads;
+        from_begin = scans_grow begin m.life m.begun;
+        upto = scans_grow m.life now m.upto;
+      })
 
--- an item is from this source, and its wide time is the scans of its transition
-abbrev pub IsClocked : Item → Source → Type 0
-IsClocked Gap Loss = Unit {0}
-IsClocked (Entry input level stamp wide) (From transition block) = wide ≡ transition.scans % 2 ^ 32
-IsClocked item source = ⊥
-
--- the counter of a source's transition is its scans, and its block has no more loads
-abbrev IsCounted : Source → Type 0
-IsCounted Loss = Unit {0}
-IsCounted (From transition block) =
-    (block.loads ≡ transition.loads) × (transition.counter ≡ transition.scans % 2 ^ 32)
-
-transition-counted : (block : MadeBlock) (transition : Transition) → KeepsClock block
-    → IsTimely block.stamp block.scans block.loads transition → IsCounted (From transition block)
-transition-counted block transition k t =
-    let unloaded : block.loads ≡ 0 = k.unloaded in
-    let none : block.loads ≡ transition.loads = omega (arith, t.loaded_before) in
-    let stamp : block.stamp ≡ block.scans % 2 ^ 32 = k.stamp in
-    let on : block.stamp ≡ (transition.counter + (block.scans - transition.scans)) % 2 ^ 32 = t.on none in
-    let low : transition.scans ≤ block.scans = t.scanned_before in
-    let fits : transition.counter < 2 ^ 32 = t.fits in
-    (none, omega arith)
-
-transitions-counted : (block : MadeBlock) (transitions : List Transition) → KeepsClock block
-    → AllByRecursion (IsTimely block.stamp block.scans block.loads) transitions
-    → AllByRecursion IsCounted (map (λ t. From t block) transitions)
-transitions-counted block [] k timely = tt
-transitions-counted block (transition ∷ transitions) k timely =
-    (transition-counted block transition k timely.0, transitions-counted block transitions k timely.1)
-
-marked-counted : (lost : Bool) (sources : List Source) → AllByRecursion IsCounted sources
-    → AllByRecursion IsCounted ((if lost then Loss ∷ [] else []) ++ sources)
-marked-counted true sources all = (tt, all)
-marked-counted false sources all = all
-
-sources-counted : (blocks : List MadeBlock) → AllByRecursion KeepsClock blocks → AllByRecursion IsCounted (flat_map sources_of blocks)
-sources-counted [] keep = tt
-sources-counted (block ∷ blocks) keep =
-    each-append IsCounted (sources_of block) (flat_map sources_of blocks)
-    (marked-counted block.lost (map (λ t. From t block) block.transitions)
-    (transitions-counted block block.transitions keep.0 keep.0.timely))
-    (sources-counted blocks keep.1)
-
-clocked : (items : List Item) (sources : List Source) → AllZip IsTimed items sources → AllByRecursion IsCounted sources
-    → AllByRecursion WaitsBriefly sources → AllZip IsClocked items sources
-clocked [] [] timed counted brief = tt
-clocked [] (source ∷ sources) timed counted brief = absurd timed
-clocked (item ∷ items) [] timed counted brief = absurd timed
-clocked (Gap ∷ items) (Loss ∷ sources) timed counted brief = (tt, clocked items sources timed.1 counted.1 brief.1)
-clocked (Gap ∷ items) (From transition block ∷ sources) timed counted brief = absurd timed.0
-clocked (Entry input level stamp wide ∷ items) (Loss ∷ sources) timed counted brief = absurd timed.0
-clocked (Entry input level stamp wide ∷ items) (From transition block ∷ sources) timed counted brief = (
-  timed.0.1 (record { few_scans = brief.0; no_load = counted.0.0 }) ∙ counted.0.1,
-  clocked items sources timed.1 counted.1 brief.1,
-)
-
--- the items of blocks
-pub blocks_clocked : (blocks : List MadeBlock) → AllByRecursion KeepsClock blocks → AllByRecursion WaitsBriefly (flat_map sources_of blocks)
-    → AllZip IsClocked (flat_map recorded_of blocks) (flat_map sources_of blocks)
-blocks_clocked blocks keep brief =
-    clocked (flat_map recorded_of blocks) (flat_map sources_of blocks)
-    (blocks_timed blocks (each-map KeepsClock BlockTimely (λ block k. k.timely) blocks keep)) (sources-counted blocks keep) brief
+  -- the wide time of an entry that waited briefly
+  pub wide_is : (block : MadeBlock) (transition : Transition) → BlockTimely block → (k : ℕ) → slice_get block.transitions k ≡ Some transition
+      → IsStamped block → IsClocked transition → block.scans < transition.scans + 2 ^ 16
+      → wide_time_of block.stamp (transition.counter % 2 ^ 16) ≡ clock offset transition.scans
+  wide_is block transition timely k at stamped clocked brief =
+      let t = each-at (IsTimely block.stamp block.scans block.loads) block.transitions k transition timely at in
+      wide_time block transition t (record { few_scans = brief; no_load = stamped.loads ∙ sym clocked.loads }) ∙ clocked.counter

@@ -1,39 +1,32 @@
--- An invariant of content holds along each prompt run: so its rule never accuses.
-use Rattle.fio_ends.proofs.Names.{◌≡◌, ◌∙◌, ◌+◌, ◌%◌, ◌⊎◌, inl, inr, ℕ, true, List, [], ◌∷◌, length, Option, Some, None, refl, ap, sym, subst, arith, length-append, if◌then◌else◌, ◌==◌, fold, not, nat_tests, same_Some, Answer, Command, command_octets, answered_block, command_in, ContentFacts, content_with, ContentKept, nothing_kept, ContentEvent, Polled, events_in, content_events, events_of_block, events_of_command, number_after, facts_with, no_facts, answer_type_to, names_absent, ContentRule, Facts, Observation, SentFrame, Machine, start, number_of, sending_refusal, after_sending, get_push, CpuFrame}
+-- What is kept of content along a prompt run, frame by frame.
+use Rattle.fio_ends.proofs.Names.{◌≡◌, ◌∙◌, ◌+◌, ◌%◌, ℕ, true, List, [], ◌∷◌, Option, Some, None, refl, ap, sym, subst, arith, if◌then◌else◌, ◌==◌, fold, nat_tests, same_Some, Answer, Command, answered_block, ContentFacts, content_with, ContentKept, kept_at_start, false, ContentEvent, Sent, events_in, content_events, events_of_block, number_after, facts_with, no_facts, ContentRule, State, Facts, Observation, Machine, number_of, sending_refusal, CpuFrame, SentFrame, length, ◌++◌, length-append, slice_get, get_push, command_in, Bool, ◌||◌}
 use Rattle.fio_message.specs.declared.answers.Answer.TheVariants as answers
 use Rattle.fio_message.specs.declared.commands.Command.TheVariants as commands
-use Rattle.fio_message.specs.declared.commands.OtherCommand.TheVariants as other_commands
 use Rattle.fio_message.specs.Blocks.{Block as BlockOf}
+use Rattle.fio_check.specs.ContentSaid.{Seen, are_some, items_for, items_sent}
 use Rattle.fio_check.specs.ContentEvents.{number_below, number_with_command}
+use Rattle.fio_check.specs.ContentRules.{broken_state}
+use Rattle.fio_ends.specs.ContentRuns.{KeepsRule}
 use Rattle.fio_ends.proofs.GoodLines.{said_by}
-use Rattle.fio_ends.proofs.Following.{facts_below}
-use Rattle.fio_ends.proofs.ContentLines.{EntriesKeep, FramesKeep, content_below}
-use Rattle.fio_ends.proofs.ContentSteps.{IsSentLast}
+use Rattle.fio_ends.proofs.Following.{IsSentLast, facts_below}
+use Rattle.fio_ends.proofs.ContentSteps.{Awaits}
+use Rattle.fio_ends.proofs.ContentLines.{EventsKeep, FramesKeep, content_below}
 
 -- ---- what else is kept
 
--- the latest line is the command sent last
-pub record IsAwaited (frames : List SentFrame) (facts : Facts) (type : ℕ) : Type 0 where
-  pub command : Command
-  pub sent_last : IsSentLast frames command
-  pub of_type : answer_type_to command ≡ type
-  pub named : facts.absent_named ≡ names_absent command
-
--- what is known of content is known of this machine: its number is the machine's, if a poll was sent; and
--- where an answer is awaited, it is one to the command sent last
+-- what is known of content is known of this machine: its number is the machine's, if a poll was sent, and the command that
+-- awaits its answer is the one sent last
 pub record Agrees (first : ℕ) (machine : Machine) (facts : Facts) (kept : ContentKept) : Type 0 where
   pub number : (polled : ℕ) → facts.polled ≡ Some polled → kept.number ≡ Some (number_of first machine.round)
   pub unpolled : facts.polled ≡ None → kept.number ≡ None
-  pub asking : facts.awaited ≡ Some 182 → kept.facts.asking ≡ true
-  pub awaited : (type : ℕ) → facts.awaited ≡ Some type → IsAwaited machine.to_module facts type
+  pub awaits : (code : ℕ) (command : Command) → facts.awaited ≡ Some code → IsSentLast machine.to_module command → Awaits kept.facts command
 
-pub agrees-start : (first : ℕ) → Agrees first start no_facts nothing_kept
-agrees-start first =
+pub agrees-start : (first : ℕ) (machine : Machine) → Agrees first machine no_facts (kept_at_start false)
+agrees-start first machine =
     record {
       number = λ polled is. absurd (cc is);
       unpolled = λ is. refl;
-      asking = λ is. absurd (cc is);
-      awaited = λ type is. absurd (cc is);
+      awaits = λ code command is. absurd (cc is);
     }
 
 -- where the number is another or none, and the facts say the same, all else that is kept may be another
@@ -43,8 +36,7 @@ agrees-below first machine later facts kept round frames a =
     record {
       number = λ polled is. a.number polled is ∙ ap (λ r. Some (number_of first r)) (sym round);
       unpolled = a.unpolled;
-      asking = a.asking;
-      awaited = λ type is. subst (λ f. IsAwaited f facts type) (sym frames) (a.awaited type is);
+      awaits = λ code command is sent. a.awaits code command is (subst (λ sent. IsSentLast sent command) frames sent);
     }
 
 -- what an event keeps: the entries of its frames keep the rule, and below them the invariant holds
@@ -59,12 +51,12 @@ pub one_frame : (rule : ContentRule) (P : Machine → ContentFacts → Type 0) (
     (frame : CpuFrame) (machine : Machine) (said : Observation) (number : Option ℕ) (events : List ContentEvent)
     → said_by frame ≡ said → number_below kept.number frame.from_cpu frame.octets ≡ number
     → events_in kept.number frame.from_cpu frame.octets ≡ events
-    → EntriesKeep rule kept.facts events → P machine (fold content_with kept.facts events)
+    → EventsKeep rule kept.facts events → P machine (fold content_with kept.facts events)
     → Agrees first machine (facts_with facts said) (record { number = number; facts = fold content_with kept.facts events })
     → KeepsContent rule P first facts kept (frame ∷ []) machine
 one_frame rule P first facts kept frame machine said number events says below are keep holds agrees =
     record {
-      keep = (subst (EntriesKeep rule kept.facts) (sym are) keep, tt);
+      keep = (subst (EventsKeep rule kept.facts) (sym are) keep, tt);
       holds = subst (λ es. P machine (fold content_with kept.facts es)) (sym are) holds;
       agrees =
           subst (λ s. Agrees first machine (facts_with facts s) (content_below kept (frame ∷ []))) (sym says)
@@ -74,66 +66,41 @@ one_frame rule P first facts kept frame machine said number events says below ar
 
 -- ---- a command is sent
 
--- a poll with the number, or the first one
-pub own_poll : (kept : Option ℕ) (number : ℕ) → ((kept ≡ Some number) ⊎ (kept ≡ None))
-    → (events_of_command kept (commands.Poll number) ≡ Polled ∷ []) × (number_with_command kept (commands.Poll number) ≡ Some number)
-own_poll kept number (inl is) =
-    let met : (number == number) ≡ true = grind (arith, nat_tests) in
-    subst (λ k. (events_of_command k (commands.Poll number) ≡ Polled ∷ []) × (number_with_command k (commands.Poll number) ≡ Some number)) (sym is)
-    (ap (λ same. if not same then [] else Polled ∷ []) met, refl)
-own_poll kept number (inr is) =
-    subst (λ k. (events_of_command k (commands.Poll number) ≡ Polled ∷ []) × (number_with_command k (commands.Poll number) ≡ Some number)) (sym is)
-    (refl, refl)
+-- the frame that was pushed is the one sent last
+pub last_of : (frames : List SentFrame) (f : SentFrame) (command : Command) → IsSentLast (frames ++ f ∷ []) command → command_in f.octets ≡ Some command
+last_of frames f command s =
+    let long : length (frames ++ f ∷ []) ≡ length frames + 1 = length-append frames (f ∷ []) in
+    let last : length (frames ++ f ∷ []) ≡ s.place + 1 = s.last in
+    let here : s.place ≡ length frames = omega arith in
+    let is : s.frame ≡ f = same_Some _ _ (sym s.at_place ∙ ap (slice_get (frames ++ f ∷ [])) here ∙ get_push frames f) in
+    ap (λ (g : SentFrame). command_in g.octets) (sym is) ∙ s.spells
 
--- another command has the events that it has whatever the number, and leaves the number
-pub record IsOther (rule : ContentRule) (kept : ContentKept) (command : Command) : Type 0 where
-  pub events : events_of_command kept.number command ≡ events_of_command None command
-  pub number : number_with_command kept.number command ≡ kept.number
-  pub keep : EntriesKeep rule kept.facts (events_of_command None command)
-  pub no_poll : answer_type_to command ≡ 182 → ⊥
+or_none : (b : Bool) → (b || false) ≡ b
+or_none true = refl
+or_none false = refl
 
-number_stays : (number : Option ℕ) (command : Command) → sending_refusal command ≡ None → number_with_command number command ≡ number
+-- the command that is sent awaits its answer
+pub awaits_sent : (facts : ContentFacts) (frames : List SentFrame) (f : SentFrame) (sent command : Command) → command_in f.octets ≡ Some sent
+    → IsSentLast (frames ++ f ∷ []) command → Awaits (content_with facts (Sent sent)) command
+awaits_sent facts frames f sent command spells last =
+    let is : sent ≡ command = same_Some _ _ (sym spells ∙ last_of frames f command last) in
+    subst (Awaits (content_with facts (Sent sent))) is
+    (record { clearing = refl; absent_named = refl; named = λ input. or_none (are_some (items_for input (items_sent sent))) })
+
+state-kept : (facts : ContentFacts) (command : Command) (seen : Option Seen) → broken_state facts (Sent command) seen ≡ None
+state-kept facts command None = refl
+state-kept facts command (Some seen) = refl
+
+-- a command keeps each rule
+pub sent_keeps : (rule : ContentRule) (facts : ContentFacts) (command : Command) → KeepsRule rule facts (Sent command)
+sent_keeps State facts command = state-kept facts command facts.seen
+sent_keeps other facts command = tt
+
+-- the number below a command that is no poll
+pub number_stays : (number : Option ℕ) (command : Command) → sending_refusal command ≡ None → number_with_command number command ≡ number
 number_stays number (commands.Poll polled) fine = absurd (cc fine)
 number_stays None other fine = refl
 number_stays (Some number) other fine = refl
-
-pub is_other : (rule : ContentRule) (kept : ContentKept) (command : Command) → sending_refusal command ≡ None → IsOther rule kept command
-is_other rule kept (commands.Poll number) fine = absurd (cc fine)
-is_other rule kept (commands.Status clear) fine =
-    record { events = refl; number = number_stays kept.number (commands.Status clear) fine; keep = tt; no_poll = λ is. omega (arith, is) }
-is_other rule kept (commands.LoadCounter load) fine =
-    record { events = refl; number = number_stays kept.number (commands.LoadCounter load) fine; keep = (tt, tt); no_poll = λ is. omega (arith, is) }
-is_other rule kept (commands.ConfigureInputs items) fine =
-    record { events = refl; number = number_stays kept.number (commands.ConfigureInputs items) fine; keep = (tt, tt); no_poll = λ is. omega (arith, is) }
-is_other rule kept commands.RawInputs fine =
-    record { events = refl; number = number_stays kept.number commands.RawInputs fine; keep = tt; no_poll = λ is. omega (arith, is) }
-is_other rule kept commands.FilteredInputs fine =
-    record { events = refl; number = number_stays kept.number commands.FilteredInputs fine; keep = tt; no_poll = λ is. omega (arith, is) }
-is_other rule kept (commands.SetOutputs levels controls) fine =
-    record { events = refl; number = number_stays kept.number (commands.SetOutputs levels controls) fine; keep = tt; no_poll = λ is. omega (arith, is) }
-is_other rule kept (commands.Watchdog timeout) fine =
-    record { events = refl; number = number_stays kept.number (commands.Watchdog timeout) fine; keep = tt; no_poll = λ is. omega (arith, is) }
-is_other rule kept commands.Identify fine =
-    record { events = refl; number = number_stays kept.number commands.Identify fine; keep = tt; no_poll = λ is. omega (arith, is) }
-is_other rule kept (commands.Other other_commands.TrackInputs body) fine =
-    record { events = refl; number = number_stays kept.number (commands.Other other_commands.TrackInputs body) fine; keep = tt; no_poll = λ is. omega (arith, is) }
-is_other rule kept (commands.Other other_commands.ComplexOutputs body) fine =
-    record { events = refl; number = number_stays kept.number (commands.Other other_commands.ComplexOutputs body) fine; keep = tt; no_poll = λ is. omega (arith, is) }
-is_other rule kept (commands.Other other_commands.ControllerId body) fine =
-    record { events = refl; number = number_stays kept.number (commands.Other other_commands.ControllerId body) fine; keep = tt; no_poll = λ is. omega (arith, is) }
-
--- the frame of a command is the one sent last
-pub now_sent : (machine : Machine) (command : Command) → command_in (command_octets command) ≡ Some command
-    → IsSentLast (after_sending machine command).to_module command
-now_sent machine command reads =
-    let f : SentFrame = record { octets = command_octets command; round = machine.round } in
-    record {
-      place = length machine.to_module;
-      frame = f;
-      last = length-append machine.to_module (f ∷ []);
-      at_place = get_push machine.to_module f;
-      spells = reads;
-    }
 
 -- ---- an answer is heard
 

@@ -1,28 +1,21 @@
--- Entries that break no rule on content, frame by frame, are those of a transcript in which none does.
-use Rattle.fio_ends.proofs.Names.{◌≡◌, ◌∙◌, ◌-◌, ◌≤◌, inl, inr, ℕ, suc, false, List, [], ◌∷◌, ◌++◌, drop, length, map, Option, Some, None, refl, ap, sym, subst, arith, fold, option_map, slice_get, eqb_tells, length-drop, same_Some, slice_get_within, Entry, ContentFacts, content_with, ContentKept, nothing_kept, ContentEvent, LineEvent, Recorded, content_event_at, events_in, events_of_lines, breaks_content, TranscriptLine, ContentRule, CpuFrame, frame_on, NoneBreaks}
+-- Events that keep a rule on content, frame by frame, are those of a log in which none breaks it.
+use Rattle.fio_ends.proofs.Names.{◌≡◌, ◌∙◌, ◌-◌, ◌≤◌, inl, inr, ℕ, suc, false, List, [], ◌∷◌, ◌++◌, drop, length, map, Option, Some, None, refl, ap, sym, subst, arith, fold, option_map, slice_get, eqb_tells, length-drop, same_Some, slice_get_within, ContentFacts, content_with, ContentKept, kept_at_start, kept_with, ContentEvent, LineEvent, content_event_at, events_below, events_in, events_of_lines, TranscriptLine, ContentRule, CpuFrame, frame_on}
 use Rattle.fio_check.specs.ContentAbove.{content_at}
-use Rattle.fio_check.specs.ContentCheckers.{kept_with}
-use Rattle.fio_check.specs.ContentEvents.{events_below}
 use Rattle.fio_check.proofs.ContentCourse.{dropped_first}
-use Rattle.fio_check.proofs.ContentPlaces.{content_next}
+use Rattle.fio_check.proofs.ContentNext.{content_next}
+use Rattle.fio_ends.specs.ContentRuns.{KeepsRule, NoneBreaks}
 
--- the entry that an event records keeps a rule, if it records one
-abbrev pub EntryKeeps : ContentRule → ContentFacts → ContentEvent → Type 0
-EntryKeeps rule facts (Recorded (Entry input level stamp wide)) =
-    breaks_content facts input (record { level = level; wide = wide }) rule ≡ false
-EntryKeeps rule facts event = Unit {0}
-
--- and so does each of these events
-abbrev pub EntriesKeep : ContentRule → ContentFacts → List ContentEvent → Type 0
-EntriesKeep rule facts [] = Unit {0}
-EntriesKeep rule facts (event ∷ events) =
-    EntryKeeps rule facts event × EntriesKeep rule (content_with facts event) events
+-- each of these events keeps a rule
+abbrev pub EventsKeep : ContentRule → ContentFacts → List ContentEvent → Type 0
+EventsKeep rule facts [] = Unit {0}
+EventsKeep rule facts (event ∷ events) =
+    KeepsRule rule facts event × EventsKeep rule (content_with facts event) events
 
 -- and each of those of frames
 abbrev pub FramesKeep : ContentRule → ContentKept → List CpuFrame → Type 0
 FramesKeep rule kept [] = Unit {0}
 FramesKeep rule kept (frame ∷ frames) =
-    EntriesKeep rule kept.facts (events_in kept.number frame.from_cpu frame.octets)
+    EventsKeep rule kept.facts (events_in kept.number frame.from_cpu frame.octets)
     × FramesKeep rule (kept_with kept frame.from_cpu frame.octets) frames
 
 -- what is kept below frames
@@ -38,11 +31,11 @@ frames_keep rule kept (frame ∷ frames) more above rest =
     (above.0, frames_keep rule (kept_with kept frame.from_cpu frame.octets) frames more above.1 rest)
 
 -- events and more of them
-pub entries_keep : (rule : ContentRule) (facts : ContentFacts) (events more : List ContentEvent) → EntriesKeep rule facts events
-    → EntriesKeep rule (fold content_with facts events) more → EntriesKeep rule facts (events ++ more)
-entries_keep rule facts [] more above rest = rest
-entries_keep rule facts (event ∷ events) more above rest =
-    (above.0, entries_keep rule (content_with facts event) events more above.1 rest)
+pub events_keep : (rule : ContentRule) (facts : ContentFacts) (events more : List ContentEvent) → EventsKeep rule facts events
+    → EventsKeep rule (fold content_with facts events) more → EventsKeep rule facts (events ++ more)
+events_keep rule facts [] more above rest = rest
+events_keep rule facts (event ∷ events) more above rest =
+    (above.0, events_keep rule (content_with facts event) events more above.1 rest)
 
 -- the event of a line's event
 abbrev event_of : LineEvent → ContentEvent
@@ -55,13 +48,13 @@ untagged line (event ∷ events) more = ap (λ all. event ∷ all) (untagged lin
 
 -- the events of lines whose frames keep the rule
 lines_keep : (rule : ContentRule) (kept : ContentKept) (lines : List TranscriptLine) → FramesKeep rule kept (map frame_on lines)
-    → EntriesKeep rule kept.facts (map event_of (events_below kept.number lines))
+    → EventsKeep rule kept.facts (map event_of (events_below kept.number lines))
 lines_keep rule kept [] keep = tt
 lines_keep rule kept (line ∷ lines) keep =
     let events = events_in kept.number line.from_cpu line.octets in
     let below = kept_with kept line.from_cpu line.octets in
-    subst (EntriesKeep rule kept.facts) (sym (untagged line.number events (events_below below.number lines)))
-    (entries_keep rule kept.facts events (map event_of (events_below below.number lines)) keep.0 (lines_keep rule below lines keep.1))
+    subst (EventsKeep rule kept.facts) (sym (untagged line.number events (events_below below.number lines)))
+    (events_keep rule kept.facts events (map event_of (events_below below.number lines)) keep.0 (lines_keep rule below lines keep.1))
 
 event_here : (all : List LineEvent) (place : ℕ) (event : ContentEvent) (found : Option LineEvent) → slice_get all place ≡ found
     → option_map event_of found ≡ Some event → (there : LineEvent) × (slice_get all place ≡ Some there) × (there.event ≡ event)
@@ -70,31 +63,31 @@ event_here all place event (Some there) is at = (there, is, same_Some _ _ at)
 
 -- at each place from one on, where what is left keeps the rule
 at_places : (rule : ContentRule) (all rest : List LineEvent) (place : ℕ) → drop place all ≡ rest
-    → EntriesKeep rule (content_at all place) (map event_of rest)
+    → EventsKeep rule (content_at all place) (map event_of rest)
     → (above : ℕ) (event : ContentEvent) → place ≤ above → content_event_at all above ≡ Some event
-    → EntryKeeps rule (content_at all above) event
+    → KeepsRule rule (content_at all above) event
 at_places rule all [] place left keep above event low at =
     let there = event_here all above event (slice_get all above) refl at in
     let count : length all - place ≡ 0 = sym (length-drop place all) ∙ ap length left in
     absurd (omega (arith, slice_get_within all above there.0 there.1))
 at_places rule all (found ∷ rest) place left keep above event low at =
     let cut = dropped_first all place found rest left in
-    elim (eqb_tells above place) as (λ _. EntryKeeps rule (content_at all above) event) [
+    elim (eqb_tells above place) as (λ _. KeepsRule rule (content_at all above) event) [
       | inl same ↦
           let there = event_here all above event (slice_get all above) refl at in
           let is : found ≡ there.0 = same_Some _ _ (sym cut.0 ∙ ap (slice_get all) (sym same.1) ∙ there.1) in
           let event_is : found.event ≡ event = ap event_of is ∙ there.2 in
-          subst (EntryKeeps rule (content_at all above)) event_is
-          (subst (λ p. EntryKeeps rule (content_at all p) found.event) (sym same.1) keep.0)
+          subst (KeepsRule rule (content_at all above)) event_is
+          (subst (λ p. KeepsRule rule (content_at all p) found.event) (sym same.1) keep.0)
       | inr other ↦
           at_places rule all rest (suc place) cut.1
-          (subst (λ facts. EntriesKeep rule facts (map event_of rest)) (sym (content_next all place found cut.0)) keep.1)
+          (subst (λ facts. EventsKeep rule facts (map event_of rest)) (sym (content_next all place found cut.0)) keep.1)
           above event (omega (arith, other.1)) at
     ]
 
 -- lines whose frames keep the rule
-pub none_breaks : (rule : ContentRule) (lines : List TranscriptLine) → FramesKeep rule nothing_kept (map frame_on lines)
+pub none_breaks : (rule : ContentRule) (lines : List TranscriptLine) → FramesKeep rule (kept_at_start false) (map frame_on lines)
     → NoneBreaks lines rule
-none_breaks rule lines keep place input stamp wide level at =
-    at_places rule (events_of_lines lines) (events_of_lines lines) 0 refl (lines_keep rule nothing_kept lines keep)
-    place (Recorded (Entry input level stamp wide)) (omega arith) at
+none_breaks rule lines keep place event at =
+    at_places rule (events_of_lines lines) (events_of_lines lines) 0 refl (lines_keep rule (kept_at_start false) lines keep)
+    place event (omega arith) at

@@ -1,149 +1,141 @@
--- Along a prompt run an invariant of content holds, so its rule never accuses.
-use Rattle.fio_ends.proofs.Names.{◌≡◌, ◌∙◌, ◌+◌, ◌%◌, ◌<◌, ◌≤◌, ◌&&◌, ◌||◌, ◌⊎◌, inl, inr, ℕ, Bool, true, false, List, [], ◌∷◌, length, Option, Some, None, refl, ap, ap₂, sym, subst, arith, if◌then◌else◌, ◌==◌, nat_le, nat_lt, not, slice_get, AllByRecursion, list_any, nat_tests, same_Some, ArrayVec, Answer, Command, InputItem, command_octets, IsCommand, answer_in, block_in, says_error, all_present, Settings, AreInRange, ContentFacts, ContentKept, nothing_kept, Accepted, Polled, content_events, events_of_block, events_of_command, number_after, no_facts, answer_type_to, is_absent, names_absent, observation_of, ContentRule, Facts, Event, SentFrame, Machine, start, number_of, sending_refusal, after_sending, after_module_event, after_delivery_to_module, after_delivered_block, after_delivery_to_cpu, refusal, after, Leads, HasBlock, IsNotRestart, HaveNoRestart, blocks_in, CarriesBlockOf, number_of-fits, number_of-next, after_taken, same_round, after_delivery, IsKept, carries_own, kept_all, kept, frame_heard, frames_at, frames_from, due_after, IsPrompt, ArePrompt, IsWithinRanges, ContentNeverAccuses, HaveTimesFor, sources_taken}
+-- Along a prompt run an invariant of content holds from any command on, so its rule never accuses.
+use Rattle.fio_ends.proofs.Names.{◌≡◌, ◌∙◌, ◌+◌, ◌%◌, ◌<◌, ◌≤◌, ◌⊎◌, inl, inr, ℕ, Bool, true, false, List, [], ◌∷◌, length, Option, Some, None, refl, ap, sym, subst, arith, if◌then◌else◌, ◌==◌, slice_get, AllByRecursion, list_any, nat_tests, Answer, Command, command_octets, IsCommand, Life, life_of, answer_in, block_in, Settings, AreInRange, ContentFacts, ContentKept, kept_at_start, Heard, Sent, content_events, events_of_block, number_after, no_facts, answer_type_to, is_absent, names_absent, observation_of, ContentRule, Facts, Event, SentFrame, Machine, start, number_of, sending_refusal, after_sending, after_delivery_to_module, after_delivered_block, after_delivery_to_cpu, refusal, after, Leads, HasBlock, IsNotRestart, HaveNoRestart, blocks_in, CarriesBlockOf, number_of-fits, number_of-next, after_taken, in_order, same_round, after_delivery, IsKept, carries_own, kept_all, kept, frame_heard, frames_at, frames_from, due_after, IsPrompt, ArePrompt, IsWithinRanges, Block, items_of_block, item_numbered, ◌++◌, command_in, same_Some}
 use Rattle.fio_message.specs.declared.answers.Answer.TheVariants as answers
 use Rattle.fio_message.specs.declared.commands.Command.TheVariants as commands
-use Rattle.fio_message.specs.declared.commands.OtherCommand.TheVariants as other_commands
-use Rattle.fio_module.specs.Life as module_events
+use Rattle.fio_check.specs.ContentEvents.{number_with_command}
+use Rattle.fio_check.specs.Facts.{facts_with}
+use Rattle.fio_check.specs.Observations.{observation_of_command}
+use Rattle.fio_check.specs.declared.observation.Observation.{Observation}
 use Rattle.fio_check.specs.declared.observation.Observation.TheVariants as seen
 use Rattle.fio_link.specs.declared.event.Event.TheVariants as events
+use Rattle.fio_link.proofs.Events.{frame_at_place}
+use Rattle.fio_ends.specs.ContentRuns.{ContentNeverAccuses}
+use Rattle.fio_ends.specs.PromptRuns.{BeginsWithCommand}
 use Rattle.fio_ends.proofs.Heard.{IsHeardAs}
-use Rattle.fio_ends.proofs.Following.{Answers, Follows, IsBlockFor, IsReceived, Stage, facts_below, follows-start}
-use Rattle.fio_ends.proofs.Sends.{other_said, read_back, said_of}
+use Rattle.fio_ends.proofs.Following.{Answers, Follows, GoesOn, IsBlockFor, IsReceived, Keeps, Stage, facts_below, follows-start, from_after, goes_on-both, goes_on-same, may_begin}
+use Rattle.fio_ends.proofs.Sends.{other_said, read_back, said_of, sends-other, sends-poll}
 use Rattle.fio_ends.proofs.Hears.{block_said, no_block_said}
-use Rattle.fio_ends.proofs.PromptRuns.{keeps-event}
+use Rattle.fio_ends.proofs.PromptRuns.{ReachesLater, keeps-event, reaches}
 use Rattle.fio_ends.proofs.ContentLines.{FramesKeep, content_below, frames_keep, none_breaks}
-use Rattle.fio_ends.proofs.SourcesTaken.{adds, front_has_times, sources_with}
-use Rattle.fio_ends.proofs.ContentSteps.{IsInvariant, IsSentLast}
-use Rattle.fio_ends.proofs.ContentFrame.{Agrees, KeepsContent, agrees-below, agrees-start, block_events, is_other, now_sent, one_frame, own_poll}
+use Rattle.fio_ends.proofs.ContentSteps.{IsInvariant, IsKnown, IsSending}
+use Rattle.fio_ends.proofs.ContentFrame.{Agrees, KeepsContent, agrees-below, agrees-start, awaits_sent, block_events, number_stays, one_frame, sent_keeps}
 
 -- ---- an answer that is no block answer
 
--- it has no event, or it is heard that a configuration was taken
+-- its one event is that it is heard
 heard_events : (number : Option ℕ) (answer : Option Answer) (type : ℕ) (accepted : Bool) → observation_of None answer ≡ seen.Answer type accepted
-    → (number_after number None answer ≡ number)
-    × ((content_events number None answer ≡ []) ⊎ ((content_events number None answer ≡ Accepted ∷ []) × (type ≡ 179) × (accepted ≡ true)))
+    → (found : Answer) × (answer ≡ Some found) × (content_events number None answer ≡ Heard found ∷ []) × (number_after number None answer ≡ number)
 heard_events number None type accepted is = absurd (cc is)
 heard_events number (Some (answers.Block n entries status stamp)) type accepted is = absurd (cc is)
-heard_events number (Some (answers.ConfigureInputs status)) type accepted is = (refl, by_status (says_error status) refl)
-  where
-    by_status : (error : Bool) → says_error status ≡ error
-        → ((if says_error status then [] else Accepted ∷ []) ≡ [])
-        ⊎ (((if says_error status then [] else Accepted ∷ []) ≡ Accepted ∷ []) × (type ≡ 179) × (accepted ≡ true))
-    by_status true says = inl (ap (λ e. if e then [] else Accepted ∷ []) says)
-    by_status false says =
-        let same : seen.Answer 179 (not (says_error status)) ≡ seen.Answer type accepted = is in
-        inr (ap (λ e. if e then [] else Accepted ∷ []) says, cc same, cc (same, ap not says))
-heard_events number (Some other) type accepted is = (refl, inl refl)
+heard_events number (Some other) type accepted is = (other, refl, refl, refl)
 
-neither : (a b : Bool) → (a || b) ≡ false → (a ≡ false) × (b ≡ false)
-neither true b none = absurd (cc none)
-neither false b none = (refl, none)
+module _ (settings : Settings) (range : AreInRange settings) (first : ℕ) (begin : Machine) (rule : ContentRule)
+    (S : Type 0) (initial : S) (next : S → Machine → Event → S)
+    (Holds : S → Machine → List Event → Type 0) (P : S → Life → Machine → ContentFacts → Type 0)
+    (i : IsInvariant settings first begin rule S initial next Holds P) where
+  -- a command, by what its line says
+  sent : (state : S) (from : Life) (machine : Machine) (facts : Facts) (kept : ContentKept) (event : Event) (command : Command) (said : Observation)
+      → IsKnown settings first begin from machine → P state from machine kept.facts
+      → IsSending first machine event command → IsCommand command → observation_of_command command ≡ said
+      → ((number : ℕ) → (facts_with facts said).polled ≡ Some number → number_with_command kept.number command ≡ Some (number_of first machine.round))
+      → ((facts_with facts said).polled ≡ None → number_with_command kept.number command ≡ None)
+      → KeepsContent rule (P (next state machine event) (life_of machine.history)) first facts kept (record { from_cpu = true; octets = command_octets command } ∷ []) (after_sending machine command)
+  sent state from machine facts kept event command said known p may within says number unpolled =
+      let reads = read_back command within in
+      let frame : SentFrame = record { octets = command_octets command; round = machine.round } in
+      one_frame rule (P (next state machine event) (life_of machine.history)) first facts kept (record { from_cpu = true; octets = command_octets command }) (after_sending machine command)
+      said (number_with_command kept.number command) (Sent command ∷ [])
+      (said_of command within ∙ says)
+      (ap (λ read. number_after kept.number read None) reads)
+      (ap (λ read. content_events kept.number read None) reads)
+      (sent_keeps rule kept.facts command, tt) (i.sends state from machine kept.facts event command known may within p)
+      (record {
+        number = number;
+        unpolled = unpolled;
+        awaits = λ code other awaited last. awaits_sent kept.facts machine.to_module frame command other reads last;
+      })
 
--- a configuration that names no absent input
-all_there : (items : List InputItem) → list_any (λ item. is_absent item.input) items ≡ false → all_present items ≡ true
-all_there [] none = refl
-all_there (item ∷ items) none =
-    let parts = neither (is_absent item.input) (list_any (λ i. is_absent i.input) items) none in
-    let low : nat_lt item.input 64 ≡ true = let high : nat_le 64 item.input ≡ false = parts.0 in grind (arith, nat_tests) in
-    ap₂ (λ there others. there && others) low (all_there items parts.1)
+  numbered : (machine : Machine) (facts : Facts) (kept : ContentKept) → Agrees first machine facts kept → (polled : Option ℕ) → facts.polled ≡ polled
+      → (kept.number ≡ Some (number_of first machine.round)) ⊎ (kept.number ≡ None)
+  numbered machine facts kept a None is = inr (a.unpolled is)
+  numbered machine facts kept a (Some polled) is = inl (a.number polled is)
 
--- the command with an answer of this type is a configuration
-configured : (frames : List SentFrame) (command : Command) → answer_type_to command ≡ 179 → IsSentLast frames command → names_absent command ≡ false
-    → (items : ArrayVec InputItem) × IsSentLast frames (commands.ConfigureInputs items) × (all_present items.items ≡ true)
-configured frames (commands.ConfigureInputs items) is last none = (items, last, all_there items.items none)
-configured frames (commands.Other other_commands.TrackInputs body) is last none = absurd (omega (arith, is))
-configured frames (commands.Other other_commands.ComplexOutputs body) is last none = absurd (omega (arith, is))
-configured frames (commands.Other other_commands.ControllerId body) is last none = absurd (omega (arith, is))
-configured frames other is last none = absurd (omega (arith, is))
+  own_number : (machine : Machine) (kept : ContentKept) → (kept.number ≡ Some (number_of first machine.round)) ⊎ (kept.number ≡ None)
+      → number_with_command kept.number (commands.Poll (number_of first machine.round)) ≡ Some (number_of first machine.round)
+  own_number machine kept (inl is) = rw is refl
+  own_number machine kept (inr none) = rw none refl
 
-module _ (settings : Settings) (range : AreInRange settings) (first : ℕ) (rule : ContentRule)
-    (P : Machine → ContentFacts → Type 0) (i : IsInvariant settings first rule P) where
-  module _ (machine : Machine) (due : ℕ) (facts : Facts) (kept : ContentKept) (k : IsKept settings first machine)
-      (f : Follows settings first machine due facts) (a : Agrees first machine facts kept) (p : P machine kept.facts) where
-    -- an event without a frame
-    no_frame : (later : Machine) → later.round ≡ machine.round → later.to_module ≡ machine.to_module → P later kept.facts
-        → KeepsContent rule P first facts kept [] later
-    no_frame later round frames holds =
-        record { keep = tt; holds = holds; agrees = agrees-below first machine later facts kept round frames a }
-
-    numbered : (polled : Option ℕ) → facts.polled ≡ polled
-        → (kept.number ≡ Some (number_of first machine.round)) ⊎ (kept.number ≡ None)
-    numbered None is = inr (a.unpolled is)
-    numbered (Some polled) is = inl (a.number polled is)
-
+  module _ (state : S) (from : Life) (machine : Machine) (facts : Facts) (kept : ContentKept) (known : IsKnown settings first begin from machine)
+      (a : Agrees first machine facts kept) (p : P state from machine kept.facts) where
     content-poll : let number = number_of first machine.round in
-        KeepsContent rule P first facts kept (record { from_cpu = true; octets = command_octets (commands.Poll number) } ∷ [])
+        KeepsContent rule (P (next state machine events.Poll) (life_of machine.history)) first facts kept (record { from_cpu = true; octets = command_octets (commands.Poll number) } ∷ [])
         (after_sending machine (commands.Poll number))
     content-poll =
         let number = number_of first machine.round in
-        let command : Command = commands.Poll number in
         let fits : number < 256 = omega (arith, number_of-fits first machine.round) in
-        let reads = read_back command fits in
-        let own = own_poll kept.number number (numbered facts.polled refl) in
-        one_frame rule P first facts kept (record { from_cpu = true; octets = command_octets command }) (after_sending machine command)
-        (seen.Poll number) (Some number) (Polled ∷ []) (said_of command fits)
-        (ap (λ read. number_after kept.number read None) reads ∙ own.1)
-        (ap (λ read. content_events kept.number read None) reads ∙ own.0)
-        (tt, tt) (i.polls machine kept.facts k p)
-        (record {
-          number = λ polled is. refl;
-          unpolled = λ is. absurd (cc is);
-          asking = λ is. refl;
-          awaited = λ type is. record { command = command; sent_last = now_sent machine command reads; of_type = same_Some _ _ is; named = refl };
-        })
+        sent state from machine facts kept events.Poll (commands.Poll number) (seen.Poll number) known p refl fits refl
+        (λ polled is. own_number machine kept (numbered machine facts kept a facts.polled refl)) (λ is. absurd (cc is))
 
     content-send : (command : Command) → sending_refusal command ≡ None → IsCommand command
-        → KeepsContent rule P first facts kept (record { from_cpu = true; octets = command_octets command } ∷ []) (after_sending machine command)
+        → KeepsContent rule (P (next state machine (events.Send command)) (life_of machine.history)) first facts kept (record { from_cpu = true; octets = command_octets command } ∷ []) (after_sending machine command)
     content-send command fine within =
-        let reads = read_back command within in
-        let o = is_other rule kept command fine in
-        one_frame rule P first facts kept (record { from_cpu = true; octets = command_octets command }) (after_sending machine command)
-        (seen.Command (answer_type_to command) (names_absent command)) kept.number (events_of_command None command)
-        (said_of command within ∙ other_said command fine)
-        (ap (λ read. number_after kept.number read None) reads ∙ o.number)
-        (ap (λ read. content_events kept.number read None) reads ∙ o.events)
-        o.keep (i.sends machine kept.facts command k fine within p)
-        (record {
-          number = a.number;
-          unpolled = a.unpolled;
-          asking = λ is. absurd (o.no_poll (same_Some _ _ is));
-          awaited = λ type is. record { command = command; sent_last = now_sent machine command reads; of_type = same_Some _ _ is; named = refl };
-        })
+        let stays = number_stays kept.number command fine in
+        sent state from machine facts kept (events.Send command) command (seen.Command (answer_type_to command) (names_absent command)) known p (refl, fine) within (other_said command fine)
+        (λ polled is. stays ∙ a.number polled is) (λ is. stays ∙ a.unpolled is)
+
+  module _ (state : S) (from : Life) (machine : Machine) (due : ℕ) (facts : Facts) (kept : ContentKept) (known : IsKnown settings first begin from machine)
+      (f : Follows settings first from machine due facts) (a : Agrees first machine facts kept) (p : P state from machine kept.facts) where
+    abbrev k : IsKept settings first machine
+    k = known.is_kept
+
+    abbrev now : Life
+    now = life_of machine.history
+
+    -- an event without a frame
+    no_frame : (state_then : S) (later : Machine) → later.round ≡ machine.round → later.to_module ≡ machine.to_module → P state_then from later kept.facts
+        → KeepsContent rule (P state_then from) first facts kept [] later
+    no_frame state_then later round frames holds =
+        record { keep = tt; holds = holds; agrees = agrees-below first machine later facts kept round frames a }
 
     -- what is to be shown of an answer that is heard
-    abbrev Hears : List ℕ → Machine → Type 0
-    Hears octets later = HaveTimesFor rule (sources_taken settings later)
-        → KeepsContent rule P first facts kept (record { from_cpu = false; octets = octets } ∷ []) later
+    abbrev Hears : ℕ → List ℕ → Machine → Type 0
+    Hears place octets later = (rest : List Event) → Holds state machine (events.ToCpu (place + 1) ∷ rest)
+        → KeepsContent rule (P (next state machine (events.ToCpu (place + 1))) now) first facts kept (record { from_cpu = false; octets = octets } ∷ []) later
 
-    hears_other : (command : Command) (place : ℕ) (octets : List ℕ)
-        → IsReceived first facts machine.to_module machine.to_cpu machine.last_to_module machine.round due command
-        → IsHeardAs command octets
-        → Hears octets (after_delivered_block first (record machine { last_to_cpu = place + 1 }) (block_in octets))
-    hears_other command place octets r h =
+    abbrev Received : Command → Type 0
+    Received command = IsReceived settings first from now facts machine.to_module machine.to_cpu machine.last_to_module machine.round due command
+
+    hears_other : (command : Command) (place : ℕ) (frame : SentFrame) → slice_get machine.to_cpu place ≡ Some frame → (r : Received command)
+        → IsHeardAs settings r.life command frame.octets
+        → Hears place frame.octets (after_delivered_block first (record machine { last_to_cpu = place + 1 }) (block_in frame.octets))
+    hears_other command place frame at r h =
+        let octets = frame.octets in
         let later = record machine { last_to_cpu = place + 1 } in
         let type = answer_type_to command in
         let none : block_in octets ≡ None = no_block_said (answer_in octets) type h.accepted h.heard in
         let found = heard_events kept.number (answer_in octets) type h.accepted h.heard in
-        subst (λ found. Hears octets (after_delivered_block first later found)) (sym none) (λ times.
-        elim found.1 as (λ _. KeepsContent rule P first facts kept (record { from_cpu = false; octets = octets } ∷ []) later) [
-          | inl quiet ↦
-              one_frame rule P first facts kept (record { from_cpu = false; octets = octets }) later (seen.Answer type h.accepted)
-              kept.number [] h.heard found.0 quiet tt (i.passes machine kept.facts (place + 1) k p)
-              (record { number = a.number; unpolled = a.unpolled; asking = λ is. absurd (cc is); awaited = λ type is. absurd (cc is) })
-          | inr taken ↦
-              let w = a.awaited type r.asked.awaited in
-              let named : names_absent command ≡ false = ap (λ accepted. accepted && names_absent command) (sym taken.2) ∙ h.fair in
-              let c = configured machine.to_module w.command (w.of_type ∙ taken.1) w.sent_last (sym w.named ∙ r.asked.named ∙ named) in
-              one_frame rule P first facts kept (record { from_cpu = false; octets = octets }) later (seen.Answer type h.accepted)
-              kept.number (Accepted ∷ []) h.heard found.0 taken.0 (tt, tt)
-              (i.accepts machine kept.facts (place + 1) c.0 k (record { sent_last = c.1; received = r.all; present = c.2 }) p)
-              (record { number = a.number; unpolled = a.unpolled; asking = λ is. absurd (cc is); awaited = λ type is. absurd (cc is) })
-        ])
+        subst (λ found. Hears place octets (after_delivered_block first later found)) (sym none) (λ rest holds.
+        let step = i.hears state from machine kept.facts place rest command found.0 known
+        (record {
+          sent_last = r.sent_last;
+          received = r.all;
+          life = r.life;
+          goes_on = r.goes_on;
+          since = r.since;
+          awaits = a.awaits type command r.asked.awaited r.sent_last;
+          frame = frame;
+          at_place = at;
+          spells = found.1;
+          heard_as = h;
+        }) holds p in
+        one_frame rule (P (next state machine (events.ToCpu (place + 1))) now) first facts kept (record { from_cpu = false; octets = octets }) later (seen.Answer type h.accepted)
+        kept.number (Heard found.0 ∷ []) h.heard found.3 found.2 (step.0, tt) step.1
+        (record { number = a.number; unpolled = a.unpolled; awaits = λ code command is. absurd (cc is) }))
 
     hears_block : (number : ℕ) (place : ℕ) (frame : SentFrame) → slice_get machine.to_cpu place ≡ Some frame → machine.last_to_cpu ≤ place + 1
-        → IsReceived first facts machine.to_module machine.to_cpu machine.last_to_module machine.round due (commands.Poll number)
-        → IsBlockFor facts number frame.octets
-        → Hears frame.octets (after_delivered_block first (record machine { last_to_cpu = place + 1 }) (block_in frame.octets))
+        → (r : Received (commands.Poll number))
+        → IsBlockFor facts r.life number frame.octets
+        → Hears place frame.octets (after_delivered_block first (record machine { last_to_cpu = place + 1 }) (block_in frame.octets))
     hears_block number place frame at le r h =
         let b = h.block in
         let own = number_of first machine.round in
@@ -152,99 +144,223 @@ module _ (settings : Settings) (range : AreInRange settings) (first : ℕ) (rule
         let has : HasBlock machine.to_cpu place b frame.round =
         record { frame = frame; at_place = at; spells = h.spells; of_round = refl } in
         let alike : b.number ≡ own = h.numbered ∙ polled.1 in
-        let same = same_round settings range first machine k.always place b frame.round le has alike in
+        let same = same_round first machine (in_order settings first machine k.always) place b frame.round le has alike in
         let c : CarriesBlockOf first blocks b machine.round =
         subst (CarriesBlockOf first blocks b) same (carries_own settings range first machine k.always k.one_life place b frame.round has) in
         let met : (b.number == own) ≡ true = grind (arith, nat_tests) in
         let taken : after_delivered_block first (record machine { last_to_cpu = place + 1 }) (block_in frame.octets) ≡ after_taken machine place b =
         ap (after_delivered_block first (record machine { last_to_cpu = place + 1 })) h.spells
         ∙ ap (λ is. if is then after_taken machine place b else record machine { last_to_cpu = place + 1 }) met in
-        let known : kept.number ≡ Some own = a.number number polled.0 in
+        let known_number : kept.number ≡ Some own = a.number number polled.0 in
         let found = block_events own (answer_in frame.octets) b h.spells alike in
-        subst (Hears frame.octets) (sym taken) (λ times.
-        (let takes = i.takes machine kept.facts place b c.block k
-        (record { heard = subst (HasBlock machine.to_cpu place b) same has; made = c.is_made; carried = c.carried })
-        (a.asking r.asked.awaited)
-        (subst (HaveTimesFor rule) (sources_with settings machine place b c.block c.is_made) times) p in
-        one_frame rule P first facts kept (record { from_cpu = false; octets = frame.octets }) (after_taken machine place b)
+        subst (Hears place frame.octets) (sym taken) (λ rest holds.
+        (let takes = i.takes state from machine kept.facts place rest number b c.block known
+        (record {
+          sent_last = r.sent_last;
+          received = r.all;
+          life = r.life;
+          goes_on = r.goes_on;
+          since = r.since;
+          fresh = h.fresh;
+          heard = subst (HasBlock machine.to_cpu place b) same has;
+          made = c.is_made;
+          carried = c.carried;
+          after_is = ap (after_delivery_to_cpu first machine (place + 1)) (frame_at_place machine.to_cpu place ∙ at) ∙ taken;
+        })
+        holds p in
+        one_frame rule (P (next state machine (events.ToCpu (place + 1))) now) first facts kept (record { from_cpu = false; octets = frame.octets }) (after_taken machine place b)
         (seen.Block b.number b.status (length b.entries) (list_any (λ entry. is_absent entry.input) b.entries))
         (Some ((own + 1) % 256)) (events_of_block b) (block_said (answer_in frame.octets) b h.spells)
-        (ap (λ n. number_after n None (answer_in frame.octets)) known ∙ found.1)
-        (ap (λ n. content_events n None (answer_in frame.octets)) known ∙ found.0)
+        (ap (λ n. number_after n None (answer_in frame.octets)) known_number ∙ found.1)
+        (ap (λ n. content_events n None (answer_in frame.octets)) known_number ∙ found.0)
         takes.0 takes.1
         (record {
           number = λ polled is. ap Some (sym (number_of-next first machine.round));
           unpolled = λ is. absurd (cc (is, polled.0));
-          asking = λ is. absurd (cc is);
-          awaited = λ type is. absurd (cc is);
+          awaits = λ code command is. absurd (cc is);
         })))
 
     hears : (command : Command) (place : ℕ) (frame : SentFrame) → slice_get machine.to_cpu place ≡ Some frame → machine.last_to_cpu ≤ place + 1
-        → IsReceived first facts machine.to_module machine.to_cpu machine.last_to_module machine.round due command
-        → Answers facts command frame.octets
-        → Hears frame.octets (after_delivery_to_cpu first machine (place + 1) (Some frame))
+        → (r : Received command)
+        → Answers settings facts r.life command frame.octets
+        → Hears place frame.octets (after_delivery_to_cpu first machine (place + 1) (Some frame))
     hears (commands.Poll number) place frame at le r h = hears_block number place frame at le r h
-    hears other place frame at le r h = hears_other other place frame.octets r h
+    hears other place frame at le r h = hears_other other place frame at r h
 
     hears_due : (place : ℕ) (frame : SentFrame) → slice_get machine.to_cpu place ≡ Some frame
-        → machine.last_to_cpu < place + 1 → place + 1 ≡ due → Stage first facts machine due
-        → Hears frame.octets (after_delivery_to_cpu first machine (place + 1) (Some frame))
+        → machine.last_to_cpu < place + 1 → place + 1 ≡ due → Stage settings first from facts machine due
+        → Hears place frame.octets (after_delivery_to_cpu first machine (place + 1) (Some frame))
     hears_due place frame at new is (inl quiet) = absurd (omega (arith, quiet.past))
     hears_due place frame at new is (inr (inl u)) = absurd (omega (arith, u.1.none_due))
     hears_due place frame at new is (inr (inr (command, r))) =
         let here : place ≡ r.place = (let e : due ≡ r.place + 1 = r.due_is in omega arith) in
         hears command place frame at (omega arith) r (r.answer frame (ap (slice_get machine.to_cpu) (sym here) ∙ at))
 
+    -- the frame sent last is read as a command
+    last_reads : (place : ℕ) (frame : SentFrame) → machine.last_to_module < place + 1 → slice_get machine.to_module place ≡ Some frame
+        → Stage settings first from facts machine due → place + 1 ≡ length machine.to_module → (command : Command) × (command_in frame.octets ≡ Some command)
+    last_reads place frame new at (inl quiet) last = absurd (omega (arith, quiet.all))
+    last_reads place frame new at (inr (inr received)) last = absurd (omega (arith, received.1.all))
+    last_reads place frame new at (inr (inl (command, u))) last =
+        let here : u.place ≡ place = omega (arith, u.sent_last) in
+        let is : u.frame ≡ frame = same_Some _ _ (sym u.at_place ∙ ap (slice_get machine.to_module) here ∙ at) in
+        (command, ap (λ (s : SentFrame). command_in s.octets) (sym is) ∙ u.spells)
+
     -- each event keeps the invariant
     content-event : (event : Event) → refusal machine event ≡ None → IsNotRestart event → IsWithinRanges event → IsPrompt machine due event
-        → HaveTimesFor rule (sources_taken settings (after settings first machine event))
-        → KeepsContent rule P first facts kept (frames_at first machine event) (after settings first machine event)
-    content-event (events.Scan raw) fine none within prompt times =
-        no_frame (after_module_event machine (module_events.Scan raw)) refl refl (i.happens machine kept.facts (module_events.Scan raw) k tt p)
-    content-event events.LineSync fine none within prompt times =
-        no_frame (after_module_event machine module_events.LineSync) refl refl (i.happens machine kept.facts module_events.LineSync k tt p)
-    content-event (events.Raise mask) fine none within prompt times =
-        no_frame (after_module_event machine (module_events.Raise mask)) refl refl (i.happens machine kept.facts (module_events.Raise mask) k tt p)
-    content-event events.Restart fine none within prompt times = absurd none
-    content-event events.Poll fine none within prompt times = content-poll
-    content-event (events.Send command) fine none within prompt times = content-send command fine within
-    content-event (events.ToModule index) fine none within prompt times =
-        after_delivery (λ n found. machine.last_to_module < n → KeepsContent rule P first facts kept [] (after_delivery_to_module settings machine n found))
+        → (rest : List Event) → Holds state machine (event ∷ rest)
+        → KeepsContent rule (P (next state machine event) (from_after machine from event)) first facts kept (frames_at first machine event) (after settings first machine event)
+    content-event (events.Scan raw) fine none within prompt rest holds =
+        no_frame (next state machine (events.Scan raw)) (after settings first machine (events.Scan raw)) refl refl (i.happens state from machine kept.facts (events.Scan raw) rest known tt holds p)
+    content-event events.LineSync fine none within prompt rest holds =
+        no_frame (next state machine events.LineSync) (after settings first machine events.LineSync) refl refl (i.happens state from machine kept.facts events.LineSync rest known tt holds p)
+    content-event (events.Raise mask) fine none within prompt rest holds =
+        no_frame (next state machine (events.Raise mask)) (after settings first machine (events.Raise mask)) refl refl (i.happens state from machine kept.facts (events.Raise mask) rest known tt holds p)
+    content-event events.Restart fine none within prompt rest holds = absurd none
+    content-event events.Poll fine none within prompt rest holds = content-poll state from machine facts kept known a p
+    content-event (events.Send command) fine none within prompt rest holds = content-send state from machine facts kept known a p command fine within
+    content-event (events.ToModule index) fine none within prompt rest holds =
+        after_delivery (λ n found. machine.last_to_module < n
+        → KeepsContent rule (P (next state machine (events.ToModule n)) from) first facts kept [] (after_delivery_to_module settings machine n found))
         machine.to_module machine.last_to_module index fine
-        (λ place frame le at new. no_frame (after_delivery_to_module settings machine (place + 1) (Some frame)) refl refl
-        (i.receives machine kept.facts place frame k new at p)) prompt
-    content-event (events.ToCpu index) fine none within prompt times =
-        after_delivery (λ n found. machine.last_to_cpu < n → n ≡ due → HaveTimesFor rule (sources_taken settings (after_delivery_to_cpu first machine n found))
-        → KeepsContent rule P first facts kept (frame_heard found) (after_delivery_to_cpu first machine n found))
+        (λ place frame le at new. no_frame (next state machine (events.ToModule (place + 1))) (after_delivery_to_module settings machine (place + 1) (Some frame)) refl refl
+        (i.receives state from machine kept.facts place frame known new at (last_reads place frame new at f.stage) p)) prompt
+    content-event (events.ToCpu index) fine none within prompt rest holds =
+        after_delivery (λ n found. machine.last_to_cpu < n → n ≡ due → (rest : List Event) → Holds state machine (events.ToCpu n ∷ rest)
+        → KeepsContent rule (P (next state machine (events.ToCpu n)) now) first facts kept (frame_heard found) (after_delivery_to_cpu first machine n found))
         machine.to_cpu machine.last_to_cpu index fine
-        (λ place frame le at new is. hears_due place frame at new is f.stage) prompt.0 prompt.1 times
+        (λ place frame le at new is. hears_due place frame at new is f.stage) prompt.0 prompt.1 rest holds
+
+  -- what is known stays so
+  begun_after : (from : Life) (machine : Machine) (event : Event) → GoesOn (life_of begin.history) from → GoesOn from (life_of machine.history) → GoesOn (life_of begin.history) (from_after machine from event)
+  begun_after from machine events.Poll begun now = goes_on-both (life_of begin.history) from (life_of machine.history) begun now
+  begun_after from machine (events.Send command) begun now = goes_on-both (life_of begin.history) from (life_of machine.history) begun now
+  begun_after from machine (events.ToCpu index) begun now = goes_on-both (life_of begin.history) from (life_of machine.history) begun now
+  begun_after from machine (events.Scan raw) begun now = begun
+  begun_after from machine events.LineSync begun now = begun
+  begun_after from machine (events.Raise mask) begun now = begun
+  begun_after from machine (events.ToModule index) begun now = begun
+  begun_after from machine events.Restart begun now = begun
+
+  round_heard : (machine : Machine) (index : ℕ) (found : Option SentFrame) → machine.round ≤ (after_delivery_to_cpu first machine index found).round
+  round_heard machine index None = omega arith
+  round_heard machine index (Some frame) = by_block (block_in frame.octets)
+    where
+      by_number : (same : Bool) (block : Block)
+          → machine.round ≤ (if same then (record machine { last_to_cpu = index; round = machine.round + 1; items = machine.items ++ items_of_block block }) else (record machine { last_to_cpu = index })).round
+      by_number true block = omega arith
+      by_number false block = omega arith
+
+      by_block : (block : Option Block) → machine.round ≤ (after_delivered_block first (record machine { last_to_cpu = index }) block).round
+      by_block None = omega arith
+      by_block (Some block) = by_number (block.number == number_of first machine.round) block
+
+  round_received : (machine : Machine) (index : ℕ) (found : Option SentFrame) → machine.round ≤ (after_delivery_to_module settings machine index found).round
+  round_received machine index None = omega arith
+  round_received machine index (Some frame) = omega arith
+
+  rounds_after : (machine : Machine) (event : Event) → begin.round ≤ machine.round → begin.round ≤ (after settings first machine event).round
+  rounds_after machine (events.ToCpu index) low = omega (arith, round_heard machine index (item_numbered machine.to_cpu index))
+  rounds_after machine (events.ToModule index) low = omega (arith, round_received machine index (item_numbered machine.to_module index))
+  rounds_after machine events.Poll low = low
+  rounds_after machine (events.Send command) low = low
+  rounds_after machine (events.Scan raw) low = low
+  rounds_after machine events.LineSync low = low
+  rounds_after machine (events.Raise mask) low = low
+  rounds_after machine events.Restart low = low
 
   -- so all events do
-  all_keep_content : (events : List Event) (machine last : Machine) (due : ℕ) (facts : Facts) (kept : ContentKept) → IsKept settings first machine
-      → Follows settings first machine due facts → Agrees first machine facts kept → P machine kept.facts
-      → Leads settings first machine events last → HaveNoRestart events → AllByRecursion IsWithinRanges events
-      → ArePrompt settings first machine due events → HaveTimesFor rule (sources_taken settings last)
-      → FramesKeep rule kept (frames_from settings first machine events)
-  all_keep_content [] machine last due facts kept k f a p leads none within prompt times = tt
-  all_keep_content (event ∷ events) machine last due facts kept k f a p leads none within prompt times =
+  all_keep_content : (state : S) (later : List Event) (from : Life) (machine last : Machine) (due : ℕ) (facts : Facts) (kept : ContentKept) → IsKnown settings first begin from machine
+      → Follows settings first from machine due facts → Agrees first machine facts kept → P state from machine kept.facts
+      → Leads settings first machine later last → HaveNoRestart later → AllByRecursion IsWithinRanges later
+      → ArePrompt settings first machine due later → Holds state machine later
+      → FramesKeep rule kept (frames_from settings first machine later)
+  all_keep_content state [] from machine last due facts kept known f a p leads none within prompt holds = tt
+  all_keep_content state (event ∷ later) from machine last due facts kept known f a p leads none within prompt holds =
       let frames = frames_at first machine event in
-      let next = after settings first machine event in
-      let here = keeps-event settings range first machine due facts k f event leads.0 none.0 within.0 prompt.0 in
-      let now : IsKept settings first next = kept_all settings range first (event ∷ []) machine next (none.0, tt) (leads.0, refl) k in
-      let more = adds settings range first next events last now none.1 leads.1 in
-      let in_time = front_has_times rule (sources_taken settings next) more.0 (subst (HaveTimesFor rule) more.1 times) in
-      let content = content-event machine due facts kept k f a p event leads.0 none.0 within.0 prompt.0 in_time in
-      frames_keep rule kept frames (frames_from settings first next events) content.keep
-      (all_keep_content events next last (due_after machine due event) (facts_below facts frames) (content_below kept frames)
-      now here.follows content.agrees content.holds leads.1 none.1 within.1 prompt.1 times)
+      let next_machine = after settings first machine event in
+      let here = keeps-event settings range first from machine due facts known.is_kept f event leads.0 none.0 within.0 prompt.0 in
+      let now : IsKept settings first next_machine = kept_all settings range first (event ∷ []) machine next_machine (none.0, tt) (leads.0, refl) known.is_kept in
+      let content = content-event state from machine due facts kept known f a p event leads.0 none.0 within.0 prompt.0 later holds in
+      frames_keep rule kept frames (frames_from settings first next_machine later) content.keep
+      (all_keep_content (next state machine event) later (from_after machine from event) next_machine last (due_after machine due event) (facts_below facts frames) (content_below kept frames)
+      (record {
+        is_kept = now;
+        begun = begun_after from machine event known.begun known.now;
+        rounds = rounds_after machine event known.rounds;
+        now = here.follows.now;
+      })
+      here.follows content.agrees content.holds leads.1 none.1 within.1 prompt.1 (i.goes_on state machine event later holds))
 
--- a rule with an invariant never accuses
-pub content_never_accuses : (rule : ContentRule) (P : Settings → ℕ → Machine → ContentFacts → Type 0)
-    → ((settings : Settings) (first : ℕ) → AreInRange settings → IsInvariant settings first rule (P settings first))
-    → ContentNeverAccuses rule
-content_never_accuses rule P invariant settings first events machine range run times lines has =
-    let i = invariant settings first range in
-    none_breaks rule lines (subst (FramesKeep rule nothing_kept) (sym has)
-    (all_keep_content settings range first rule (P settings first) i events start machine 0 no_facts nothing_kept
-    (kept settings range first [] start refl tt) (follows-start settings first) (agrees-start first) i.starts
-    run.is_run run.no_restart run.within run.prompt times))
+  -- a command with which a log begins, and what is below it
+  first_keeps : (event : Event) (later : List Event) (last : Machine) (r : ReachesLater settings range first begin last (event ∷ later))
+      → Holds initial begin (event ∷ later)
+      → from_after begin r.from event ≡ life_of begin.history
+      → Keeps settings first (from_after begin r.from event) no_facts (frames_at first begin event) (after settings first begin event) (due_after begin r.due event)
+      → KeepsContent rule (P (next initial begin event) (from_after begin r.from event)) first no_facts (kept_at_start false) (frames_at first begin event) (after settings first begin event)
+      → FramesKeep rule (kept_at_start false) (frames_from settings first begin (event ∷ later))
+  first_keeps event later last r holds same here content =
+      let frames = frames_at first begin event in
+      let next_machine = after settings first begin event in
+      let now : IsKept settings first next_machine = kept_all settings range first (event ∷ []) begin next_machine (r.no_restart.0, tt) (r.leads.0, refl) r.is_kept in
+      frames_keep rule (kept_at_start false) frames (frames_from settings first next_machine later) content.keep
+      (all_keep_content (next initial begin event) later (from_after begin r.from event) next_machine last (due_after begin r.due event) (facts_below no_facts frames) (content_below (kept_at_start false) frames)
+      (record {
+        is_kept = now;
+        begun = goes_on-same (life_of begin.history) (from_after begin r.from event) same;
+        rounds = rounds_after begin event (omega arith);
+        now = here.follows.now;
+      })
+      here.follows content.agrees content.holds r.leads.1 r.no_restart.1 r.within.1 r.prompt.1 (i.goes_on initial begin event later holds))
+
+  known_first : IsKept settings first begin → IsKnown settings first begin (life_of begin.history) begin
+  known_first k = record {
+    is_kept = k;
+    begun = record { more = []; is = refl };
+    rounds = omega arith;
+    now = record { more = []; is = refl };
+  }
+
+  later_keeps : (later : List Event) (last : Machine) → BeginsWithCommand later → ReachesLater settings range first begin last later
+      → Holds initial begin later → FramesKeep rule (kept_at_start false) (frames_from settings first begin later)
+  later_keeps [] last begins r holds = absurd begins
+  later_keeps (events.Poll ∷ later) last begins r holds =
+      let known = known_first r.is_kept in
+      first_keeps events.Poll later last r holds refl
+      (sends-poll settings first begin no_facts (may_begin settings first r.from begin r.due r.facts r.follows))
+      (content-poll initial (life_of begin.history) begin no_facts (kept_at_start false) known (agrees-start first begin) (i.begins known))
+  later_keeps (events.Send command ∷ later) last begins r holds =
+      let known = known_first r.is_kept in
+      first_keeps (events.Send command) later last r holds refl
+      (sends-other settings first begin no_facts (may_begin settings first r.from begin r.due r.facts r.follows) command r.leads.0 r.within.0)
+      (content-send initial (life_of begin.history) begin no_facts (kept_at_start false) known (agrees-start first begin) (i.begins known) command r.leads.0 r.within.0)
+  later_keeps (other ∷ later) last begins r holds = absurd begins
+
+-- a rule with an invariant never accuses, where this holds of a log; what it reads of the events above may depend on the settings
+pub never_accuses_with : (rule : ContentRule) (S : Type 0) (initial : S) (next : Settings → S → Machine → Event → S)
+    (Premise : Settings → ℕ → Machine → List Event → Machine → Type 0)
+    (Holds : Settings → ℕ → Machine → S → Machine → List Event → Type 0) (P : Settings → ℕ → Machine → S → Life → Machine → ContentFacts → Type 0)
+    → ((settings : Settings) (first : ℕ) (machine last : Machine) (later : List Event) → AreInRange settings → IsKept settings first machine
+    → HaveNoRestart later → Leads settings first machine later last → Premise settings first machine later last
+    → Holds settings first machine initial machine later)
+    → ((settings : Settings) (first : ℕ) (begin : Machine) → AreInRange settings
+    → IsInvariant settings first begin rule S initial (next settings) (Holds settings first begin) (P settings first begin))
+    → ContentNeverAccuses rule Premise
+never_accuses_with rule S initial next Premise Holds P premises invariant settings first before later machine last range run leads begins premise lines has =
+    let r = reaches settings range first before later [] start machine last 0 no_facts (kept settings range first [] start refl tt) (follows-start settings first)
+    leads run.is_run run.no_restart run.within run.prompt in
+    none_breaks rule lines (subst (FramesKeep rule (kept_at_start false)) (sym has)
+    (later_keeps settings range first machine rule S initial (next settings) (Holds settings first machine) (P settings first machine) (invariant settings first machine range) later last begins r
+    (premises settings first machine last later range r.is_kept r.no_restart r.leads premise)))
+
+-- where it does not
+pub content_never_accuses : (rule : ContentRule) (S : Type 0) (initial : S) (next : S → Machine → Event → S)
+    (Premise : Settings → ℕ → Machine → List Event → Machine → Type 0)
+    (Holds : Settings → ℕ → Machine → S → Machine → List Event → Type 0) (P : Settings → ℕ → Machine → S → Life → Machine → ContentFacts → Type 0)
+    → ((settings : Settings) (first : ℕ) (machine last : Machine) (later : List Event) → AreInRange settings → IsKept settings first machine
+    → HaveNoRestart later → Leads settings first machine later last → Premise settings first machine later last
+    → Holds settings first machine initial machine later)
+    → ((settings : Settings) (first : ℕ) (begin : Machine) → AreInRange settings
+    → IsInvariant settings first begin rule S initial next (Holds settings first begin) (P settings first begin))
+    → ContentNeverAccuses rule Premise
+content_never_accuses rule S initial next = never_accuses_with rule S initial (λ settings. next)

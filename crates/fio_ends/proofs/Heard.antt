@@ -9,10 +9,19 @@ use Rattle.fio_check.specs.declared.observation.Observation.TheVariants as seen
 
 -- the octets are heard as an answer of the command's type, which does not say that a configuration was
 -- taken that names an absent input
-pub record IsHeardAs (command : Command) (octets : List ℕ) : Type 0 where
+pub record IsSaidAs (command : Command) (octets : List ℕ) : Type 0 where
   pub accepted : Bool
   pub heard : observation_in false octets ≡ seen.Answer (answer_type_to command) accepted
   pub fair : (accepted && names_absent command) ≡ false
+
+-- the same, and the octets are those of the module's answer to the command after this life
+pub record IsHeardAs (settings : Settings) (life : Life) (command : Command) (octets : List ℕ) : Type 0 where
+  pub accepted : Bool
+  pub heard : observation_in false octets ≡ seen.Answer (answer_type_to command) accepted
+  pub fair : (accepted && names_absent command) ≡ false
+  pub answer : Answer
+  pub replies : answer_to settings life command ≡ Some answer
+  pub spells : octets ≡ answer_octets answer
 
 -- of an input that is there, or not
 pub present-if : (there : Bool) (input : ℕ) → nat_lt input 64 ≡ there → nat_le 64 input ≡ not there
@@ -39,39 +48,53 @@ accepted_is : (applied : Bool) → not (says_error (error_status (not applied)))
 accepted_is true = ap not (error_back false)
 accepted_is false = ap not (error_back true)
 
--- octets are heard so where they spell such an answer
-pub heard_as : (settings : Settings) (life : Life) (command : Command) (answer : Answer) → polled_number (Some command) ≡ None
-    → answer_to settings life command ≡ Some answer → IsHeardAs command (answer_octets answer)
+-- octets are said so where they spell such an answer
+said_as : (settings : Settings) (life : Life) (command : Command) (answer : Answer) → polled_number (Some command) ≡ None
+    → answer_to settings life command ≡ Some answer → IsSaidAs command (answer_octets answer)
 unfolding message_in
-heard_as settings life (commands.Poll number) answer none is = absurd (cc none)
-heard_as settings life (commands.Other kind body) answer none is = absurd (cc is)
-heard_as settings life (commands.ConfigureInputs items) answer none is =
+said_as settings life (commands.Poll number) answer none is = absurd (cc none)
+said_as settings life (commands.Other kind body) answer none is = absurd (cc is)
+said_as settings life (commands.ConfigureInputs items) answer none is =
     let applied = all_present items.items in
-    subst (λ a. IsHeardAs (commands.ConfigureInputs items) (answer_octets a)) (same_Some _ _ is)
+    subst (λ a. IsSaidAs (commands.ConfigureInputs items) (answer_octets a)) (same_Some _ _ is)
     (record {
       accepted = not (says_error (error_status (not applied)));
       heard = refl;
       fair = ap (λ accepted. accepted && names_absent (commands.ConfigureInputs items)) (accepted_is applied)
           ∙ present_or_absent items.items;
     })
-heard_as settings life (commands.Status clear) answer none is =
-    subst (λ a. IsHeardAs (commands.Status clear) (answer_octets a)) (same_Some _ _ is)
+said_as settings life (commands.Status clear) answer none is =
+    subst (λ a. IsSaidAs (commands.Status clear) (answer_octets a)) (same_Some _ _ is)
     (record { accepted = false; heard = refl; fair = refl })
-heard_as settings life (commands.LoadCounter load) answer none is =
-    subst (λ a. IsHeardAs (commands.LoadCounter load) (answer_octets a)) (same_Some _ _ is)
+said_as settings life (commands.LoadCounter load) answer none is =
+    subst (λ a. IsSaidAs (commands.LoadCounter load) (answer_octets a)) (same_Some _ _ is)
     (record { accepted = false; heard = refl; fair = refl })
-heard_as settings life commands.RawInputs answer none is =
-    subst (λ a. IsHeardAs commands.RawInputs (answer_octets a)) (same_Some _ _ is)
+said_as settings life commands.RawInputs answer none is =
+    subst (λ a. IsSaidAs commands.RawInputs (answer_octets a)) (same_Some _ _ is)
     (record { accepted = false; heard = refl; fair = refl })
-heard_as settings life commands.FilteredInputs answer none is =
-    subst (λ a. IsHeardAs commands.FilteredInputs (answer_octets a)) (same_Some _ _ is)
+said_as settings life commands.FilteredInputs answer none is =
+    subst (λ a. IsSaidAs commands.FilteredInputs (answer_octets a)) (same_Some _ _ is)
     (record { accepted = false; heard = refl; fair = refl })
-heard_as settings life (commands.SetOutputs levels controls) answer none is =
-    subst (λ a. IsHeardAs (commands.SetOutputs levels controls) (answer_octets a)) (same_Some _ _ is)
+said_as settings life (commands.SetOutputs levels controls) answer none is =
+    subst (λ a. IsSaidAs (commands.SetOutputs levels controls) (answer_octets a)) (same_Some _ _ is)
     (record { accepted = false; heard = refl; fair = refl })
-heard_as settings life (commands.Watchdog timeout) answer none is =
-    subst (λ a. IsHeardAs (commands.Watchdog timeout) (answer_octets a)) (same_Some _ _ is)
+said_as settings life (commands.Watchdog timeout) answer none is =
+    subst (λ a. IsSaidAs (commands.Watchdog timeout) (answer_octets a)) (same_Some _ _ is)
     (record { accepted = false; heard = refl; fair = refl })
-heard_as settings life commands.Identify answer none is =
-    subst (λ a. IsHeardAs commands.Identify (answer_octets a)) (same_Some _ _ is)
+said_as settings life commands.Identify answer none is =
+    subst (λ a. IsSaidAs commands.Identify (answer_octets a)) (same_Some _ _ is)
     (record { accepted = false; heard = refl; fair = refl })
+
+-- and are heard so
+pub heard_as : (settings : Settings) (life : Life) (command : Command) (answer : Answer) → polled_number (Some command) ≡ None
+    → answer_to settings life command ≡ Some answer → IsHeardAs settings life command (answer_octets answer)
+heard_as settings life command answer none is =
+    let said = said_as settings life command answer none is in
+    record {
+      accepted = said.accepted;
+      heard = said.heard;
+      fair = said.fair;
+      answer = answer;
+      replies = is;
+      spells = refl;
+    }

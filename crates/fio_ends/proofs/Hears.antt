@@ -1,5 +1,5 @@
 -- The CPU hears the answer that is due: its line breaks no rule.
-use Rattle.fio_ends.proofs.Names.{◌≡◌, ◌∙◌, ◌+◌, ◌%◌, ◌<◌, ◌≤◌, ◌&&◌, ◌||◌, inl, inr, ℕ, Bool, true, false, List, [], ◌∷◌, length, map, Option, Some, None, refl, ap, sym, subst, arith, if◌then◌else◌, ◌==◌, not, nat_le, option_map, slice_get, AllByRecursion, list_any, option_map_or, nat_tests, same_Some, Answer, Command, answer_in, answered_block, block_in, says_again, says_lost, says_more, Settings, AreInRange, HasRoom, Life, life_of, Transition, entry_of, MadeBlock, blocks_of, facts_with, answer_type_to, is_absent, observation_in, observation_of, first_broken, Facts, ToCpu, SentFrame, Machine, number_of, after_delivered_block, after_delivery_to_cpu, refusal, after, item_numbered, HasBlock, next_round, CarriesBlockOf, number_of-next, HasInput, each-at, after_taken, same_round, after_delivery, IsKept, carries_own, frame_heard}
+use Rattle.fio_ends.proofs.Names.{◌≡◌, ◌∙◌, ◌+◌, ◌%◌, ◌<◌, ◌≤◌, ◌&&◌, ◌||◌, inl, inr, ℕ, Bool, true, false, List, [], ◌∷◌, length, map, Option, Some, None, refl, ap, sym, subst, arith, if◌then◌else◌, ◌==◌, not, nat_le, option_map, slice_get, AllByRecursion, list_any, option_map_or, nat_tests, same_Some, Answer, Command, answer_in, answered_block, block_in, says_again, says_lost, says_more, Settings, AreInRange, HasRoom, Life, life_of, Transition, entry_of, MadeBlock, blocks_of, facts_with, answer_type_to, is_absent, observation_in, observation_of, first_broken, Facts, ToCpu, SentFrame, Machine, number_of, after_delivered_block, after_delivery_to_cpu, refusal, after, item_numbered, HasBlock, next_round, CarriesBlockOf, number_of-next, HasInput, each-at, after_taken, in_order, same_round, after_delivery, IsKept, carries_own, frame_heard}
 use Rattle.std.specs.Prelude.{is_some}
 use Rattle.std.proofs.lemmas.List.{length-map}
 use Rattle.fio_message.specs.declared.answers.Answer.TheVariants as answers
@@ -89,7 +89,7 @@ no_block_said (Some (answers.Block number entries status stamp)) code accepted i
 no_block_said (Some other) code accepted is = refl
 
 module _ (settings : Settings) (range : AreInRange settings) (first : ℕ) (machine : Machine)
-    (k : IsKept settings first machine) (due : ℕ) (facts : Facts) (f : Follows settings first machine due facts) where
+    (k : IsKept settings first machine) (from : Life) (due : ℕ) (facts : Facts) (f : Follows settings first from machine due facts) where
   abbrev life : Life
   life = life_of machine.history
 
@@ -98,29 +98,30 @@ module _ (settings : Settings) (range : AreInRange settings) (first : ℕ) (mach
 
   -- ---- an answer that is no block answer
 
-  keeps_answer : (command : Command) (place : ℕ) (octets : List ℕ) → IsReceived first facts machine.to_module machine.to_cpu machine.last_to_module machine.round due command
+  keeps_answer : (earlier : Life) (command : Command) (place : ℕ) (octets : List ℕ) → IsReceived settings first from life facts machine.to_module machine.to_cpu machine.last_to_module machine.round due command
       → due ≤ place + 1
-      → IsHeardAs command octets
-      → Keeps settings first facts (record { from_cpu = false; octets = octets } ∷ [])
+      → IsHeardAs settings earlier command octets
+      → Keeps settings first life facts (record { from_cpu = false; octets = octets } ∷ [])
       (after_delivered_block first (record machine { last_to_cpu = place + 1 }) (block_in octets)) due
-  keeps_answer command place octets r past h =
+  keeps_answer earlier command place octets r past h =
       let code = answer_type_to command in
       let none : block_in octets ≡ None = no_block_said (answer_in octets) code h.accepted h.heard in
       let kept : first_broken facts (seen.Answer code h.accepted) ≡ None =
       no_rule_broken facts (seen.Answer code h.accepted)
       (answer_keeps facts code h.accepted r.asked.awaited
       (ap (λ named. h.accepted && named) r.asked.named ∙ h.fair)) in
-      let follows : Follows settings first (record machine { last_to_cpu = place + 1 }) due (facts_with facts (seen.Answer code h.accepted)) =
+      let follows : Follows settings first life (record machine { last_to_cpu = place + 1 }) due (facts_with facts (seen.Answer code h.accepted)) =
       record {
         number = f.number;
         answered = f.answered;
         more = f.more;
+        now = record { more = []; is = refl };
         stage = inl (record { all = r.all; past = past });
       } in
       record {
         rules = λ wide full. (ap (first_broken facts) h.heard ∙ kept, tt);
-        follows = subst (λ found. Follows settings first (after_delivered_block first (record machine { last_to_cpu = place + 1 }) found) due (facts_with facts (observation_in false octets))) (sym none)
-            (subst (λ o. Follows settings first (record machine { last_to_cpu = place + 1 }) due (facts_with facts o)) (sym h.heard) follows);
+        follows = subst (λ found. Follows settings first life (after_delivered_block first (record machine { last_to_cpu = place + 1 }) found) due (facts_with facts (observation_in false octets))) (sym none)
+            (subst (λ o. Follows settings first life (record machine { last_to_cpu = place + 1 }) due (facts_with facts o)) (sym h.heard) follows);
       }
 
   -- ---- a block answer
@@ -162,10 +163,10 @@ module _ (settings : Settings) (range : AreInRange settings) (first : ℕ) (mach
       omega (arith, count, some)))
   block_keeps wide full number b asked numbered again c rule = refl
 
-  follows-block : (number : ℕ) (place : ℕ) (b : BlockOf) (entries : ℕ) (absent : Bool) → IsReceived first facts machine.to_module machine.to_cpu machine.last_to_module machine.round due (commands.Poll number)
+  follows-block : (number : ℕ) (place : ℕ) (b : BlockOf) (entries : ℕ) (absent : Bool) → IsReceived settings first from life facts machine.to_module machine.to_cpu machine.last_to_module machine.round due (commands.Poll number)
       → due ≤ place + 1
       → b.number ≡ number → CarriesBlockOf first blocks b machine.round
-      → Follows settings first (after_taken machine place b) due (facts_with facts (seen.Block b.number b.status entries absent))
+      → Follows settings first life (after_taken machine place b) due (facts_with facts (seen.Block b.number b.status entries absent))
   follows-block number place b entries absent r past numbered c =
       let polled = r.asked.polled number refl in
       let high : next_round machine.polls ≤ machine.round + 1 = k.always.at_most in
@@ -183,22 +184,23 @@ module _ (settings : Settings) (range : AreInRange settings) (first : ℕ) (mach
           at_place = c.is_made;
           same = sym c.carried.more ∙ same_Some _ _ is;
         };
+        now = record { more = []; is = refl };
         stage = inl (record { all = r.all; past = past });
       }
 
   keeps_block : (number : ℕ) (place : ℕ) (frame : SentFrame) → slice_get machine.to_cpu place ≡ Some frame
       → machine.last_to_cpu ≤ place + 1
-      → IsReceived first facts machine.to_module machine.to_cpu machine.last_to_module machine.round due (commands.Poll number)
+      → (r : IsReceived settings first from life facts machine.to_module machine.to_cpu machine.last_to_module machine.round due (commands.Poll number))
       → due ≤ place + 1
-      → IsBlockFor facts number frame.octets
-      → Keeps settings first facts (record { from_cpu = false; octets = frame.octets } ∷ [])
+      → IsBlockFor facts r.life number frame.octets
+      → Keeps settings first life facts (record { from_cpu = false; octets = frame.octets } ∷ [])
       (after_delivered_block first (record machine { last_to_cpu = place + 1 }) (block_in frame.octets)) due
   keeps_block number place frame at le r past h =
       let b = h.block in
       let has : HasBlock machine.to_cpu place b frame.round =
       record { frame = frame; at_place = at; spells = h.spells; of_round = refl } in
       let alike : b.number ≡ number_of first machine.round = h.numbered ∙ (r.asked.polled number refl).1 in
-      let same = same_round settings range first machine k.always place b frame.round le has alike in
+      let same = same_round first machine (in_order settings first machine k.always) place b frame.round le has alike in
       let c : CarriesBlockOf first blocks b machine.round =
       subst (CarriesBlockOf first blocks b) same (carries_own settings range first machine k.always k.one_life place b frame.round has) in
       let entries = length b.entries in
@@ -216,8 +218,8 @@ module _ (settings : Settings) (range : AreInRange settings) (first : ℕ) (mach
               (block_keeps wide full number b r.asked h.numbered h.again c),
           tt,
         );
-        follows = subst (λ m. Follows settings first m due (facts_with facts (observation_in false frame.octets))) (sym taken)
-            (subst (λ o. Follows settings first (after_taken machine place b) due (facts_with facts o)) (sym said)
+        follows = subst (λ m. Follows settings first life m due (facts_with facts (observation_in false frame.octets))) (sym taken)
+            (subst (λ o. Follows settings first life (after_taken machine place b) due (facts_with facts o)) (sym said)
             (follows-block number place b entries absent r past h.numbered c));
       }
 
@@ -225,17 +227,17 @@ module _ (settings : Settings) (range : AreInRange settings) (first : ℕ) (mach
 
   keeps_received : (command : Command) (place : ℕ) (frame : SentFrame) → slice_get machine.to_cpu place ≡ Some frame
       → machine.last_to_cpu ≤ place + 1
-      → IsReceived first facts machine.to_module machine.to_cpu machine.last_to_module machine.round due command
+      → (r : IsReceived settings first from life facts machine.to_module machine.to_cpu machine.last_to_module machine.round due command)
       → due ≤ place + 1
-      → Answers facts command frame.octets
-      → Keeps settings first facts (record { from_cpu = false; octets = frame.octets } ∷ [])
+      → Answers settings facts r.life command frame.octets
+      → Keeps settings first life facts (record { from_cpu = false; octets = frame.octets } ∷ [])
       (after_delivery_to_cpu first machine (place + 1) (Some frame)) due
   keeps_received (commands.Poll number) place frame at le r past h = keeps_block number place frame at le r past h
-  keeps_received other place frame at le r past h = keeps_answer other place frame.octets r past h
+  keeps_received other place frame at le r past h = keeps_answer r.life other place frame.octets r past h
 
   keeps_stage : (place : ℕ) (frame : SentFrame) → slice_get machine.to_cpu place ≡ Some frame
-      → machine.last_to_cpu < place + 1 → place + 1 ≡ due → Stage first facts machine due
-      → Keeps settings first facts (record { from_cpu = false; octets = frame.octets } ∷ [])
+      → machine.last_to_cpu < place + 1 → place + 1 ≡ due → Stage settings first from facts machine due
+      → Keeps settings first life facts (record { from_cpu = false; octets = frame.octets } ∷ [])
       (after_delivery_to_cpu first machine (place + 1) (Some frame)) due
   keeps_stage place frame at new is (inl quiet) = absurd (omega (arith, quiet.past))
   keeps_stage place frame at new is (inr (inl u)) = absurd (omega (arith, u.1.none_due))
@@ -246,10 +248,10 @@ module _ (settings : Settings) (range : AreInRange settings) (first : ℕ) (mach
 
   -- the frame that is due is delivered to the CPU
   pub keeps-to_cpu : (index : ℕ) → refusal machine (ToCpu index) ≡ None → machine.last_to_cpu < index → index ≡ due
-      → Keeps settings first facts (frame_heard (item_numbered machine.to_cpu index))
+      → Keeps settings first life facts (frame_heard (item_numbered machine.to_cpu index))
       (after settings first machine (ToCpu index)) due
   keeps-to_cpu index fine new is =
       after_delivery (λ n found. machine.last_to_cpu < n → n ≡ due
-      → Keeps settings first facts (frame_heard found) (after_delivery_to_cpu first machine n found) due)
+      → Keeps settings first life facts (frame_heard found) (after_delivery_to_cpu first machine n found) due)
       machine.to_cpu machine.last_to_cpu index fine
       (λ place frame le at new is. keeps_stage place frame at new is f.stage) new is

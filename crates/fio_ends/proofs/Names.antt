@@ -36,10 +36,12 @@ pub use Rattle.fio_cpu.specs.Record.{item_of, items_of_block}
 pub use Rattle.fio_cpu.specs.declared.record.Item.{Item}
 pub use Rattle.fio_cpu.specs.declared.record.Item.TheVariants.{Entry, Gap}
 pub use Rattle.fio_check.proofs.KeptFacts.{facts_next, seen_at}
-pub use Rattle.fio_check.specs.ContentAbove.{ContentFacts, LatestEntry, content_with, no_content, unquiet, FilterPair}
-pub use Rattle.fio_check.specs.ContentCheckers.{ContentKept, nothing_kept}
-pub use Rattle.fio_check.specs.ContentEvents.{ContentEvent, Recorded, Configured, Ended, Polled, events_of_block, events_of_command, events_in, content_events, number_after, LineEvent, content_event_at, events_of_lines, Accepted}
-pub use Rattle.fio_check.specs.ContentRules.{breaks_content, is_nearer}
+pub use Rattle.fio_check.specs.ContentAbove.{ContentFacts, InputAbove}
+pub use Rattle.fio_check.specs.ContentSaid.{FilterPair}
+pub use Rattle.fio_check.specs.ContentCheckers.{ContentKept, kept_at_start, kept_with}
+pub use Rattle.fio_check.specs.ContentEvents.{ContentEvent, Ended, Heard, LineEvent, Recorded, Sent, content_event_at, content_events, events_above, events_below, events_in, events_of_block, events_of_lines, events_of_log, number_after}
+pub use Rattle.fio_check.specs.ContentFacts.{content_with, no_content}
+pub use Rattle.fio_check.specs.ContentRules.{rule_broken_by}
 pub use Rattle.fio_check.specs.Facts.{facts_with, no_facts, number_due, facts_at, number_polled}
 pub use Rattle.fio_check.specs.Lines.{TranscriptLine}
 pub use Rattle.fio_check.specs.Observations.{answer_type_to, names_absent, is_absent, observation_of, observation_in, observation_on}
@@ -48,12 +50,12 @@ pub use Rattle.fio_check.specs.Pollers.{block_on, poller_with, poller_of}
 pub use Rattle.fio_check.specs.Rules.{first_broken, rule_broken}
 pub use Rattle.fio_check.specs.Verdicts.{verdict_on}
 pub use Rattle.fio_check.specs.declared.content_rules.ContentRule.{ContentRule}
-pub use Rattle.fio_check.specs.declared.content_rules.ContentRule.TheVariants.{Alternate, Apart, Order}
+pub use Rattle.fio_check.specs.declared.content_rules.ContentRule.TheVariants.{Accepted, Alternate, Apart, Cleared, Clock, Done, Fresh, Ignored, Order, State, Watchdog}
 pub use Rattle.fio_check.specs.declared.facts.Facts.{Facts}
 pub use Rattle.fio_check.specs.declared.observation.Observation.{Observation}
 pub use Rattle.fio_check.specs.declared.verdict.Verdict.TheVariants.{Good}
 pub use Rattle.fio_link.proofs.Events.{after_delivery}
-pub use Rattle.fio_link.proofs.HeardRows.{after_taken, same_round}
+pub use Rattle.fio_link.proofs.HeardRows.{after_taken, in_order, same_round}
 pub use Rattle.fio_link.proofs.MadeBlocks.{each-at, HasInput, each_block, next_fits, each-append, each-map}
 pub use Rattle.fio_link.proofs.OneLife.{items_of_block-carried, recorded_of}
 pub use Rattle.fio_link.proofs.OneLifeRows.{IsKept, carries_own, kept_all, kept}
@@ -67,6 +69,5 @@ pub use Rattle.fio_link.specs.Link.{SentFrame, Machine, start, number_of, sendin
 pub use Rattle.fio_link.specs.Rounds.{next_round, CarriesBlockOf}
 pub use Rattle.fio_link.specs.declared.event.Event.{Event}
 pub use Rattle.fio_link.specs.declared.event.Event.TheVariants.{ToModule, ToCpu}
-pub use Rattle.fio_ends.specs.ContentRuns.{ContentNeverAccuses, IsOfAnother, NextOfInputIsNear, HaveTimesFor, WaitsBriefly, sources_taken, NoneBreaks, NextIsNear}
 pub use Rattle.fio_ends.specs.PromptRuns.{due_after, IsPrompt, ArePrompt, IsWithinRanges}
 pub use Rattle.fio_ends.specs.Transcripts.{CpuFrame, frame_on, frame_heard, frames_at, frames_from}

@@ -1,41 +1,41 @@
 -- The transcript of a prompt run is good.
-use Rattle.fio_ends.proofs.Names.{◌≡◌, arith, ℕ, List, [], ◌∷◌, ◌++◌, None, refl, sym, subst, AllByRecursion, Settings, AreInRange, HasRoom, facts_with, no_facts, Facts, Event, Machine, start, refusal, after, Leads, IsNotRestart, HaveNoRestart, IsKept, kept_all, kept, CpuFrame, frames_at, frames_from, due_after, IsPrompt, ArePrompt, IsWithinRanges}
+use Rattle.fio_ends.proofs.Names.{◌≡◌, arith, ℕ, List, [], ◌∷◌, ◌++◌, None, refl, sym, subst, AllByRecursion, Settings, AreInRange, HasRoom, facts_with, no_facts, Facts, Event, Machine, start, refusal, after, Leads, IsNotRestart, HaveNoRestart, IsKept, kept_all, kept, CpuFrame, frames_at, frames_from, due_after, IsPrompt, ArePrompt, IsWithinRanges, Life, Scanned, LineSynced, Raised}
 use Rattle.fio_module.specs.Life as module_events
 use Rattle.fio_link.specs.declared.event.Event.TheVariants as events
-use Rattle.fio_ends.specs.PromptRuns.{NeverAccuses}
+use Rattle.fio_ends.specs.PromptRuns.{BeginsWithCommand, NeverAccuses, NeverAccusesLater}
 use Rattle.fio_ends.proofs.GoodLines.{KeepRules, lines_are_good, said_by}
-use Rattle.fio_ends.proofs.Following.{Follows, Keeps, facts_below, follows-history, follows-start}
+use Rattle.fio_ends.proofs.Following.{Follows, Keeps, facts_below, from_after, follows-history, follows-start, may_begin, may_send}
 use Rattle.fio_ends.proofs.Sends.{sends-poll, sends-other}
 use Rattle.fio_ends.proofs.Receives.{follows-to_module}
 use Rattle.fio_ends.proofs.Hears.{keeps-to_cpu}
 
 module _ (settings : Settings) (range : AreInRange settings) (first : ℕ) where
   -- an event that adds no line
-  no_line : (facts : Facts) (machine : Machine) (due : ℕ) → Follows settings first machine due facts
-      → Keeps settings first facts [] machine due
-  no_line facts machine due f = record { rules = λ wide full. tt; follows = f }
+  no_line : (from : Life) (facts : Facts) (machine : Machine) (due : ℕ) → Follows settings first from machine due facts
+      → Keeps settings first from facts [] machine due
+  no_line from facts machine due f = record { rules = λ wide full. tt; follows = f }
 
   -- each event keeps it
-  pub keeps-event : (machine : Machine) (due : ℕ) (facts : Facts) → IsKept settings first machine
-      → Follows settings first machine due facts
+  pub keeps-event : (from : Life) (machine : Machine) (due : ℕ) (facts : Facts) → IsKept settings first machine
+      → Follows settings first from machine due facts
       → (event : Event) → refusal machine event ≡ None → IsNotRestart event → IsWithinRanges event → IsPrompt machine due event
-      → Keeps settings first facts (frames_at first machine event)
+      → Keeps settings first (from_after machine from event) facts (frames_at first machine event)
       (after settings first machine event) (due_after machine due event)
-  keeps-event machine due facts k f (events.Scan raw) fine none within prompt =
-      no_line facts _ due (follows-history settings first machine due facts (module_events.Scan raw ∷ machine.history) refl f)
-  keeps-event machine due facts k f events.LineSync fine none within prompt =
-      no_line facts _ due (follows-history settings first machine due facts (module_events.LineSync ∷ machine.history) refl f)
-  keeps-event machine due facts k f (events.Raise mask) fine none within prompt =
-      no_line facts _ due (follows-history settings first machine due facts (module_events.Raise mask ∷ machine.history) refl f)
-  keeps-event machine due facts k f events.Restart fine none within prompt = absurd none
-  keeps-event machine due facts k f events.Poll fine none within prompt =
-      sends-poll settings first machine due facts f
-  keeps-event machine due facts k f (events.Send command) fine none within prompt =
-      sends-other settings first machine due facts f command fine within
-  keeps-event machine due facts k f (events.ToModule index) fine none within prompt =
-      no_line facts _ _ (follows-to_module settings range first machine k facts due f index fine (omega arith))
-  keeps-event machine due facts k f (events.ToCpu index) fine none within prompt =
-      keeps-to_cpu settings range first machine k due facts f index fine (omega arith) (omega arith)
+  keeps-event from machine due facts k f (events.Scan raw) fine none within prompt =
+      no_line from facts _ due (follows-history settings first from machine due facts (module_events.Scan raw ∷ machine.history) (Scanned raw) tt refl refl f)
+  keeps-event from machine due facts k f events.LineSync fine none within prompt =
+      no_line from facts _ due (follows-history settings first from machine due facts (module_events.LineSync ∷ machine.history) LineSynced tt refl refl f)
+  keeps-event from machine due facts k f (events.Raise mask) fine none within prompt =
+      no_line from facts _ due (follows-history settings first from machine due facts (module_events.Raise mask ∷ machine.history) (Raised mask) tt refl refl f)
+  keeps-event from machine due facts k f events.Restart fine none within prompt = absurd none
+  keeps-event from machine due facts k f events.Poll fine none within prompt =
+      sends-poll settings first machine facts (may_send settings first from machine due facts f)
+  keeps-event from machine due facts k f (events.Send command) fine none within prompt =
+      sends-other settings first machine facts (may_send settings first from machine due facts f) command fine within
+  keeps-event from machine due facts k f (events.ToModule index) fine none within prompt =
+      no_line from facts _ _ (follows-to_module settings range first machine k facts from due f index fine (omega arith))
+  keeps-event from machine due facts k f (events.ToCpu index) fine none within prompt =
+      keeps-to_cpu settings range first machine k from due facts f index fine (omega arith) (omega arith)
 
   -- frames that keep the rules, one part after another
   both_keep : (facts : Facts) (frames more : List CpuFrame) → KeepRules facts frames
@@ -45,23 +45,80 @@ module _ (settings : Settings) (range : AreInRange settings) (first : ℕ) where
       (above.0, both_keep (facts_with facts (said_by frame)) frames more above.1 rest)
 
   -- so all events do
-  all_keep : HasRoom settings → settings.per_block ≡ 255 → (events : List Event) (machine last : Machine) (due : ℕ) (facts : Facts) → IsKept settings first machine
-      → Follows settings first machine due facts
+  all_keep : HasRoom settings → settings.per_block ≡ 255 → (events : List Event) (from : Life) (machine last : Machine) (due : ℕ) (facts : Facts) → IsKept settings first machine
+      → Follows settings first from machine due facts
       → Leads settings first machine events last → HaveNoRestart events → AllByRecursion IsWithinRanges events
       → ArePrompt settings first machine due events
       → KeepRules facts (frames_from settings first machine events)
-  all_keep wide full [] machine last due facts k f leads none within prompt = tt
-  all_keep wide full (event ∷ events) machine last due facts k f leads none within prompt =
-      let here = keeps-event machine due facts k f event leads.0 none.0 within.0 prompt.0 in
+  all_keep wide full [] from machine last due facts k f leads none within prompt = tt
+  all_keep wide full (event ∷ events) from machine last due facts k f leads none within prompt =
+      let here = keeps-event from machine due facts k f event leads.0 none.0 within.0 prompt.0 in
       let now : IsKept settings first (after settings first machine event) =
       kept_all settings range first (event ∷ []) machine (after settings first machine event) (none.0, tt) (leads.0, refl) k in
       both_keep facts (frames_at first machine event) (frames_from settings first (after settings first machine event) events) (here.rules wide full)
-      (all_keep wide full events (after settings first machine event) last (due_after machine due event)
+      (all_keep wide full events (from_after machine from event) (after settings first machine event) last (due_after machine due event)
       (facts_below facts (frames_at first machine event)) now here.follows leads.1 none.1 within.1 prompt.1)
+
+  -- what is known where a log begins later
+  pub record ReachesLater (at last : Machine) (later : List Event) : Type 0 where
+    pub from : Life
+    pub due : ℕ
+    pub facts : Facts
+    pub is_kept : IsKept settings first at
+    pub follows : Follows settings first from at due facts
+    pub leads : Leads settings first at later last
+    pub no_restart : HaveNoRestart later
+    pub within : AllByRecursion IsWithinRanges later
+    pub prompt : ArePrompt settings first at due later
+
+  -- after the events before it
+  pub reaches : (before later : List Event) (from : Life) (machine at last : Machine) (due : ℕ) (facts : Facts) → IsKept settings first machine
+      → Follows settings first from machine due facts → Leads settings first machine before at
+      → Leads settings first machine (before ++ later) last → HaveNoRestart (before ++ later) → AllByRecursion IsWithinRanges (before ++ later)
+      → ArePrompt settings first machine due (before ++ later)
+      → ReachesLater at last later
+  reaches [] later from machine at last due facts k f here leads none within prompt =
+      subst (λ m. ReachesLater m last later) (sym here)
+      (record { from = from; due = due; facts = facts; is_kept = k; follows = f; leads = leads; no_restart = none; within = within; prompt = prompt })
+  reaches (event ∷ before) later from machine at last due facts k f here leads none within prompt =
+      let keeps = keeps-event from machine due facts k f event leads.0 none.0 within.0 prompt.0 in
+      let next = after settings first machine event in
+      let now : IsKept settings first next = kept_all settings range first (event ∷ []) machine next (none.0, tt) (leads.0, refl) k in
+      reaches before later (from_after machine from event) next at last (due_after machine due event) (facts_below facts (frames_at first machine event)) now keeps.follows
+      here.1 leads.1 none.1 within.1 prompt.1
+
+  -- a command, and what is below it
+  after_command : HasRoom settings → settings.per_block ≡ 255 → (event : Event) (rest : List Event) (machine last : Machine) → (r : ReachesLater machine last (event ∷ rest))
+      → Keeps settings first (from_after machine r.from event) no_facts (frames_at first machine event) (after settings first machine event) (due_after machine r.due event)
+      → KeepRules no_facts (frames_from settings first machine (event ∷ rest))
+  after_command wide full event rest machine last r here =
+      let next = after settings first machine event in
+      let now : IsKept settings first next = kept_all settings range first (event ∷ []) machine next (r.no_restart.0, tt) (r.leads.0, refl) r.is_kept in
+      both_keep no_facts (frames_at first machine event) (frames_from settings first next rest) (here.rules wide full)
+      (all_keep wide full rest (from_after machine r.from event) next last (due_after machine r.due event) (facts_below no_facts (frames_at first machine event))
+      now here.follows r.leads.1 r.no_restart.1 r.within.1 r.prompt.1)
+
+  -- a log that begins with a command keeps the rules
+  pub later_keep : HasRoom settings → settings.per_block ≡ 255 → (later : List Event) (machine last : Machine) → BeginsWithCommand later
+      → ReachesLater machine last later → KeepRules no_facts (frames_from settings first machine later)
+  later_keep wide full [] machine last begins r = absurd begins
+  later_keep wide full (events.Poll ∷ rest) machine last begins r =
+      after_command wide full events.Poll rest machine last r (sends-poll settings first machine no_facts (may_begin settings first r.from machine r.due r.facts r.follows))
+  later_keep wide full (events.Send command ∷ rest) machine last begins r =
+      after_command wide full (events.Send command) rest machine last r
+      (sends-other settings first machine no_facts (may_begin settings first r.from machine r.due r.facts r.follows) command r.leads.0 r.within.0)
+  later_keep wide full (other ∷ rest) machine last begins r = absurd begins
 
 -- no false accusation
 pub never_accuses : NeverAccuses 255
 never_accuses settings first events machine range wide full run lines has =
     lines_are_good lines (subst (KeepRules no_facts) (sym has)
-    (all_keep settings range first wide full events start machine 0 no_facts
+    (all_keep settings range first wide full events [] start machine 0 no_facts
     (kept settings range first [] start refl tt) (follows-start settings first) run.is_run run.no_restart run.within run.prompt))
+
+-- nor in a log that begins later
+pub never_accuses_later : NeverAccusesLater 255
+never_accuses_later settings first before later machine last range wide full run leads begins lines has =
+    let r = reaches settings range first before later [] start machine last 0 no_facts (kept settings range first [] start refl tt) (follows-start settings first)
+    leads run.is_run run.no_restart run.within run.prompt in
+    lines_are_good lines (subst (KeepRules no_facts) (sym has) (later_keep settings range first wide full later machine last begins r))

@@ -1,5 +1,5 @@
 -- The module receives a frame, and may answer it.
-use Rattle.fio_ends.proofs.Names.{◌≡◌, ◌∙◌, ◌+◌, ◌<◌, ◌≤◌, inl, inr, ℕ, Bool, true, false, List, ◌++◌, length, Option, Some, None, refl, ap, sym, subst, arith, append-nil, if◌then◌else◌, ◌==◌, option_map, slice_get, nat_tests, eqb_tells, same_Some, slice_get_within, Answer, Command, answer_octets, command_in, poll_in, Settings, AreInRange, Life, life_of, newest_poll, is_new, answer_to, Facts, ToModule, SentFrame, Machine, number_of, after_delivery_to_module, refusal, after, next_round, get_push, number_of-fits, next_fits, after_delivery, IsKept, due_after}
+use Rattle.fio_ends.proofs.Names.{◌≡◌, ◌∙◌, ◌+◌, ◌<◌, ◌≤◌, inl, inr, ℕ, Bool, true, false, List, ◌++◌, length, Option, Some, None, refl, ap, sym, subst, arith, append-nil, if◌then◌else◌, ◌==◌, option_map, slice_get, nat_tests, eqb_tells, same_Some, slice_get_within, Answer, Command, answer_octets, command_in, poll_in, Settings, AreInRange, Life, life_of, newest_poll, is_new, answer_to, Facts, ToModule, SentFrame, Machine, number_of, after_delivery_to_module, refusal, after, next_round, get_push, number_of-fits, next_fits, after_delivery, IsKept, due_after, life_after_command, Commanded, []}
 use Rattle.fio_message.specs.declared.commands.Command.TheVariants as commands
 use Rattle.fio_module.specs.Sendings.{Sending, answer_of_sending, first_sending, repeat_of}
 use Rattle.fio_module.specs.Replies.{answer_if, reply_to}
@@ -10,7 +10,7 @@ use Rattle.fio_link.proofs.Kept.{sending_if}
 use Rattle.fio_link.proofs.OneLife.{continues}
 use Rattle.fio_ends.proofs.BlocksOfLives.{blocks_stay}
 use Rattle.fio_ends.proofs.Heard.{heard_as}
-use Rattle.fio_ends.proofs.Following.{AreBefore, IsBlockFor, Answers, Stage, Follows}
+use Rattle.fio_ends.proofs.Following.{AreBefore, IsBlockFor, Answers, Stage, Follows, GoesOn, goes_on-more}
 
 -- the polls received with one of a round before are of rounds before
 before_received : (frames : List SentFrame) (polls : List ℕ) (round below place : ℕ) (frame : SentFrame) (polled : Option ℕ)
@@ -22,6 +22,11 @@ before_received frames polls round below place frame (Some number) at is low b =
       sent = b.sent;
       received = (let less = b.sent place number frame.round low (record { frame = frame; at_place = at; spells = is; of_round = refl }) in omega arith);
     }
+
+-- a life goes on with a command
+goes_on-command : (before now : Life) (command : Option Command) → GoesOn before now → GoesOn before (life_after_command command now)
+goes_on-command before now None g = g
+goes_on-command before now (Some command) g = goes_on-more before now (Commanded command) g
 
 -- the frame in which a reply is sent
 reply_frame : (frames : List SentFrame) (reply : Option Answer) (round : ℕ) (frame : SentFrame)
@@ -45,16 +50,17 @@ module _ (settings : Settings) (range : AreInRange settings) (first : ℕ) (mach
       → number ≡ number_of first machine.round
       → (facts.advanced ≡ true → AreBefore machine.to_module machine.polls machine.round place)
       → option_map answer_of_sending (sending_if settings life number new) ≡ Some answer
-      → IsBlockFor facts number (answer_octets answer)
+      → IsBlockFor facts life number (answer_octets answer)
   block_for number place true answer is named before spelled =
       let sending = first_sending settings life number in
       let fits : number ≤ 255 = omega (arith, number_of-fits first machine.round) in
-      subst (λ a. IsBlockFor facts number (answer_octets a)) (same_Some _ _ spelled)
+      subst (λ a. IsBlockFor facts life number (answer_octets a)) (same_Some _ _ spelled)
       (record {
         block = said sending;
         spells = carried_back settings.per_block sending _ range.few_per_block fits (next_fits settings life) (first_carries settings life number);
         numbered = refl;
         again = λ advanced. said_again sending;
+        fresh = λ first. is;
       })
   block_for number place false answer is named before spelled =
       let found = latest_sent settings life number (same_number (newest_poll life) number is) in
@@ -68,13 +74,14 @@ module _ (settings : Settings) (range : AreInRange settings) (first : ℕ) (mach
       (ap (λ latest. is_new latest number) (sym k.one_life.polled) ∙ is) in
       let spells : Some (answer_of_sending again) ≡ Some answer =
       ap (λ (latest : Option Sending). option_map answer_of_sending (option_map repeat_of latest)) (sym l.is) ∙ spelled in
-      subst (λ a. IsBlockFor facts number (answer_octets a)) (same_Some _ _ spells)
+      subst (λ a. IsBlockFor facts life number (answer_octets a)) (same_Some _ _ spells)
       (record {
         block = said again;
         spells = carried_back settings.per_block again l.block range.few_per_block (omega arith)
             (newest_fits settings life l.earlier l.block l.made) (again_carries found.0 l.block l.carried);
         numbered = l.number;
         again = λ advanced. absurd (omega (arith, met.0, (before advanced).received));
+        fresh = λ first. absurd (cc (sym (said_again again) ∙ first));
       })
 
   -- the answer to the command sent last
@@ -82,28 +89,28 @@ module _ (settings : Settings) (range : AreInRange settings) (first : ℕ) (mach
       → ((number : ℕ) → command ≡ commands.Poll number → (number ≡ number_of first machine.round)
       × (facts.advanced ≡ true → AreBefore machine.to_module machine.polls machine.round place))
       → answer_to settings life command ≡ Some answer
-      → Answers facts command (answer_octets answer)
+      → Answers settings facts life command (answer_octets answer)
   answer_for (commands.Poll number) place answer polled is =
       let known = polled number refl in
       block_for number place (is_new (newest_poll life) number) answer refl known.0 known.1 is
   answer_for other place answer polled is = heard_as settings life other answer refl is
 
-  module _ (due : ℕ) (f : Follows settings first machine due facts) where
+  module _ (from : Life) (due : ℕ) (f : Follows settings first from machine due facts) where
     -- what is due after a delivery
     abbrev due_then : ℕ → ℕ
     due_then place = if (place + 1) == length machine.to_module then length machine.to_cpu + 1 else due
 
     -- the stage after the module has received the frame at a place
     stage_received : (place : ℕ) (frame : SentFrame) → slice_get machine.to_module place ≡ Some frame
-        → machine.last_to_module < place + 1 → Stage first facts machine due
-        → Stage first facts (after_delivery_to_module settings machine (place + 1) (Some frame)) (due_then place)
+        → machine.last_to_module < place + 1 → Stage settings first from facts machine due
+        → Stage settings first from facts (after_delivery_to_module settings machine (place + 1) (Some frame)) (due_then place)
     stage_received place frame at new (inl quiet) =
         absurd (omega (arith, slice_get_within machine.to_module place frame at, quiet.all))
     stage_received place frame at new (inr (inr done)) =
         absurd (omega (arith, slice_get_within machine.to_module place frame at, done.1.all))
     stage_received place frame at new (inr (inl (command, u))) =
         let within = slice_get_within machine.to_module place frame at in
-        elim (eqb_tells place u.place) as (λ _. Stage first facts (after_delivery_to_module settings machine (place + 1) (Some frame)) (due_then place)) [
+        elim (eqb_tells place u.place) as (λ _. Stage settings first from facts (after_delivery_to_module settings machine (place + 1) (Some frame)) (due_then place)) [
           | inl same ↦
               let here : place ≡ u.place = same.1 in
               let last : ((place + 1) == length machine.to_module) ≡ true = (let e : length machine.to_module ≡ u.place + 1 = u.sent_last in grind (arith, nat_tests)) in
@@ -113,13 +120,22 @@ module _ (settings : Settings) (range : AreInRange settings) (first : ℕ) (mach
                 command,
                 record {
                   asked = u.asked;
+                  sent_last = record { place = u.place; frame = u.frame; last = u.sent_last; at_place = u.at_place; spells = u.spells };
                   all = (let e : length machine.to_module ≡ u.place + 1 = u.sent_last in omega arith);
                   place = length machine.to_cpu;
+                  life = life;
+                  goes_on = f.now;
+                  since =
+                      record {
+                        more = [];
+                        is = ap (λ read. life_after_command read life) spells;
+                        none = tt;
+                      };
                   due_is = ap (λ at_end. if at_end then length machine.to_cpu + 1 else due) last;
                   answer = λ sent at_sent.
                       (let reply = reply_frame machine.to_cpu (reply_to settings machine.history frame.octets) frame.round sent at_sent in
                       let is : answer_to settings life command ≡ Some reply.0 = ap (answer_if settings life) (sym spells) ∙ reply.1 in
-                      subst (Answers facts command) reply.2
+                      subst (Answers settings facts life command) reply.2
                       (answer_for command u.place reply.0
                       (λ number is_poll. ((u.asked.polled number is_poll).1, u.before number is_poll)) is));
                 },
@@ -147,7 +163,7 @@ module _ (settings : Settings) (range : AreInRange settings) (first : ℕ) (mach
 
     follows_received : (place : ℕ) (frame : SentFrame) → slice_get machine.to_module place ≡ Some frame
         → machine.last_to_module < place + 1
-        → Follows settings first (after_delivery_to_module settings machine (place + 1) (Some frame)) (due_then place) facts
+        → Follows settings first from (after_delivery_to_module settings machine (place + 1) (Some frame)) (due_then place) facts
     follows_received place frame at new =
         record {
           number = f.number;
@@ -162,14 +178,15 @@ module _ (settings : Settings) (range : AreInRange settings) (first : ℕ) (mach
                 at_place = blocks_stay settings life (command_in frame.octets) b.earlier b.block b.at_place;
                 same = b.same;
               });
+          now = goes_on-command from life (command_in frame.octets) f.now;
           stage = stage_received place frame at new f.stage;
         }
 
     -- a frame is delivered to the module that was not delivered before
     pub follows-to_module : (index : ℕ) → refusal machine (ToModule index) ≡ None → machine.last_to_module < index
-        → Follows settings first (after settings first machine (ToModule index)) (due_after machine due (ToModule index)) facts
+        → Follows settings first from (after settings first machine (ToModule index)) (due_after machine due (ToModule index)) facts
     follows-to_module index fine new =
         after_delivery (λ n found. machine.last_to_module < n
-        → Follows settings first (after_delivery_to_module settings machine n found) (due_after machine due (ToModule n)) facts)
+        → Follows settings first from (after_delivery_to_module settings machine n found) (due_after machine due (ToModule n)) facts)
         machine.to_module machine.last_to_module index fine
         (λ place frame le at new. follows_received place frame at new) new

@@ -1,5 +1,5 @@
 -- The poller of a prompt run's transcript is the run's own.
-use Rattle.fio_ends.proofs.Names.{◌≡◌, ◌∙◌, ◌+◌, ◌%◌, ◌<◌, ◌⊎◌, inl, inr, ℕ, Bool, true, false, List, [], ◌∷◌, ◌++◌, map, Option, Some, None, refl, ap, sym, subst, arith, if◌then◌else◌, ◌==◌, fold, slice_get, AllByRecursion, same_Some, Command, command_octets, IsCommand, answer_in, block_in, Settings, AreInRange, after_hearing, Polling, items_of_block, facts_with, no_facts, number_polled, TranscriptLine, answer_type_to, names_absent, observation_in, observation_on, Facts, Observation, Event, Machine, SentFrame, start, number_of, item_numbered, after_delivered_block, after_delivery_to_cpu, after_delivery_to_module, refusal, sending_refusal, after_sending, after, Leads, IsNotRestart, HaveNoRestart, number_of-fits, number_of-next, after_delivery, IsKept, kept_all, kept, block_on, poller_with, poller_of, CpuFrame, frame_heard, frame_on, frames_at, frames_from, due_after, IsPrompt, ArePrompt, IsWithinRanges}
+use Rattle.fio_ends.proofs.Names.{◌≡◌, ◌∙◌, ◌+◌, ◌%◌, ◌<◌, ◌⊎◌, inl, inr, ℕ, Bool, true, false, List, [], ◌∷◌, ◌++◌, map, Option, Some, None, refl, ap, sym, subst, arith, if◌then◌else◌, ◌==◌, fold, slice_get, AllByRecursion, same_Some, Command, command_octets, IsCommand, answer_in, block_in, Settings, AreInRange, after_hearing, Polling, items_of_block, facts_with, no_facts, number_polled, TranscriptLine, answer_type_to, names_absent, observation_in, observation_on, Facts, Observation, Event, Machine, SentFrame, start, number_of, item_numbered, after_delivered_block, after_delivery_to_cpu, after_delivery_to_module, refusal, sending_refusal, after_sending, after, Leads, IsNotRestart, HaveNoRestart, number_of-fits, number_of-next, after_delivery, IsKept, kept_all, kept, block_on, poller_with, poller_of, CpuFrame, frame_heard, frame_on, frames_at, frames_from, due_after, IsPrompt, ArePrompt, IsWithinRanges, Life, life_of}
 use Rattle.fio_message.specs.declared.commands.Command.TheVariants as commands
 use Rattle.fio_message.specs.Blocks.{Block as BlockOf}
 use Rattle.fio_message.specs.Decoding.{answered_block}
@@ -11,7 +11,7 @@ use Rattle.fio_ends.specs.RunRecords.{HasRunsPoller, KeepsRecord}
 use Rattle.fio_ends.proofs.Pollers.{poller_by, poller_by-is}
 use Rattle.fio_ends.proofs.GoodLines.{said_by}
 use Rattle.fio_ends.proofs.Heard.{IsHeardAs}
-use Rattle.fio_ends.proofs.Following.{Stage, Answers, Follows, IsReceived, facts_below, follows-start}
+use Rattle.fio_ends.proofs.Following.{Stage, Answers, Follows, IsReceived, facts_below, follows-start, from_after}
 use Rattle.fio_ends.proofs.Sends.{said_of, other_said}
 use Rattle.fio_ends.proofs.Hears.{no_block_said}
 use Rattle.fio_ends.proofs.PromptRuns.{keeps-event}
@@ -91,7 +91,7 @@ module _ (settings : Settings) (range : AreInRange settings) (first : ℕ) where
   passes machine later facts poller o none same at (inr is) =
       inr (ap (λ p. poller_by p (number_polled o) None) is ∙ ap Some (sym at))
 
-  module _ (machine : Machine) (due : ℕ) (facts : Facts) (f : Follows settings first machine due facts) (poller : Option Polling)
+  module _ (from : Life) (machine : Machine) (due : ℕ) (facts : Facts) (f : Follows settings first from machine due facts) (poller : Option Polling)
       (r : IsRunsPoller first machine facts poller) where
     -- an event without a line
     stays_by : (later : Machine) → polling_of first later ≡ polling_of first machine → IsRunsPoller first later facts poller
@@ -125,8 +125,8 @@ module _ (settings : Settings) (range : AreInRange settings) (first : ℕ) where
 
     -- and where there is none, since no poll was sent
     hears_none : (command : Command) (place : ℕ) (octets : List ℕ)
-        → IsReceived first facts machine.to_module machine.to_cpu machine.last_to_module machine.round due command
-        → Answers facts command octets → (poller ≡ None) × (facts.polled ≡ None) × (machine.items ≡ [])
+        → (done : IsReceived settings first from (life_of machine.history) facts machine.to_module machine.to_cpu machine.last_to_module machine.round due command)
+        → Answers settings facts done.life command octets → (poller ≡ None) × (facts.polled ≡ None) × (machine.items ≡ [])
         → IsRunsPoller first (after_delivered_block first (record machine { last_to_cpu = place + 1 }) (block_in octets))
         (facts_with facts (observation_in false octets))
         (poller_by poller (number_polled (observation_in false octets)) (block_in octets))
@@ -134,7 +134,7 @@ module _ (settings : Settings) (range : AreInRange settings) (first : ℕ) where
         absurd (cc (unpolled.1, (done.asked.polled number refl).0))
     hears_none other place octets done h unpolled = hears_other other place octets h
       where
-        hears_other : (command : Command) (place : ℕ) (octets : List ℕ) → IsHeardAs command octets
+        hears_other : (command : Command) (place : ℕ) (octets : List ℕ) → IsHeardAs settings done.life command octets
             → IsRunsPoller first (after_delivered_block first (record machine { last_to_cpu = place + 1 }) (block_in octets))
             (facts_with facts (observation_in false octets))
             (poller_by poller (number_polled (observation_in false octets)) (block_in octets))
@@ -147,7 +147,7 @@ module _ (settings : Settings) (range : AreInRange settings) (first : ℕ) where
             (passes machine later facts poller (seen.Answer (answer_type_to command) h.accepted) refl refl refl r))
 
     hears : (place : ℕ) (frame : SentFrame) → slice_get machine.to_cpu place ≡ Some frame
-        → machine.last_to_cpu < place + 1 → place + 1 ≡ due → Stage first facts machine due
+        → machine.last_to_cpu < place + 1 → place + 1 ≡ due → Stage settings first from facts machine due
         → IsRunsPoller first machine facts poller
         → IsRunsPoller first (after_delivery_to_cpu first machine (place + 1) (Some frame)) (facts_with facts (observation_in false frame.octets))
         (poller_by poller (number_polled (observation_in false frame.octets)) (block_in frame.octets))
@@ -183,21 +183,21 @@ module _ (settings : Settings) (range : AreInRange settings) (first : ℕ) where
         (λ place frame le at new is. hears place frame at new is f.stage r) (omega arith) (omega arith)
 
   -- so all events do
-  all_have : (events : List Event) (machine last : Machine) (due : ℕ) (facts : Facts) (poller : Option Polling)
-      → IsKept settings first machine → Follows settings first machine due facts → IsRunsPoller first machine facts poller
+  all_have : (events : List Event) (from : Life) (machine last : Machine) (due : ℕ) (facts : Facts) (poller : Option Polling)
+      → IsKept settings first machine → Follows settings first from machine due facts → IsRunsPoller first machine facts poller
       → Leads settings first machine events last → HaveNoRestart events → AllByRecursion IsWithinRanges events
       → ArePrompt settings first machine due events
       → (facts' : Facts) × IsRunsPoller first last facts' (poller_by_frames poller (frames_from settings first machine events))
-  all_have [] machine last due facts poller k f r leads none within prompt =
+  all_have [] from machine last due facts poller k f r leads none within prompt =
       (facts, subst (λ m. IsRunsPoller first m facts poller) (sym leads) r)
-  all_have (event ∷ events) machine last due facts poller k f r leads none within prompt =
-      let here = keeps-event settings range first machine due facts k f event leads.0 none.0 within.0 prompt.0 in
+  all_have (event ∷ events) from machine last due facts poller k f r leads none within prompt =
+      let here = keeps-event settings range first from machine due facts k f event leads.0 none.0 within.0 prompt.0 in
       let frames = frames_at first machine event in
       let next = after settings first machine event in
       let now : IsKept settings first next =
       kept_all settings range first (event ∷ []) machine next (none.0, tt) (leads.0, refl) k in
-      let rest = all_have events next last (due_after machine due event) (facts_below facts frames) (poller_by_frames poller frames) now here.follows
-      (runs_poller machine due facts f poller r event leads.0 none.0 within.0 prompt.0) leads.1 none.1 within.1 prompt.1 in
+      let rest = all_have events (from_after machine from event) next last (due_after machine due event) (facts_below facts frames) (poller_by_frames poller frames) now here.follows
+      (runs_poller from machine due facts f poller r event leads.0 none.0 within.0 prompt.0) leads.1 none.1 within.1 prompt.1 in
       (rest.0, subst (IsRunsPoller first last rest.0) (sym (of_both poller frames (frames_from settings first next events))) rest.1)
 
 has_poller : (first : ℕ) (machine : Machine) (facts : Facts) (lines : List TranscriptLine)
@@ -210,7 +210,7 @@ has_poller first machine facts lines (inr there) =
 -- the record of a prompt run's transcript is that of the run's poller
 pub keeps_record : KeepsRecord
 keeps_record settings first events machine range run lines has =
-    let found = all_have settings range first events start machine 0 no_facts None
+    let found = all_have settings range first events [] start machine 0 no_facts None
     (kept settings range first [] start refl tt) (follows-start settings first) (inl (refl, refl, refl))
     run.is_run run.no_restart run.within run.prompt in
     has_poller first machine found.0 lines

@@ -1,5 +1,5 @@
 -- The CPU's end sends a command: its line breaks no rule.
-use Rattle.fio_ends.proofs.Names.{◌≡◌, ◌∙◌, ◌+◌, ◌%◌, ◌<◌, inl, inr, ℕ, Bool, true, false, List, [], ◌∷◌, ◌++◌, length, Option, Some, None, refl, ap, sym, subst, arith, length-append, if◌then◌else◌, ◌==◌, not, option_map, option_map_or, nat_tests, same_Some, slice_get_within, Command, command_octets, IsCommand, command_in, poll_in, Settings, facts_with, number_due, answer_type_to, names_absent, observation_in, observation_of, first_broken, Facts, Observation, SentFrame, Machine, number_of, sending_refusal, after_sending, get_after_push, get_push, number_of-fits, none_more, CpuFrame}
+use Rattle.fio_ends.proofs.Names.{◌≡◌, ◌∙◌, ◌+◌, ◌%◌, ◌<◌, inl, inr, ℕ, Bool, true, false, List, [], ◌∷◌, ◌++◌, length, Option, Some, None, refl, ap, sym, subst, arith, length-append, if◌then◌else◌, ◌==◌, not, option_map, option_map_or, nat_tests, same_Some, slice_get_within, Command, command_octets, IsCommand, command_in, poll_in, Settings, facts_with, number_due, answer_type_to, names_absent, observation_in, observation_of, first_broken, Facts, Observation, SentFrame, Machine, number_of, sending_refusal, after_sending, get_after_push, get_push, number_of-fits, none_more, CpuFrame, life_of}
 use Rattle.fio_message.specs.declared.commands.Command.TheVariants as commands
 use Rattle.fio_message.proofs.MessageLaws.{command_back}
 use Rattle.fio_check.specs.Observations.{observation_of_command}
@@ -7,7 +7,7 @@ use Rattle.fio_check.specs.declared.rules.Rule.TheVariants as tried
 use Rattle.fio_check.specs.declared.observation.Observation.TheVariants as seen
 use Rattle.fio_link.proofs.Spelled.{no_poll_in}
 use Rattle.fio_ends.proofs.Rules.{KeepsRules, no_rule_broken}
-use Rattle.fio_ends.proofs.Following.{AreBefore, IsAsked, Stage, Follows, Keeps, last_is_sent}
+use Rattle.fio_ends.proofs.Following.{AreBefore, IsAsked, Stage, Follows, Keeps, MaySend}
 
 -- a command within its ranges is read back
 pub read_back : (command : Command) → IsCommand command → command_in (command_octets command) ≡ Some command
@@ -75,8 +75,8 @@ pub other_said : (command : Command) → sending_refusal command ≡ None
 other_said (commands.Poll number) fine = absurd (cc fine)
 other_said other fine = refl
 
-module _ (settings : Settings) (first : ℕ) (machine : Machine) (due : ℕ) (facts : Facts)
-    (f : Follows settings first machine due facts) where
+module _ (settings : Settings) (first : ℕ) (machine : Machine) (facts : Facts)
+    (f : MaySend settings first machine facts) where
   -- the frame of a command
   abbrev frame_of : Command → SentFrame
   frame_of command = record { octets = command_octets command; round = machine.round }
@@ -86,7 +86,7 @@ module _ (settings : Settings) (first : ℕ) (machine : Machine) (due : ℕ) (fa
       → IsAsked first (facts_with facts said) machine.round command
       → ((number : ℕ) → command ≡ commands.Poll number → (facts_with facts said).advanced ≡ true
       → AreBefore (machine.to_module ++ frame_of command ∷ []) machine.polls machine.round (length machine.to_module))
-      → Stage first (facts_with facts said) (after_sending machine command) 0
+      → Stage settings first (life_of machine.history) (facts_with facts said) (after_sending machine command) 0
   under_way command said within asked before =
       let frames = machine.to_module in
       inr (inl (
@@ -98,7 +98,7 @@ module _ (settings : Settings) (first : ℕ) (machine : Machine) (due : ℕ) (fa
           sent_last = length-append frames (frame_of command ∷ []);
           at_place = get_push frames (frame_of command);
           spells = read_back command within;
-          passed = last_is_sent first facts machine due f.stage;
+          passed = f.sent;
           none_due = refl;
           before = before;
         },
@@ -106,7 +106,7 @@ module _ (settings : Settings) (first : ℕ) (machine : Machine) (due : ℕ) (fa
 
   -- the machine's own poll
   follows-poll : let number = number_of first machine.round in
-      Follows settings first (after_sending machine (commands.Poll number)) 0 (facts_with facts (seen.Poll number))
+      Follows settings first (life_of machine.history) (after_sending machine (commands.Poll number)) 0 (facts_with facts (seen.Poll number))
   follows-poll =
       let number = number_of first machine.round in
       let fits : number < 256 = omega (arith, number_of-fits first machine.round) in
@@ -116,6 +116,7 @@ module _ (settings : Settings) (first : ℕ) (machine : Machine) (due : ℕ) (fa
         answered = λ is. absurd (cc is);
         more = λ m is. (let b = f.more m is in
             record { earlier = b.earlier; block = b.block; next = b.next; at_place = b.at_place; same = b.same });
+        now = record { more = []; is = refl };
         stage = under_way command (seen.Poll number) fits
             (record {
               awaited = refl;
@@ -128,7 +129,7 @@ module _ (settings : Settings) (first : ℕ) (machine : Machine) (due : ℕ) (fa
 
   pub sends-poll : let number = number_of first machine.round in
       let frame : CpuFrame = record { from_cpu = true; octets = command_octets (commands.Poll number) } in
-      Keeps settings first facts (frame ∷ []) (after_sending machine (commands.Poll number)) 0
+      Keeps settings first (life_of machine.history) facts (frame ∷ []) (after_sending machine (commands.Poll number)) 0
   sends-poll =
       let number = number_of first machine.round in
       let fits : number < 256 = omega (arith, number_of-fits first machine.round) in
@@ -137,12 +138,12 @@ module _ (settings : Settings) (first : ℕ) (machine : Machine) (due : ℕ) (fa
       no_rule_broken facts (seen.Poll number) (poll_keeps facts number f.number) in
       record {
         rules = λ wide full. (ap (first_broken facts) said ∙ kept, tt);
-        follows = subst (λ o. Follows settings first (after_sending machine (commands.Poll number)) 0 (facts_with facts o)) (sym said) follows-poll;
+        follows = subst (λ o. Follows settings first (life_of machine.history) (after_sending machine (commands.Poll number)) 0 (facts_with facts o)) (sym said) follows-poll;
       }
 
   -- another command
   follows-other : (command : Command) → sending_refusal command ≡ None → IsCommand command
-      → Follows settings first (after_sending machine command) 0
+      → Follows settings first (life_of machine.history) (after_sending machine command) 0
       (facts_with facts (seen.Command (answer_type_to command) (names_absent command)))
   follows-other command fine within =
       let none = no_poll_in command fine in
@@ -150,6 +151,7 @@ module _ (settings : Settings) (first : ℕ) (machine : Machine) (due : ℕ) (fa
         number = f.number;
         answered = λ is. before_other machine.to_module (frame_of command) machine.polls machine.round none (f.answered is);
         more = f.more;
+        now = record { more = []; is = refl };
         stage = under_way command (seen.Command (answer_type_to command) (names_absent command)) within
             (record {
               awaited = refl;
@@ -160,11 +162,11 @@ module _ (settings : Settings) (first : ℕ) (machine : Machine) (due : ℕ) (fa
       }
 
   pub sends-other : (command : Command) → sending_refusal command ≡ None → IsCommand command
-      → Keeps settings first facts (record { from_cpu = true; octets = command_octets command } ∷ []) (after_sending machine command) 0
+      → Keeps settings first (life_of machine.history) facts (record { from_cpu = true; octets = command_octets command } ∷ []) (after_sending machine command) 0
   sends-other command fine within =
       let said = said_of command within ∙ other_said command fine in
       record {
         rules = λ wide full. (ap (first_broken facts) said ∙ refl, tt);
-        follows = subst (λ o. Follows settings first (after_sending machine command) 0 (facts_with facts o)) (sym said)
+        follows = subst (λ o. Follows settings first (life_of machine.history) (after_sending machine command) 0 (facts_with facts o)) (sym said)
             (follows-other command fine within);
       }

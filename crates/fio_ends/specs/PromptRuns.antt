@@ -1,5 +1,5 @@
 -- Prompt runs: no frame is delivered twice, and an answer reaches the CPU directly after its command or never.
-use Rattle.std.specs.Prelude.{◌≡◌, ℕ, ◌+◌, ◌<◌, ◌==◌, List, [], ◌∷◌, length, if◌then◌else◌}
+use Rattle.std.specs.Prelude.{◌≡◌, ℕ, ◌+◌, ◌<◌, ◌==◌, List, [], ◌∷◌, ◌++◌, length, if◌then◌else◌}
 use Rattle.std.specs.List.{AllByRecursion}
 use Rattle.fio_message.specs.Commands.{IsCommand}
 use Rattle.fio_module.specs.Settings.{Settings, AreInRange, HasRoom}
@@ -8,9 +8,9 @@ use Rattle.fio_check.specs.Verdicts.{verdict_on}
 use Rattle.fio_check.specs.declared.verdict.Verdict.TheVariants.{Good}
 use Rattle.fio_link.specs.declared.event.Event.{Event}
 use Rattle.fio_link.specs.declared.event.Event.TheVariants.{Poll, Send, ToModule, ToCpu}
-use Rattle.fio_link.specs.Link.{Machine, start, after, IsRun}
+use Rattle.fio_link.specs.Link.{Machine, start, after, IsRun, Leads}
 use Rattle.fio_link.specs.Headline.{HaveNoRestart}
-use Rattle.fio_ends.specs.Transcripts.{HaveFrames, transcript_of}
+use Rattle.fio_ends.specs.Transcripts.{HaveFrames, frames_from, transcript_of}
 
 -- After an event, the number that the answer to the command sent last has among the frames to the CPU, if
 -- it is answered; 0 until the module receives that command.
@@ -56,4 +56,23 @@ NeverAccuses per_block =
     AreInRange settings → HasRoom settings → settings.per_block ≡ per_block →
     IsPromptRun settings first events machine →
     (lines : List TranscriptLine) → HaveFrames lines (transcript_of settings first events) →
+    verdict_on lines ≡ Good (length lines)
+
+-- ---- a log that begins later
+
+-- the first event is a command of the CPU's end
+abbrev pub BeginsWithCommand : List Event → Type 0
+BeginsWithCommand (Poll ∷ events) = Unit {0}
+BeginsWithCommand (Send command ∷ events) = Unit {0}
+BeginsWithCommand events = ⊥
+
+-- Nor is there a false accusation in a log that begins later: what the CPU's end logs of a prompt run from any command on
+-- is good, where there is room and a block takes so many entries.
+abbrev pub NeverAccusesLater : ℕ → Type 0
+NeverAccusesLater per_block =
+    (settings : Settings) (first : ℕ) (before later : List Event) (machine last : Machine) →
+    AreInRange settings → HasRoom settings → settings.per_block ≡ per_block →
+    IsPromptRun settings first (before ++ later) last →
+    Leads settings first start before machine → BeginsWithCommand later →
+    (lines : List TranscriptLine) → HaveFrames lines (frames_from settings first machine later) →
     verdict_on lines ≡ Good (length lines)

@@ -1,9 +1,10 @@
 //! Laws of the definitions: each function states one in its contract, and does nothing.
-ghost use Rattle.fio_check.specs.declared.content_rules.ContentRule.TheVariants.{Alternate, Apart, Order};
+ghost use Rattle.fio_check.specs.declared.content_rules.ContentRule.TheVariants.{Accepted, Alternate, Apart, Cleared, Clock, Done, Fresh, Ignored, Order, State, Watchdog};
 ghost use Rattle.fio_ends.specs.Calls.{CallsAreRuns};
-ghost use Rattle.fio_ends.specs.ContentRuns.{ContentNeverAccuses, NoEntryIsBroken};
+ghost use Rattle.fio_ends.specs.ContentPremises.{HasNearEntries, HasNearInputs, HasNearStamps, HasNearStates, HasNearTimes};
+ghost use Rattle.fio_ends.specs.ContentRuns.{AccusesNone, Always, ContentNeverAccuses};
 ghost use Rattle.fio_ends.specs.Pollers.{GoodIsOfPoller};
-ghost use Rattle.fio_ends.specs.PromptRuns.{NeverAccuses};
+ghost use Rattle.fio_ends.specs.PromptRuns.{NeverAccuses, NeverAccusesLater};
 ghost use Rattle.fio_ends.specs.RunRecords.{KeepsRecord};
 
 /// A good transcript is that of a right CPU's end: a poller that starts with the first poll's number has
@@ -18,6 +19,12 @@ pub fn prompt_runs_are_good()
     ensures { NeverAccuses 255 }
 {}
 
+/// No false accusation in a log that begins later: from any command of a prompt run on, what the CPU's end logs is good.
+#[tactic(auto, using(crate::proofs::PromptRuns::never_accuses_later))]
+pub fn later_logs_are_good()
+    ensures { NeverAccusesLater 255 }
+{}
+
 /// The record of a prompt run's transcript is that of the run's CPU, item by item: a poller that starts with
 /// the first poll's number, and hears what the transcript has, ends as the run's own.
 #[tactic(auto, using(crate::proofs::RunRecords::keeps_record))]
@@ -25,32 +32,82 @@ pub fn prompt_runs_are_recorded()
     ensures { KeepsRecord }
 {}
 
-/// The rule `order` never accuses: in the transcript of a prompt run it is kept by each entry, where an
-/// entry waits for fewer than 65,536 scans and comes fewer than 2^31 scans after the one before it.
-#[tactic(auto, using(crate::proofs::OrderKept::order_never_accuses))]
+/// The rule `done` never accuses: what the CPU's end logs of a prompt run from any command on keeps it.
+#[tactic(auto, using(crate::proofs::AnswersKept::done_never_accuses))]
+pub fn done_never_accuses()
+    ensures { ContentNeverAccuses Done Always }
+{}
+
+/// The rule `accepted` never accuses, of any log.
+#[tactic(auto, using(crate::proofs::AnswersKept::accepted_never_accuses))]
+pub fn accepted_never_accuses()
+    ensures { ContentNeverAccuses Accepted Always }
+{}
+
+/// Nor does `cleared`.
+#[tactic(auto, using(crate::proofs::AnswersKept::cleared_never_accuses))]
+pub fn cleared_never_accuses()
+    ensures { ContentNeverAccuses Cleared Always }
+{}
+
+/// Nor does `watchdog`.
+#[tactic(auto, using(crate::proofs::AnswersKept::watchdog_never_accuses))]
+pub fn watchdog_never_accuses()
+    ensures { ContentNeverAccuses Watchdog Always }
+{}
+
+/// The rule `clock` never accuses of a log in which no load that was sent before takes effect, and fewer than 2^31 scans lie
+/// between successive stamps.
+#[tactic(auto, using(crate::proofs::ClockKept::clock_never_accuses))]
+pub fn clock_never_accuses()
+    ensures { ContentNeverAccuses Clock HasNearStamps }
+{}
+
+/// The rule `order` never accuses: what the CPU's end logs of a prompt run from any command on keeps it, where no load that
+/// was sent before takes effect, an entry waits for fewer than 65,536 scans, and it comes fewer than 2^31 scans after the
+/// latest entry or block without C above it.
+#[tactic(auto, using(crate::proofs::FloorsKept::order_never_accuses))]
 pub fn order_never_accuses()
-    ensures { ContentNeverAccuses Order }
+    ensures { ContentNeverAccuses Order HasNearEntries }
 {}
 
-/// The rule `alternate` never accuses: in the transcript of a prompt run it is kept by each entry, whatever
-/// its time.
-#[tactic(auto, using(crate::proofs::AlternateRuns::alternate_never_accuses))]
+/// The rule `fresh` never accuses, of the same logs.
+#[tactic(auto, using(crate::proofs::FloorsKept::fresh_never_accuses))]
+pub fn fresh_never_accuses()
+    ensures { ContentNeverAccuses Fresh HasNearEntries }
+{}
+
+/// The rule `alternate` never accuses: what the CPU's end logs of a prompt run from any command on keeps it, whatever its times.
+#[tactic(auto, using(crate::proofs::AlternateKept::alternate_never_accuses))]
 pub fn alternate_never_accuses()
-    ensures { ContentNeverAccuses Alternate }
+    ensures { ContentNeverAccuses Alternate Always }
 {}
 
-/// The rule `apart` never accuses: in the transcript of a prompt run it is kept by each entry, where an
-/// entry waits for fewer than 65,536 scans and comes fewer than 2^32 scans after the one before it of its
-/// input.
-#[tactic(auto, using(crate::proofs::ApartRuns::apart_never_accuses))]
+/// Nor does the rule `ignored`, of any log.
+#[tactic(auto, using(crate::proofs::IgnoredKept::ignored_never_accuses))]
+pub fn ignored_never_accuses()
+    ensures { ContentNeverAccuses Ignored Always }
+{}
+
+/// The rule `apart` never accuses of a log in which no load that was sent before takes effect, an entry waits for fewer than
+/// 65,536 scans, and it comes fewer than 2^32 scans after the latest one of its input.
+#[tactic(auto, using(crate::proofs::ApartKept::apart_never_accuses))]
 pub fn apart_never_accuses()
-    ensures { ContentNeverAccuses Apart }
+    ensures { ContentNeverAccuses Apart HasNearInputs }
 {}
 
-/// So no entry of the record in such a transcript breaks a rule on content.
-#[tactic(auto, using(crate::proofs::NoEntryBroken::no_entry_is_broken))]
-pub fn no_entry_is_broken()
-    ensures { NoEntryIsBroken }
+/// The rule `state` never accuses of a log in which no load that was sent before takes effect, an entry waits for fewer than
+/// 65,536 scans, and fewer than 2^31 scans lie between the states that were asked for and each entry and block that is recorded
+/// below them, till the record comes to them.
+#[tactic(auto, using(crate::proofs::StateKept::state_never_accuses))]
+pub fn state_never_accuses()
+    ensures { ContentNeverAccuses State HasNearStates }
+{}
+
+/// So a checker of content accuses no right link, from any command on, where all this holds.
+#[tactic(auto, using(crate::proofs::FaultsOfLogs::accuses_none))]
+pub fn content_accuses_no_right_link()
+    ensures { AccusesNone HasNearTimes }
 {}
 
 /// Any calls of the exports of one module, whatever its limits, with its ring, and of one poller, with

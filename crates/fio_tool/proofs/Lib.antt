@@ -3,6 +3,6 @@ pub mod TranscriptLemmas
 pub mod CommandLineLemmas
 pub mod LongFrames
 pub mod CheckedLines
-pub mod BrokenEntries
+pub mod ContentBreaches
 pub mod RecordedLines
 pub mod FramesShown

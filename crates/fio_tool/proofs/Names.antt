@@ -13,7 +13,7 @@ unfoldable pub use Rattle.fio_message.specs.Decoding.{message_in}
 pub use Rattle.fio_text.specs.FirstFaults.{values_or_fault, with_first}
 pub use Rattle.fio_text.specs.Lines.{is_skipped, lines_of, numbered, with_front}
 pub use Rattle.fio_tool.specs.CommandLine.{NamesTool, chosen_name, command_line, name_of, program, tools, with_tool}
-pub use Rattle.fio_tool.specs.Recordings.{IsNoRecording, IsRecordingOf, RecordsLine, entries_heard, entries_taken, entry_of_item, item_broken}
+pub use Rattle.fio_tool.specs.Recordings.{IsNoRecording, IsRecordingOf, RecordsLine, fault_of_item, item_broken}
 pub use Rattle.fio_tool.specs.Show.{is_line_good, line_text, shown_line, shown_octets, text_at}
 pub use Rattle.fio_tool.specs.Transcript.{IsReadFrame, SpellsSame, frame_in, line_in, transcript_in, verdict_in, verdict_of}
 pub use Rattle.fio_tool.specs.declared.tools.Tool.TheVariants.{Check, Record, Show, Simulate}

@@ -1,5 +1,5 @@
--- One pass over a text, frame by frame, as the CPU of the lines that are read of it and the first entry that breaks a rule
--- on content.
+-- One pass over a text, frame by frame, as the CPU of the lines that are read of it and the first breach of a rule on
+-- content.
 use Rattle.fio_tool.proofs.Names.{◌≡◌, ◌∙◌, ℕ, List, [], ◌∷◌, map, None, Ok, sym, ap, fold, values_or_fault, TranscriptLine, IsNoRecording, IsRecordingOf, RecordsLine, line_in}
 use Rattle.fio_check.specs.declared.observation.Observation.TheVariants.{Unreadable}
 use Rattle.fio_check.specs.ContentKept.{content_kept}
@@ -8,7 +8,7 @@ use Rattle.fio_tool.specs.Judging.{IsJudged}
 use Rattle.fio_tool.specs.declared.transcript.judging.Judging.{Judging}
 use Rattle.fio_tool.specs.declared.transcript.recording.Recording.{Recording}
 use Rattle.fio_tool.proofs.CheckedLines.{first-left, still_none}
-use Rattle.fio_tool.proofs.BrokenEntries.{IsBrokenSoFar, broken_end, broken_first, broken_next}
+use Rattle.fio_tool.proofs.ContentBreaches.{IsBrokenSoFar, broken_end, broken_first, broken_next}
 
 -- a line that is unreadable breaks a rule
 pub unreadable_breaks : (before after : Judging) (number : ℕ) → IsJudged before number Unreadable after → after.breach ≡ None → ⊥

@@ -2,7 +2,7 @@
 use Rattle.std.specs.Prelude.{ℕ, Bool, List, [], ◌++◌, ◌&&◌, codes, decimal, length, false, is_some, not, if◌then◌else◌, Option, Some, None, Result, Ok, Err}
 use Rattle.std.specs.List.{flat_map}
 use Rattle.std.specs.Option.{option_map_or}
-use Rattle.fio_check.specs.ContentRules.{BrokenEntry, broken_entry_in, content_rule_name}
+use Rattle.fio_check.specs.ContentRules.{ContentFault, content_fault_in, content_rule_name}
 use Rattle.fio_check.specs.Lines.{TranscriptLine}
 use Rattle.fio_check.specs.Pollers.{poller_of}
 use Rattle.fio_check.specs.Verdicts.{verdict_on}
@@ -33,21 +33,25 @@ abbrev pub record_lines : List Item → List ℕ
 record_lines items =
     codes "record " ++ (decimal (length items) ++ (codes "\n" ++ flat_map item_line items))
 
--- the line for an entry that breaks a rule on content
-abbrev pub broken_entry_line : BrokenEntry → List ℕ
-broken_entry_line broken =
-    codes "line " ++ (decimal broken.line ++ (codes " input " ++ (decimal broken.input
-    ++ (codes " breaks " ++ (content_rule_name broken.rule ++ codes "\n")))))
+-- the front of the line for a fault, by its input if there is one
+abbrev pub fault_front : ℕ → Option ℕ → List ℕ
+fault_front line None = codes "line " ++ (decimal line ++ codes " breaks ")
+fault_front line (Some input) =
+    codes "line " ++ (decimal line ++ (codes " input " ++ (decimal input ++ codes " breaks ")))
 
--- the lines for a record; where an entry breaks a rule on content, those for the items above it, and the line for the
--- entry
-abbrev pub judged_record : Option BrokenEntry → List Item → List ℕ
+-- the line for a fault
+abbrev pub fault_line : ContentFault → List ℕ
+fault_line fault =
+    (fault_front fault.line fault.input ++ content_rule_name fault.rule) ++ codes "\n"
+
+-- the lines for a record; if a rule on content is broken, those for the items above the fault, and the line for the fault
+abbrev pub judged_record : Option ContentFault → List Item → List ℕ
 judged_record None items = record_lines items
-judged_record (Some broken) items = record_lines broken.above ++ broken_entry_line broken
+judged_record (Some fault) items = record_lines fault.above ++ fault_line fault
 
 -- the lines for the transcript of this verdict: its record, judged, where no rule is broken, else the line for the verdict
 abbrev pub record_below : Verdict → List TranscriptLine → List ℕ
-record_below (Good frames) lines = judged_record (broken_entry_in lines) (record_of lines)
+record_below (Good frames) lines = judged_record (content_fault_in false lines) (record_of lines)
 record_below (Broken number rule) lines = verdict_text (Broken number rule)
 
 -- the text for the lines of a transcript, or for its first faulty line
@@ -60,9 +64,9 @@ abbrev pub record_text : List ℕ → List ℕ
 record_text input =
     if is_too_long input then too_long_text else transcript_record (transcript_in input)
 
--- no line of a transcript breaks a rule, and no entry a rule on content
+-- a transcript breaks no rule, and no rule on content
 abbrev pub is_record_kept : Result (List TranscriptLine) TraceError → Bool
-is_record_kept (Ok lines) = is_good (verdict_on lines) && not (is_some (broken_entry_in lines))
+is_record_kept (Ok lines) = is_good (verdict_on lines) && not (is_some (content_fault_in false lines))
 is_record_kept (Err fault) = false
 
 -- whether it reports no fault

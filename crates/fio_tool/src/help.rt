@@ -105,18 +105,28 @@ pub(crate) const RECORD: &str = "\
 Reads:   a transcript, as fio2070 check does.
 Writes:  what the CPU of the transcript recorded: `record N`, and then its N items, `gap`
          where an overflow pushed entries out, and each entry with its stamp and its wide
-         time. Where an entry breaks a rule on content, only the items above the first
-         such entry, and then `line L input I breaks RULE` with its line and the first of:
-           order      it has a wide time before that of the entry above it: two are
-                      swapped, or the module restarted
-           alternate  it has the state of the latest entry of its input: one is lost,
-                      doubled or turned
-           apart      it has the other state than the latest entry of its input, but is
-                      nearer to it than the filter for the change
-         Gap marks, loads of the counter and configurations lift these rules, as
-         docs/FORMATS.md says. Where a line breaks a rule or is no frame, what fio2070
-         check writes, and no record. For the rules see fio2070 check --help, for stamp
-         and wide fio2070 show --help.
+         time. Where an entry or an answer breaks a rule on content, only the items above
+         the first such breach, and then `line L input I breaks RULE`, for an answer
+         `line L breaks RULE`, with its line and one of:
+           order      An entry is later than the entry above it, or has its time and a
+                      higher input.
+           fresh      An entry is later than the stamp of the latest block without C,
+                      which had all entries up to that stamp.
+           alternate  The entries of an input have the states 0 and 1 in turn.
+           apart      An entry of an input follows the one before no sooner than the
+                      filter for its change lets it.
+           ignored    An input that is ignored has no entry.
+           state      An answer 181 has the states of the record at its stamp.
+           clock      The stamp of a 177, 180 or 181, or of a block without E, is not
+                      before the latest one above.
+           done       An answer 178 has no S: a load of the counter is never refused.
+           accepted   An answer 179 has no S, if its configuration names no input above
+                      63.
+           cleared    An answer 177 has none of the flags that its command clears.
+           watchdog   An answer 186 has Y, if another 186 is above.
+         docs/FORMATS.md says when each is judged. A transcript may begin anywhere in a
+         log. Where a line breaks a rule of fio2070 check or is no frame, what that writes,
+         and no record. For stamp and wide see fio2070 show --help.
 
 Exit status:
   0  the transcript keeps the rules

@@ -1,13 +1,13 @@
 //! The text with the record of a transcript's CPU, judged by the rules on content.
 ghost use Rattle.std.specs.Prelude.{◌≡◌, ◌++◌, List, IfOk, OnOk, Some, is_some, not, take};
 ghost use Rattle.fio_cpu.specs.declared.record.Item.{Item as ItemOf};
-ghost use Rattle.fio_tool.specs.Record.{broken_entry_line, is_record_good, items_of_cpu, judged_record, record_lines, record_text};
-ghost use Rattle.fio_tool.specs.Recordings.{broken_entry_of, entry_of_item};
+ghost use Rattle.fio_tool.specs.Record.{fault_front, fault_line, is_record_good, items_of_cpu, judged_record, record_lines, record_text};
+ghost use Rattle.fio_tool.specs.Recordings.{fault_of_recording, fault_of_item};
 
 use super::check::{report_of_bad_line, report_of_verdict};
 use super::{is_too_long, report_too_long};
 use crate::transcript::{BrokenItem, Recording, TraceError, record_lines};
-use fio_check::{ContentRule, Verdict};
+use fio_check::Verdict;
 use fio_cpu::Item;
 use fio_message::Memory;
 use fio_show::push_items;
@@ -18,8 +18,8 @@ use std::alloc::{AllocError, Global};
 /// line for each of its N items, `gap` or `input I state L stamp S wide W`. That CPU starts at the first
 /// poll with the number of that poll, and hears each frame below.
 ///
-/// Where an entry of the record breaks a rule on content, the text has only the items above the first one that does, and
-/// then the line `line L input I breaks RULE` with the number of the entry's line; the report is not good. Where
+/// If a rule on content is broken, the text has only the items above the first breach, and then the line `line L input I
+/// breaks RULE` or, for an answer, `line L breaks RULE`, with the number of its line; the report is not good. Where
 /// the report of `check_text` is not good, it is that report, and there is no record.
 ///
 /// # Errors
@@ -45,9 +45,9 @@ pub fn record_text(alloc: Global, input: &[u8]) -> Result<Report, Memory>
 /// `Memory` where there is no room for its lines.
 fn report_of_recording(alloc: Global, recording: &Recording) -> Result<Report, Memory>
     ensures text { IfOk result (λ report. report.text.items
-        ≡ judged_record (broken_entry_of recording.now) (items_of_cpu recording.now.cpu)) }
+        ≡ judged_record (fault_of_recording recording.now) (items_of_cpu recording.now.cpu)) }
     ensures good { IfOk result (λ report.
-        report.good ≡ not (is_some (broken_entry_of recording.now))) }
+        report.good ≡ not (is_some (fault_of_recording recording.now))) }
 {
     let mut text = Vec::new(alloc);
     push_recording(&mut text, recording)?;
@@ -60,7 +60,7 @@ fn report_of_recording(alloc: Global, recording: &Recording) -> Result<Report, M
 /// Appends the lines for what a pass over a transcript keeps.
 fn push_recording(text: &mut Vec<u8>, recording: &Recording) -> Result<(), AllocError>
     ensures { OnOk result (text.new.items ≡ text.old.items
-        ++ judged_record (broken_entry_of recording.now) (items_of_cpu recording.now.cpu)) }
+        ++ judged_record (fault_of_recording recording.now) (items_of_cpu recording.now.cpu)) }
 {
     let items = recording.items();
     match recording.broken {
@@ -69,10 +69,10 @@ fn push_recording(text: &mut Vec<u8>, recording: &Recording) -> Result<(), Alloc
     }
 }
 
-/// Appends the lines for the items above an entry that breaks a rule, and the line for the entry.
+/// Appends the lines for the items above a fault, and the line for the fault.
 fn push_broken(text: &mut Vec<u8>, items: &[Item], broken: BrokenItem) -> Result<(), AllocError>
     ensures { OnOk result (text.new.items ≡ text.old.items
-        ++ judged_record (Some (entry_of_item items.now broken)) items.now) }
+        ++ judged_record (Some (fault_of_item items.now broken)) items.now) }
 {
     push_record(text, first_items(items, broken.above))?;
     push_broken_line(text, broken)
@@ -86,23 +86,24 @@ fn first_items(items: &[Item], count: usize) -> &[Item]
     &items[..count.min(items.len())]
 }
 
-/// Appends the line for an entry that breaks a rule.
+/// Appends the line for a fault.
 fn push_broken_line(text: &mut Vec<u8>, broken: BrokenItem) -> Result<(), AllocError>
     ensures { (items : List ItemOf) → OnOk result (text.new.items
-        ≡ text.old.items ++ broken_entry_line (entry_of_item items broken)) }
+        ≡ text.old.items ++ fault_line (fault_of_item items broken)) }
 {
-    let line = broken.line as u64;
-    let input = broken.input;
-    match broken.rule {
-        ContentRule::Order => {
-            push_line!(text; b"line " {line} b" input " {input} b" breaks order\n")
-        }
-        ContentRule::Alternate => {
-            push_line!(text; b"line " {line} b" input " {input} b" breaks alternate\n")
-        }
-        ContentRule::Apart => {
-            push_line!(text; b"line " {line} b" input " {input} b" breaks apart\n")
-        }
+    push_broken_front(text, broken.line, broken.input)?;
+    text.extend_from_slice(broken.rule.name().as_bytes())?;
+    text.extend_from_slice(b"\n")
+}
+
+/// Appends the front of the line for a fault.
+fn push_broken_front(text: &mut Vec<u8>, line: usize, input: Option<u8>) -> Result<(), AllocError>
+    ensures { OnOk result (text.new.items ≡ text.old.items ++ fault_front line input) }
+{
+    let line = line as u64;
+    match input {
+        Some(input) => push_line!(text; b"line " {line} b" input " {input} b" breaks "),
+        None => push_line!(text; b"line " {line} b" breaks "),
     }
 }
 

@@ -1,28 +1,28 @@
-//! The record of a transcript's CPU, and the first entry of it that breaks a rule on content, frame by frame.
-ghost use Rattle.std.specs.Prelude.{◌≡◌, Some, None, IfOk, OnOk, length, true, false};
+//! The record of a transcript's CPU, and the first breach of a rule on content, frame by frame.
+ghost use Rattle.std.specs.Prelude.{◌≡◌, ◌<◌, ◌^◌, Some, None, OnOk, true, false};
 ghost use Rattle.std.specs.Option.{option_or};
 ghost use Rattle.fio_message.specs.Decoding.{answer_in, command_in};
 ghost use Rattle.fio_message.specs.Views.{answer_of, command_of};
 ghost use Rattle.fio_check.specs.Lines.{TranscriptLine};
 ghost use Rattle.fio_check.specs.Pollers.{poller_below};
 ghost use Rattle.fio_tool.specs.Record.{items_of_cpu};
-ghost use Rattle.fio_tool.specs.Recordings.{IsNoRecording, RecordsLine, entries_taken, item_broken};
+ghost use Rattle.fio_tool.specs.Recordings.{IsNoRecording, RecordsLine, item_broken};
 
 use fio_check::{ContentBreach, ContentChecker, ContentRule};
-use fio_cpu::{Heard, Item, Poller};
+use fio_cpu::{Item, Poller};
 use fio_message::{AnswerView, CommandView, Memory};
 use std::alloc::Global;
 
-/// An entry of the record that breaks a rule on content.
+/// Where a rule on content is broken.
 #[derive(Clone, Copy)]
 pub(crate) struct BrokenItem {
     /// The number of its line in the text.
     pub(crate) line: usize,
     /// How many items of the record are above it.
     pub(crate) above: usize,
-    /// Its input.
-    pub(crate) input: u8,
-    /// The first rule that it breaks.
+    /// The input of its entry, or that whose state is another; `None` for an answer.
+    pub(crate) input: Option<u8>,
+    /// The first rule that is broken.
     pub(crate) rule: ContentRule,
 }
 
@@ -33,7 +33,7 @@ pub(crate) struct Recording {
     pub(crate) cpu: Option<Poller>,
     /// What the rules on content keep.
     checker: ContentChecker,
-    /// The first entry that breaks one.
+    /// The first breach of one.
     pub(crate) broken: Option<BrokenItem>,
 }
 
@@ -68,9 +68,10 @@ impl Recording {
             → answer_in line.octets ≡ Some (answer_of answer.now)
             → OnOk result (RecordsLine self.old line self.new) }
     {
-        let entries = self.take(answer)?;
+        let items = self.items().len();
+        self.take(answer)?;
         if let Some(breach) = self.checker.hear(answer) {
-            self.add_breach(number, entries, breach);
+            self.add_breach(number, items, breach);
         }
         Ok(())
     }
@@ -98,46 +99,39 @@ impl Recording {
         }
     }
 
-    /// Hears an answer, as the CPU does, and returns how many entries it takes.
-    fn take(&mut self, answer: &AnswerView<'_>) -> Result<usize, Memory>
-        ensures cpu { OnOk result (self.new ≡ (record self.old {
+    /// Hears an answer, as the CPU does.
+    fn take(&mut self, answer: &AnswerView<'_>) -> Result<(), Memory>
+        ensures { OnOk result (self.new ≡ (record self.old {
           cpu = poller_below self.old.cpu None (Some (answer_of answer.now));
         })) }
-        ensures entries { IfOk result (λ entries.
-            entries ≡ entries_taken self.old.cpu (Some (answer_of answer.now))) }
     {
-        let Some(cpu) = &mut self.cpu else {
-            return Ok(0);
-        };
-        match cpu.hear_answer(answer)? {
-            Heard::Block { entries, .. } => Ok(entries),
-            _ => Ok(0),
+        if let Some(cpu) = &mut self.cpu {
+            cpu.hear_answer(answer)?;
         }
+        Ok(())
     }
 
-    /// Adds a breach in the line with this number, of whose block so many entries were taken.
-    fn add_breach(&mut self, line: usize, entries: usize, breach: ContentBreach)
+    /// Adds a breach in the line with this number, where the record has so many items above the line.
+    fn add_breach(&mut self, line: usize, items: usize, breach: ContentBreach)
+        requires { items < 2 ^ 63 }
         ensures { self.new ≡ (record self.old {
-          broken = option_or self.old.broken
-              (Some (item_broken line (length (items_of_cpu self.old.cpu)) entries breach));
+          broken = option_or self.old.broken (Some (item_broken line items breach));
         }) }
     {
         if self.broken.is_none() {
-            let items = self.items().len();
-            self.broken = Some(broken_item(line, items, entries, breach));
+            self.broken = Some(broken_item(line, items, breach));
         }
     }
 }
 
-/// Returns a breach in a line, where the record has so many items below the line and its block has
-/// so many entries.
-fn broken_item(line: usize, items: usize, entries: usize, breach: ContentBreach) -> BrokenItem
-    ensures { result ≡ item_broken line items entries breach }
+/// Returns a breach in a line, where the record has so many items above the line.
+fn broken_item(line: usize, items: usize, breach: ContentBreach) -> BrokenItem
+    requires { items < 2 ^ 63 }
+    ensures { result ≡ item_broken line items breach }
 {
-    let below = entries.saturating_sub(usize::from(breach.entry));
     BrokenItem {
         line,
-        above: items.saturating_sub(below),
+        above: items + usize::from(breach.items),
         input: breach.input,
         rule: breach.rule,
     }

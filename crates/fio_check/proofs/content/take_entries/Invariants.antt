@@ -3,9 +3,9 @@ use Rattle.fio_check.proofs.content.take_entries.Given as goal
 
 abbrev pub invariant-entries : goal.invariant-entries
 invariant-entries l = record {
-  within : l.index + length l.entry-iterator ≤ 255;
-  found : option_or l.found (breach_among (facts_kept l.above) l.index (map Recorded (map (item_of l.stamp) l.entry-iterator)))
-      ≡ breach_among (facts_kept l.fn.above) 0 (map Recorded (map (item_of l.stamp) (entries_of l.fn.entries)));
+  within : l.items + length l.entry-iterator ≤ 256;
+  found : option_or l.found (breach_among (facts_kept l.above) l.items (map Recorded (map (item_of l.stamp) l.entry-iterator)))
+      ≡ option_or l.fn.found (breach_among (facts_kept l.fn.above) l.fn.items (map Recorded (map (item_of l.stamp) (entries_of l.fn.entries))));
   facts : fold content_with (facts_kept l.above) (map Recorded (map (item_of l.stamp) l.entry-iterator))
       ≡ fold content_with (facts_kept l.fn.above) (map Recorded (map (item_of l.stamp) (entries_of l.fn.entries)));
 }

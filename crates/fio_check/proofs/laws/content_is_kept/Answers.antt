@@ -1,4 +1,4 @@
-use Rattle.fio_check.proofs.ContentPlaces.{content_is_kept}
+use Rattle.fio_check.proofs.ContentNext.{content_is_kept}
 use Rattle.fio_check.proofs.laws.content_is_kept.Goals as goal
 
 pub returns : goal.returns

@@ -1,0 +1,130 @@
+-- The events of a log around an entry of a block.
+use Rattle.fio_check.proofs.Names.{◌≡◌, ◌∙◌, ◌+◌, ◌++◌, ◌%◌, ℕ, suc, Bool, true, false, List, [], ◌∷◌, Option, Some, refl, sym, ap, ap₂, arith, length, map, length-append, append_assoc, fold, Block, block_answer, items_of_block, gap_if, item_of, says_lost, Item, Entry, Gap, ContentFacts, content_at, content_with, no_content, ContentEvent, Ended, Heard, LineEvent, Recorded, events_below, events_in, events_of_block, events_of_log, TranscriptLine}
+use Rattle.std.proofs.lemmas.List.{map-append}
+use Rattle.std.proofs.lemmas.List.Sums.{fold-append}
+use Rattle.std.proofs.lemmas.List.{length-map}
+use Rattle.fio_message.specs.Decoding.{answer_in, answered_block}
+use Rattle.fio_message.specs.declared.answers.Answer.{Answer}
+use Rattle.fio_message.specs.declared.answers.Answer.TheVariants as answers
+use Rattle.fio_message.specs.declared.fields.Entry.{Entry as EntryOf}
+use Rattle.fio_check.specs.ContentEvents.{is_taken, number_below}
+use Rattle.fio_check.specs.Finding.{TakesBlock, content_below, number_below_lines, place_of_entry, with_entries}
+use Rattle.fio_check.specs.Lines.{answer_from}
+use Rattle.fio_check.proofs.ContentCourse.{tagged}
+use Rattle.fio_check.proofs.LogFaults.{content_of, content_of_all, facts_below, log_events}
+
+-- ---- the line of a block
+
+-- the events of a frame with a block, and the number below it
+pub record IsBlockFrame (number : Option ℕ) (from_cpu : Bool) (octets : List ℕ) (block : Block) : Type 0 where
+  pub events : events_in number from_cpu octets ≡ events_of_block block
+  pub next : number_below number from_cpu octets ≡ Some ((block.number + 1) % 256)
+
+answer-frame : (number : Option ℕ) (octets : List ℕ) (block : Block) (answer : Option Answer) → answer_in octets ≡ answer → answered_block answer ≡ Some block
+    → is_taken number block.number ≡ true → IsBlockFrame number false octets block
+answer-frame number octets block (Some (answers.Block count entries status stamp)) is heard taken =
+    let same : (record { number = count; entries = entries.items; status = status; stamp = stamp }) ≡ block = cc in
+    let due : is_taken number count ≡ true = ap (λ b. is_taken number b.number) same ∙ taken in
+    record {
+      events = rw (is, due) (ap events_of_block same);
+      next = rw (is, due) (ap (λ b. Some ((b.number + 1) % 256)) same);
+    }
+answer-frame number octets block other is heard taken = absurd (cc)
+
+block-frame : (number : Option ℕ) (from_cpu : Bool) (octets : List ℕ) (block : Block) → answered_block (answer_from from_cpu octets) ≡ Some block
+    → is_taken number block.number ≡ true → IsBlockFrame number from_cpu octets block
+block-frame number true octets block heard taken = absurd (cc)
+block-frame number false octets block heard taken = answer-frame number octets block (answer_in octets) refl heard taken
+
+-- ---- the events around an entry
+
+-- the events of a block's line above an entry
+abbrev pub events_to : ℕ → Block → List EntryOf → List EntryOf → List LineEvent
+events_to line block front back =
+    map (tagged line) (Heard (block_answer (with_entries block (front ++ back))) ∷ map Recorded (items_of_block (with_entries block front)))
+
+-- those from it on
+abbrev pub events_from : ℕ → Block → List EntryOf → List LineEvent
+events_from line block back = map (tagged line) (map (λ entry. Recorded (item_of block.stamp entry)) back ++ (Ended block.status block.stamp ∷ []))
+
+map-map : {A B C : Type 0} (f : B → C) (g : A → B) (items : List A) → map f (map g items) ≡ map (λ x. f (g x)) items
+map-map f g [] = refl
+map-map f g (x ∷ items) = ap (λ rest. f (g x) ∷ rest) (map-map f g items)
+
+block-split : (line : ℕ) (block : Block) (front back : List EntryOf)
+    → map (tagged line) (events_of_block (with_entries block (front ++ back))) ≡ events_to line block front back ++ events_from line block back
+block-split line block front back =
+    let item = item_of block.stamp in
+    let gap = gap_if (says_lost block.status) in
+    let heard : ContentEvent = Heard (block_answer (with_entries block (front ++ back))) in
+    let end : List ContentEvent = Ended block.status block.stamp ∷ [] in
+    ap (λ items. map (tagged line) (heard ∷ (map Recorded (gap ++ items) ++ end))) (map-append item front back)
+    ∙ ap (λ items. map (tagged line) (heard ∷ (map Recorded items ++ end))) (sym (append_assoc gap (map item front) (map item back)))
+    ∙ ap (λ events. map (tagged line) (heard ∷ (events ++ end))) (map-append Recorded (gap ++ map item front) (map item back))
+    ∙ ap (λ events. map (tagged line) (heard ∷ events)) (append_assoc (map Recorded (gap ++ map item front)) (map Recorded (map item back)) end)
+    ∙ ap (λ events. map (tagged line) (heard ∷ (map Recorded (gap ++ map item front) ++ (events ++ end)))) (map-map Recorded item back)
+    ∙ map-append (tagged line) (heard ∷ map Recorded (gap ++ map item front)) (map (λ entry. Recorded (item entry)) back ++ end)
+
+-- a log around an entry of a block: the events above the entry, and those from it on
+pub record IsLogAround (begun : Bool) (above below : List TranscriptLine) (line : TranscriptLine) (block : Block) (front back : List EntryOf) : Type 0 where
+  pub events : events_of_log begun (above ++ (line ∷ below))
+      ≡ (events_of_log begun above ++ events_to line.number block front back)
+      ++ (events_from line.number block back ++ events_below (Some ((block.number + 1) % 256)) below)
+  pub place : length (events_of_log begun above ++ events_to line.number block front back) ≡ place_of_entry begun above block front
+
+pub log_around : (begun : Bool) (above below : List TranscriptLine) (line : TranscriptLine) (block : Block) (front back : List EntryOf)
+    → TakesBlock above line (with_entries block (front ++ back)) → IsLogAround begun above below line block front back
+log_around begun above below line block front back takes =
+    let number = number_below_lines above in
+    let frame = block-frame number line.from_cpu line.octets (with_entries block (front ++ back)) takes.heard takes.taken in
+    let start = events_of_log begun above in
+    let rest = events_below (Some ((block.number + 1) % 256)) below in
+    record {
+      events = log_events begun above (line ∷ below)
+          ∙ ap₂ (λ events next. start ++ (map (tagged line.number) events ++ events_below next below)) frame.events frame.next
+          ∙ ap (λ events. start ++ (events ++ rest)) (block-split line.number block front back)
+          ∙ ap (λ events. start ++ events) (append_assoc (events_to line.number block front back) (events_from line.number block back) rest)
+          ∙ sym (append_assoc start (events_to line.number block front back) (events_from line.number block back ++ rest));
+      place = length-append start (events_to line.number block front back)
+          ∙ ap (λ n. length start + n) (length-map (Heard (block_answer (with_entries block (front ++ back))) ∷ map Recorded (items_of_block (with_entries block front))) (tagged line.number)
+          ∙ ap suc (length-map (items_of_block (with_entries block front)) Recorded) ∙ one-more (length (items_of_block (with_entries block front))));
+    }
+  where
+    one-more : (n : ℕ) → suc n ≡ 1 + n
+    one-more n = omega arith
+
+-- ---- what is above the entry
+
+-- what is above an entry of a block, by what is above its line
+abbrev pub facts_within : ContentFacts → Block → List EntryOf → ContentFacts
+facts_within facts block front =
+    fold content_with (content_with facts (Heard (block_answer (with_entries block [])))) (map Recorded (items_of_block (with_entries block front)))
+
+below-tagged : (line : ℕ) (events : List ContentEvent) (facts : ContentFacts) → facts_below facts (map (tagged line) events) ≡ fold content_with facts events
+below-tagged line [] facts = refl
+below-tagged line (event ∷ events) facts = below-tagged line events (content_with facts event)
+
+pub content_around : (begun : Bool) (above below : List TranscriptLine) (line : TranscriptLine) (block : Block) (front back : List EntryOf)
+    → TakesBlock above line (with_entries block (front ++ back))
+    → content_at (events_of_log begun (above ++ (line ∷ below))) (place_of_entry begun above block front) ≡ facts_within (content_below begun above) block front
+content_around begun above below line block front back takes =
+    let around = log_around begun above below line block front back takes in
+    let start = events_of_log begun above in
+    let to = events_to line.number block front back in
+    let rest = events_from line.number block back ++ events_below (Some ((block.number + 1) % 256)) below in
+    ap₂ content_at around.events (sym around.place)
+    ∙ content_of (start ++ to) rest
+    ∙ fold-append (λ facts found. content_with facts found.event) no_content start to
+    ∙ ap (λ facts. facts_below facts to) (sym (content_of_all start))
+    ∙ below-tagged line.number (Heard (block_answer (with_entries block (front ++ back))) ∷ map Recorded (items_of_block (with_entries block front))) (content_below begun above)
+
+-- the items of a block send no load, and leave a clear block above
+record-keeps : (items : List Item) (facts : ContentFacts)
+    → ((fold content_with facts (map Recorded items)).loaded ≡ facts.loaded) × ((fold content_with facts (map Recorded items)).clear ≡ facts.clear)
+record-keeps [] facts = (refl, refl)
+record-keeps (Gap ∷ items) facts = record-keeps items (content_with facts (Recorded Gap))
+record-keeps (Entry input level stamp wide ∷ items) facts = record-keeps items (content_with facts (Recorded (Entry input level stamp wide)))
+
+pub block_keeps : (facts : ContentFacts) (block : Block) (front : List EntryOf)
+    → ((facts_within facts block front).loaded ≡ facts.loaded) × ((facts_within facts block front).clear ≡ facts.clear)
+block_keeps facts block front = record-keeps (items_of_block (with_entries block front)) (content_with facts (Heard (block_answer (with_entries block []))))

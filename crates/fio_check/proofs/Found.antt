@@ -1,0 +1,278 @@
+-- The laws of what the rules on content always find.
+use Rattle.fio_check.proofs.Names.{◌≡◌, ◌<◌, ◌∙◌, ◌+◌, ◌++◌, ◌%◌, ℕ, suc, Bool, true, false, List, [], ◌∷◌, Option, Some, None, refl, sym, ap, ap₂, arith, drop, length, if◌then◌else◌, is_some, not, nat_lt, nat_tests, ◌==◌, slice_get, item_of, Block, ContentFacts, content_at, content_with, ContentEvent, Recorded, LineEvent, events_below, events_of_log, TranscriptLine}
+use Rattle.std.specs.Prelude.{◌&&◌, ◌^◌}
+use Rattle.std.specs.Bool.{beq}
+use Rattle.std.proofs.lemmas.List.{drop_at}
+use Rattle.fio_message.specs.declared.fields.Entry.{Entry as EntryOf}
+use Rattle.fio_message.specs.declared.limits.TheConstants.{INPUTS}
+use Rattle.fio_input.specs.Widening.{wide_time_of}
+use Rattle.fio_check.specs.ContentSaid.{Seen, entry_recorded}
+use Rattle.fio_check.specs.ContentFacts.{input_with_entry, is_open, seen_below}
+use Rattle.fio_check.specs.ContentRules.{comes_behind, rule_broken_by}
+use Rattle.fio_check.specs.Finding.{FindsDoubled, FindsDropped, FindsSwapped, FindsTurned, FindsTurnedLater, ComparesTimes, TakesBlock, content_below, place_of_latest, place_of_entry, turned, with_entries, with_octets}
+use Rattle.fio_check.proofs.BlockLines.{block_keeps, content_around, events_from, events_to, facts_within, log_around}
+use Rattle.fio_check.proofs.ContentCourse.{dropped_first, tagged}
+use Rattle.fio_check.proofs.ContentNext.{content_next}
+use Rattle.fio_check.proofs.LogFaults.{event_below, fault_at_event, found_by, no_fault_at}
+use Rattle.fio_check.proofs.RulesFound.{behind_one_way, breaks_alternate, breaks_order, keeps_both, not_behind_itself, timed}
+use Rattle.fio_check.proofs.ToldLater.{IsSpoiled, both_hold, latest_said_there, seen_above, told_later}
+
+-- ---- the events of a block from an entry on
+
+-- an entry's event
+abbrev pub recorded : ℕ → EntryOf → ContentEvent
+recorded stamp entry = Recorded (item_of stamp entry)
+
+-- what is in a log from an entry of a block on
+module _ (begun : Bool) (above below : List TranscriptLine) (line : TranscriptLine) (block : Block) (front back : List EntryOf)
+    (takes : TakesBlock above line (with_entries block (front ++ back))) where
+  abbrev events : List LineEvent
+  events = events_of_log begun (above ++ (line ∷ below))
+
+  abbrev place : ℕ
+  place = place_of_entry begun above block front
+
+  abbrev facts : ContentFacts
+  facts = facts_within (content_below begun above) block front
+
+  abbrev from_entry : List LineEvent
+  from_entry = events_from line.number block back ++ events_below (Some ((block.number + 1) % 256)) below
+
+  entry-slice : (count : ℕ) → slice_get events (place + count) ≡ slice_get from_entry count
+  entry-slice count =
+      let around = log_around begun above below line block front back takes in
+      ap₂ (λ all at. slice_get all (at + count)) around.events (sym around.place) ∙ event_below _ from_entry count
+
+  pub first_is : (found : LineEvent) → slice_get from_entry 0 ≡ Some found → slice_get events place ≡ Some found
+  first_is found is = let same : place + 0 ≡ place = omega arith in ap (slice_get events) (sym same) ∙ entry-slice 0 ∙ is
+
+  pub second_is : (found : LineEvent) → slice_get from_entry 1 ≡ Some found → slice_get events (suc place) ≡ Some found
+  second_is found is = let same : place + 1 ≡ suc place = omega arith in ap (slice_get events) (sym same) ∙ entry-slice 1 ∙ is
+
+  pub left_is : drop place events ≡ from_entry
+  left_is =
+      let around = log_around begun above below line block front back takes in
+      let front_events = events_of_log begun above ++ events_to line.number block front back in
+      ap₂ drop (sym around.place) around.events ∙ drop_at front_events from_entry (length front_events) refl
+
+  pub facts_are : content_at events place ≡ facts
+  facts_are = content_around begun above below line block front back takes
+
+  pub next_are : (found : LineEvent) → slice_get from_entry 0 ≡ Some found → content_at events (suc place) ≡ content_with facts found.event
+  next_are found is = content_next events place found (first_is found is) ∙ ap (λ known. content_with known found.event) facts_are
+
+-- ---- doubled, swapped
+
+wide-within : (stamp low : ℕ) → wide_time_of stamp low < 2 ^ 32
+unfolding wide_time_of
+wide-within stamp low = omega arith
+
+-- an entry that does not come behind the one directly above it, below a clear block
+disordered : (facts : ContentFacts) (stamp : ℕ) (one other : EntryOf) → facts.loaded ≡ false → facts.clear ≡ true
+    → comes_behind other.input (wide_time_of stamp other.stamp) one.input (wide_time_of stamp one.stamp) ≡ false
+    → is_some (rule_broken_by (content_with facts (recorded stamp one)) (recorded stamp other)) ≡ true
+disordered facts stamp one other unloaded clear behind =
+    breaks_order (content_with facts (recorded stamp one)) other.input other.stamp (wide_time_of stamp other.stamp) other.level (rw (unloaded, clear, behind) refl)
+
+-- one that breaks no rule there
+ordered : (facts : ContentFacts) (stamp : ℕ) (one other : EntryOf) → facts.loaded ≡ false → facts.clear ≡ true
+    → rule_broken_by (content_with facts (recorded stamp one)) (recorded stamp other) ≡ None
+    → comes_behind other.input (wide_time_of stamp other.stamp) one.input (wide_time_of stamp one.stamp) ≡ true
+ordered facts stamp one other unloaded clear none =
+    let kept = (keeps_both (content_with facts (recorded stamp one)) other.input other.stamp (wide_time_of stamp other.stamp) other.level none).0 in
+    positive (comes_behind other.input (wide_time_of stamp other.stamp) one.input (wide_time_of stamp one.stamp)) (rw (unloaded, clear) at kept)
+  where
+    positive : (b : Bool) → not b ≡ false → b ≡ true
+    positive true is = refl
+    positive false is = absurd (cc)
+
+-- what is known of times within a block below a clear one
+times-within : (begun : Bool) (above : List TranscriptLine) (block : Block) (front : List EntryOf) → ComparesTimes begun above
+    → ((facts_within (content_below begun above) block front).loaded ≡ false) × ((facts_within (content_below begun above) block front).clear ≡ true)
+times-within begun above block front clear =
+    let kept = block_keeps (content_below begun above) block front in (kept.0 ∙ clear.unloaded, kept.1 ∙ clear.clear)
+
+pub finds_doubled : (begun : Bool) → FindsDoubled begun
+finds_doubled begun above line block front back entry clear takes =
+    let two = entry ∷ (entry ∷ back) in
+    let known = facts_within (content_below begun above) block front in
+    let times = times-within begun above block front clear in
+    let item = tagged line.number (recorded block.stamp entry) in
+    let all = events_of_log begun (above ++ (line ∷ [])) in
+    found_by begun (above ++ (line ∷ []))
+    (fault_at_event all (suc (place_of_entry begun above block front)) item (second_is begun above [] line block front two takes item refl)
+    (ap (λ facts. is_some (rule_broken_by facts item.event)) (next_are begun above [] line block front two takes item refl)
+    ∙ disordered known block.stamp entry entry times.0 times.1 (not_behind_itself entry.input (wide_time_of block.stamp entry.stamp))))
+
+pub finds_swapped : (begun : Bool) → FindsSwapped begun
+finds_swapped begun above line octets block front back one other clear none changes =
+    let right = one ∷ (other ∷ back) in
+    let spoiled = other ∷ (one ∷ back) in
+    let known = facts_within (content_below begun above) block front in
+    let times = times-within begun above block front clear in
+    let first = tagged line.number (recorded block.stamp one) in
+    let second = tagged line.number (recorded block.stamp other) in
+    let after = suc (place_of_entry begun above block front) in
+    let behind = ordered known block.stamp one other times.0 times.1
+    (sym (ap (λ facts. rule_broken_by facts second.event) (next_are begun above [] line block front right changes.was first refl))
+    ∙ no_fault_at (events_of_log begun (above ++ (line ∷ []))) after second (second_is begun above [] line block front right changes.was second refl) none) in
+    let changed = with_octets line octets in
+    found_by begun (above ++ (changed ∷ []))
+    (fault_at_event (events_of_log begun (above ++ (changed ∷ []))) after first (second_is begun above [] changed block front spoiled changes.is first refl)
+    (ap (λ facts. is_some (rule_broken_by facts first.event)) (next_are begun above [] changed block front spoiled changes.is second refl)
+    ∙ disordered known block.stamp other one times.0 times.1
+    (behind_one_way one.input (wide_time_of block.stamp one.stamp) other.input (wide_time_of block.stamp other.stamp)
+    (wide-within block.stamp one.stamp) (wide-within block.stamp other.stamp) behind)))
+
+-- ---- turned, dropped
+
+-- an entry that is compared and breaks no rule: its input had the other state
+compared-state : (facts : ContentFacts) (stamp : ℕ) (entry : EntryOf) (watched : Option Bool) → (facts.inputs entry.input).watched ≡ watched → is_some watched ≡ true
+    → rule_broken_by facts (recorded stamp entry) ≡ None → watched ≡ Some (not entry.level)
+compared-state facts stamp entry None is some none = absurd (cc)
+compared-state facts stamp entry (Some level) is some none =
+    let kept = (keeps_both facts entry.input entry.stamp (wide_time_of stamp entry.stamp) entry.level none).1 in
+    ap Some (opposite entry.level level (rw is at kept))
+  where
+    opposite : (now before : Bool) → beq now before ≡ false → before ≡ not now
+    opposite true true is = absurd (cc)
+    opposite true false is = refl
+    opposite false true is = refl
+    opposite false false is = absurd (cc)
+
+-- the same entry turned
+turned-breaks : (facts : ContentFacts) (stamp : ℕ) (entry : EntryOf) → (facts.inputs entry.input).watched ≡ Some (not entry.level)
+    → is_some (rule_broken_by facts (recorded stamp (turned entry))) ≡ true
+turned-breaks facts stamp entry is =
+    breaks_alternate facts entry.input entry.stamp (wide_time_of stamp entry.stamp) (not entry.level) (rw is (alike (not entry.level)))
+  where
+    alike : (b : Bool) → beq b b ≡ true
+    alike true = refl
+    alike false = refl
+
+pub finds_turned : (begun : Bool) → FindsTurned begun
+finds_turned begun above line octets block front back entry none changes compared =
+    let known = facts_within (content_below begun above) block front in
+    let place = place_of_entry begun above block front in
+    let right = events_of_log begun (above ++ (line ∷ [])) in
+    let changed = with_octets line octets in
+    let item = tagged line.number (recorded block.stamp entry) in
+    let other = tagged line.number (recorded block.stamp (turned entry)) in
+    let above_is = facts_are begun above [] line block front (entry ∷ back) changes.was in
+    let watched = sym (ap (λ facts. is_some (facts.inputs entry.input).watched) above_is) ∙ (both_hold (is_some ((content_at right place).inputs entry.input).watched) _ compared).0 in
+    let state = compared-state known block.stamp entry (known.inputs entry.input).watched refl watched
+    (sym (ap (λ facts. rule_broken_by facts item.event) above_is) ∙ no_fault_at right place item (first_is begun above [] line block front (entry ∷ back) changes.was item refl) none) in
+    found_by begun (above ++ (changed ∷ []))
+    (fault_at_event (events_of_log begun (above ++ (changed ∷ []))) place other (first_is begun above [] changed block front (turned entry ∷ back) changes.is other refl)
+    (ap (λ facts. is_some (rule_broken_by facts other.event)) (facts_are begun above [] changed block front (turned entry ∷ back) changes.is)
+    ∙ turned-breaks known block.stamp entry state))
+
+-- an entry of an input up to 63 has that input's event
+entry-within : (stamp input : ℕ) (entry : EntryOf) → is_some (entry_recorded input (recorded stamp entry)) ≡ true → input < INPUTS
+entry-within stamp input entry some = by-test (input == entry.input) (nat_lt input INPUTS) refl some
+  where
+    by-test : (own within : Bool) → nat_lt input INPUTS ≡ within → is_some (if own && within then Some (timed entry.level (wide_time_of stamp entry.stamp)) else None) ≡ true → input < INPUTS
+    by-test true true within is = below input INPUTS within
+      where
+        below : (a b : ℕ) → nat_lt a b ≡ true → a < b
+        below a b is = grind (arith, nat_tests)
+    by-test true false within is = absurd (cc)
+    by-test false within test is = absurd (cc)
+
+-- what is above differs in the state of the input alone below an entry and below the one turned
+turned-spoils : (facts : ContentFacts) (stamp : ℕ) (entry : EntryOf) → entry.input < INPUTS
+    → IsSpoiled entry.input (content_with facts (recorded stamp entry)) (content_with facts (recorded stamp (turned entry)))
+turned-spoils facts stamp entry within = record {
+  loaded = refl;
+  seen = λ states is. same-seen facts.seen states is;
+  watched = λ level is. own-watched (entry.input == entry.input && nat_lt entry.input INPUTS) (named entry.input within) level is;
+}
+  where
+    named : (n : ℕ) → n < INPUTS → (n == n && nat_lt n INPUTS) ≡ true
+    named n below = grind (arith, nat_tests)
+
+    same-seen : (seen : Option Seen) (states : Seen) → seen_below (recorded stamp entry) seen ≡ Some states → seen_below (recorded stamp (turned entry)) seen ≡ Some states
+    same-seen None states is = is
+    same-seen (Some seen) states is = is
+
+    by-open : (opened level now : Bool) → (if opened then Some now else None) ≡ Some level → (if opened then Some (not now) else None) ≡ Some (not level)
+    by-open true level now is = cc
+    by-open false level now is = absurd (cc)
+
+    own-watched : (own : Bool) → own ≡ true → (level : Bool)
+        → (if own then input_with_entry facts entry.level (wide_time_of stamp entry.stamp) (facts.inputs entry.input) else facts.inputs entry.input).watched ≡ Some level
+        → (if own then input_with_entry facts (not entry.level) (wide_time_of stamp entry.stamp) (facts.inputs entry.input) else facts.inputs entry.input).watched ≡ Some (not level)
+    own-watched true refl_is level is = by-open (is_open facts (facts.inputs entry.input)) level entry.level is
+    own-watched false other level is = absurd (cc)
+
+-- below an entry, and below none in its place
+dropped-spoils : (facts : ContentFacts) (stamp : ℕ) (entry : EntryOf) → entry.input < INPUTS → (facts.inputs entry.input).watched ≡ Some (not entry.level)
+    → IsSpoiled entry.input (content_with facts (recorded stamp entry)) facts
+dropped-spoils facts stamp entry within before = record {
+  loaded = refl;
+  seen = λ states is. seen_above (recorded stamp entry) states facts.seen is;
+  watched = λ level is. before ∙ own-watched (entry.input == entry.input && nat_lt entry.input INPUTS) (named entry.input within) level is;
+}
+  where
+    named : (n : ℕ) → n < INPUTS → (n == n && nat_lt n INPUTS) ≡ true
+    named n below = grind (arith, nat_tests)
+
+    by-open : (opened level now : Bool) → (if opened then Some now else None) ≡ Some level → Some (not now) ≡ Some (not level)
+    by-open true level now is = cc
+    by-open false level now is = absurd (cc)
+
+    own-watched : (own : Bool) → own ≡ true → (level : Bool)
+        → (if own then input_with_entry facts entry.level (wide_time_of stamp entry.stamp) (facts.inputs entry.input) else facts.inputs entry.input).watched ≡ Some level
+        → Some (not entry.level) ≡ Some (not level)
+    own-watched true is_own level is = by-open (is_open facts (facts.inputs entry.input)) level entry.level is
+    own-watched false other level is = absurd (cc)
+
+-- the latest entry above a place is of an input up to 63
+latest-within : (events : List LineEvent) (from place stamp line : ℕ) (entry : EntryOf) → slice_get events from ≡ Some (tagged line (recorded stamp entry))
+    → place_of_latest events entry.input place ≡ Some from → entry.input < INPUTS
+latest-within events from place stamp line entry here at =
+    entry-within stamp entry.input entry (rw here at (latest_said_there events entry.input place from at))
+
+pub finds_turned_later : (begun : Bool) → FindsTurnedLater begun
+finds_turned_later begun above below line octets block front back entry place none changes compared =
+    let known = facts_within (content_below begun above) block front in
+    let from = place_of_entry begun above block front in
+    let right = events_of_log begun (above ++ (line ∷ below)) in
+    let changed = with_octets line octets in
+    let spoiled = events_of_log begun (above ++ (changed ∷ below)) in
+    let item = tagged line.number (recorded block.stamp entry) in
+    let other = tagged line.number (recorded block.stamp (turned entry)) in
+    let here = first_is begun above below line block front (entry ∷ back) changes.was item refl in
+    let there = first_is begun above below changed block front (turned entry ∷ back) changes.is other refl in
+    let within = latest-within right from place block.stamp line.number entry here compared.latest in
+    found_by begun (above ++ (changed ∷ below))
+    (told_later right spoiled (events_from line.number block back ++ events_below (Some ((block.number + 1) % 256)) below) from (suc from) place entry.input
+    (content_with known item.event) (content_with known other.event) within none
+    (dropped_first right from item _ (left_is begun above below line block front (entry ∷ back) changes.was)).1
+    (next_are begun above below line block front (entry ∷ back) changes.was item refl)
+    (dropped_first spoiled from other _ (left_is begun above below changed block front (turned entry ∷ back) changes.is)).1
+    (next_are begun above below changed block front (turned entry ∷ back) changes.is other refl)
+    (turned-spoils known block.stamp entry within) compared)
+
+pub finds_dropped : (begun : Bool) → FindsDropped begun
+finds_dropped begun above below line octets block front back entry place none changes compared_there compared =
+    let known = facts_within (content_below begun above) block front in
+    let from = place_of_entry begun above block front in
+    let right = events_of_log begun (above ++ (line ∷ below)) in
+    let changed = with_octets line octets in
+    let spoiled = events_of_log begun (above ++ (changed ∷ below)) in
+    let item = tagged line.number (recorded block.stamp entry) in
+    let here = first_is begun above below line block front (entry ∷ back) changes.was item refl in
+    let within = latest-within right from place block.stamp line.number entry here compared.latest in
+    let above_is = facts_are begun above below line block front (entry ∷ back) changes.was in
+    let watched = sym (ap (λ facts. is_some (facts.inputs entry.input).watched) above_is) ∙ (both_hold (is_some ((content_at right from).inputs entry.input).watched) _ compared_there).0 in
+    let state = compared-state known block.stamp entry (known.inputs entry.input).watched refl watched
+    (sym (ap (λ facts. rule_broken_by facts item.event) above_is) ∙ no_fault_at right from item here none) in
+    found_by begun (above ++ (changed ∷ below))
+    (told_later right spoiled (events_from line.number block back ++ events_below (Some ((block.number + 1) % 256)) below) from from place entry.input
+    (content_with known item.event) known within none
+    (dropped_first right from item _ (left_is begun above below line block front (entry ∷ back) changes.was)).1
+    (next_are begun above below line block front (entry ∷ back) changes.was item refl)
+    (left_is begun above below changed block front back changes.is)
+    (facts_are begun above below changed block front back changes.is)
+    (dropped-spoils known block.stamp entry within state) compared)

@@ -1,0 +1,55 @@
+-- Sets of inputs as words, and arrays by input.
+use Rattle.fio_check.proofs.Names.{◌≡◌, ◌<◌, ◌≤◌, ◌∙◌, ℕ, inl, inr, Bool, true, false, List, refl, sym, ap, length, get_or, set, get_or-set_same, get_or-set_other, ◌==◌, not, if◌then◌else◌, eqb_tells, is_set}
+use Rattle.std.specs.Prelude.{◌&&◌, ◌^◌}
+use Rattle.std.proofs.Common.{w64}
+use Rattle.std.specs.Int.Bits.{bit_and, bit_or}
+use Rattle.std.specs.Int.{bit_not}
+use Rattle.std.proofs.lemmas.Bool.Decides.{leb_tells}
+use Rattle.fio_message.proofs.Bits.{is_set-above, is_set-and, is_set-clear_other, is_set-clear_same, is_set-not, is_set-set_other, is_set-set_same, one_at}
+
+and-false : (a : Bool) → (a && false) ≡ false
+and-false true = refl
+and-false false = refl
+
+module _ (word input : ℕ) (within : input < 64) where
+  -- an input that is put in
+  pub put_in : (other : ℕ) → is_set (bit_or word (one_at word input within)) other ≡ (if other == input then true else is_set word other)
+  put_in other = elim (eqb_tells other input) as (λ _. is_set (bit_or word (one_at word input within)) other ≡ (if other == input then true else is_set word other)) [
+    | inl same ↦ rw (same.0, same.1) (is_set-set_same word input within)
+    | inr differs ↦ rw differs.0 (is_set-set_other word input within other differs.1)
+  ]
+
+  -- above place 63 there is none
+  none_above : (other : ℕ) → word < 2 ^ 64 → 64 ≤ other → is_set (bit_and word (bit_not w64 (one_at word input within))) other ≡ is_set word other
+  none_above other fits above =
+      let none = is_set-above word 64 other fits above in
+      is_set-and word (bit_not w64 (one_at word input within)) other ∙ ap (λ b. b && is_set (bit_not w64 (one_at word input within)) other) none ∙ sym none
+
+  -- an input that is taken out
+  pub take_out : (other : ℕ) → word < 2 ^ 64 → is_set (bit_and word (bit_not w64 (one_at word input within))) other ≡ (if other == input then false else is_set word other)
+  take_out other fits = elim (eqb_tells other input) as (λ _. is_set (bit_and word (bit_not w64 (one_at word input within))) other ≡ (if other == input then false else is_set word other)) [
+    | inl same ↦ rw (same.0, same.1) (is_set-clear_same word input within)
+    | inr differs ↦ rw differs.0 (elim (leb_tells 64 other) as (λ _. is_set (bit_and word (bit_not w64 (one_at word input within))) other ≡ is_set word other) [
+      | inl above ↦ none_above other fits above.1
+      | inr below ↦ is_set-clear_other word input within other below.1 differs.1
+    ])
+  ]
+
+-- the inputs of one set that are not in another
+pub without : (word others input : ℕ) → word < 2 ^ 64 → others < 2 ^ 64
+    → is_set (bit_and word (bit_not w64 others)) input ≡ (is_set word input && not (is_set others input))
+without word others input fits fits' =
+    is_set-and word (bit_not w64 others) input
+    ∙ (elim (leb_tells 64 input) as (λ _. (is_set word input && is_set (bit_not w64 others) input) ≡ (is_set word input && not (is_set others input))) [
+      | inl above ↦ (let none = is_set-above word 64 input fits above.1 in
+          ap (λ b. b && is_set (bit_not w64 others) input) none ∙ sym (ap (λ b. b && not (is_set others input)) none))
+      | inr below ↦ ap (λ b. is_set word input && b) (is_set-not others input fits' below.1)
+    ])
+
+-- an array with one place set
+pub at_set : (all : List ℕ) (place value other none : ℕ) → place < length all
+    → ◌≡◌ {A = ℕ} (get_or (set all place value) other none) (if other == place then value else get_or all other none)
+at_set all place value other none within = elim (eqb_tells other place) as (λ _. ◌≡◌ {A = ℕ} (get_or (set all place value) other none) (if other == place then value else get_or all other none)) [
+  | inl same ↦ rw (same.0, same.1) (get_or-set_same all place value none within)
+  | inr differs ↦ rw differs.0 (get_or-set_other all place other value none differs.1)
+]

@@ -1,0 +1,220 @@
+-- Which rule an event breaks: an entry that does not come behind the one above it, an entry with the state that its input
+-- had, and states that differ from the record.
+use Rattle.fio_check.proofs.Names.{◌≡◌, ◌<◌, ◌∙◌, ◌+◌, ℕ, Bool, true, false, [], ◌∷◌, Option, Some, None, refl, sym, ap, arith, find, if◌then◌else◌, is_some, nat_lt, not, eqb_tells, inl, inr, ◌≤◌, option_map, option_or, ◌==◌, ◌%◌, nat_tests, Entry, ContentFacts, Seen, is_set, ContentEvent, Recorded, Ended, is_some_and}
+use Rattle.std.specs.Prelude.{◌&&◌, ◌||◌, ◌^◌, ◌-◌, nat_le}
+use Rattle.std.specs.Bool.{beq}
+use Rattle.fio_message.specs.declared.limits.TheConstants.{INPUTS}
+use Rattle.fio_check.specs.ContentSaid.{TimedState, comes_to, milliseconds_between}
+use Rattle.fio_check.specs.ContentRules.{breaks_entry, broken_state, comes_behind, differing, differs, entry_rules, first_differing, rule_broken_by, state_breach}
+use Rattle.fio_check.specs.Finding.{tells_state}
+use Rattle.fio_check.specs.declared.content_rules.ContentRule.{ContentRule}
+use Rattle.fio_check.specs.declared.content_rules.ContentRule.TheVariants.{Order, Fresh, Alternate, Apart, Ignored}
+use Rattle.fio_check.proofs.Verdicts.{none_said, some_said}
+
+-- ---- the first of the rules of entries
+
+order-first : (order fresh alternate : Bool) (rest : Option ContentRule) → order ≡ true → is_some (if order then Some Order else (if fresh then Some Fresh else (if alternate then Some Alternate else rest))) ≡ true
+order-first true fresh alternate rest broken = refl
+order-first false fresh alternate rest broken = absurd (cc)
+
+alternate-first : (order fresh alternate : Bool) (rest : Option ContentRule) → alternate ≡ true → is_some (if order then Some Order else (if fresh then Some Fresh else (if alternate then Some Alternate else rest))) ≡ true
+alternate-first true fresh alternate rest broken = refl
+alternate-first false true alternate rest broken = refl
+alternate-first false false true rest broken = refl
+alternate-first false false false rest broken = absurd (cc)
+
+none-first : (order fresh alternate : Bool) (rest : Option ContentRule) → (if order then Some Order else (if fresh then Some Fresh else (if alternate then Some Alternate else rest))) ≡ None
+    → (order ≡ false) × (alternate ≡ false)
+none-first true fresh alternate rest none = absurd (cc)
+none-first false true alternate rest none = absurd (cc)
+none-first false false true rest none = absurd (cc)
+none-first false false false rest none = (refl, refl)
+
+-- the rules that are tried after alternate
+abbrev further : ContentFacts → ℕ → TimedState → Option ContentRule
+further facts input entry = find (breaks_entry facts input entry) (Apart ∷ Ignored ∷ [])
+
+or-some : {A : Type 0} (one other : Option A) → is_some other ≡ true → is_some (option_or one other) ≡ true
+or-some (Some x) other is = refl
+or-some None other is = is
+
+or-first : {A : Type 0} (one other : Option A) → is_some one ≡ true → is_some (option_or one other) ≡ true
+or-first (Some x) other is = refl
+or-first None other is = absurd (cc)
+
+neither : {A : Type 0} (one other : Option A) → option_or one other ≡ None → (one ≡ None) × (other ≡ None)
+neither None other is = (refl, is)
+neither (Some x) other is = absurd (cc)
+
+mapped-some : {A B : Type 0} (f : A → B) (option : Option A) → is_some option ≡ true → is_some (option_map f option) ≡ true
+mapped-some f None is = is
+mapped-some f (Some x) is = refl
+
+mapped-none : {A B : Type 0} (f : A → B) (option : Option A) → option_map f option ≡ None → option ≡ None
+mapped-none f None is = refl
+mapped-none f (Some x) is = absurd (cc)
+
+-- ---- an entry that breaks order or alternate
+
+-- an entry as its rules read it
+abbrev pub timed : Bool → ℕ → TimedState
+timed level wide = record { level = level; wide = wide }
+
+pub breaks_order : (facts : ContentFacts) (input stamp wide : ℕ) (level : Bool) → breaks_entry facts input (timed level wide) Order ≡ true
+    → is_some (rule_broken_by facts (Recorded (Entry input level stamp wide))) ≡ true
+breaks_order facts input stamp wide level broken =
+    let entry = timed level wide in
+    or-some (broken_state facts (Recorded (Entry input level stamp wide)) facts.seen) (option_map (λ rule. record { input = Some input; rule = rule }) (find (breaks_entry facts input entry) entry_rules))
+    (mapped-some (λ (rule : ContentRule). record { input = Some input; rule = rule }) (find (breaks_entry facts input entry) entry_rules)
+    (order-first (breaks_entry facts input entry Order) (breaks_entry facts input entry Fresh) (breaks_entry facts input entry Alternate) (further facts input entry) broken))
+
+pub breaks_alternate : (facts : ContentFacts) (input stamp wide : ℕ) (level : Bool) → breaks_entry facts input (timed level wide) Alternate ≡ true
+    → is_some (rule_broken_by facts (Recorded (Entry input level stamp wide))) ≡ true
+breaks_alternate facts input stamp wide level broken =
+    let entry = timed level wide in
+    or-some (broken_state facts (Recorded (Entry input level stamp wide)) facts.seen) (option_map (λ rule. record { input = Some input; rule = rule }) (find (breaks_entry facts input entry) entry_rules))
+    (mapped-some (λ (rule : ContentRule). record { input = Some input; rule = rule }) (find (breaks_entry facts input entry) entry_rules)
+    (alternate-first (breaks_entry facts input entry Order) (breaks_entry facts input entry Fresh) (breaks_entry facts input entry Alternate) (further facts input entry) broken))
+
+pub keeps_both : (facts : ContentFacts) (input stamp wide : ℕ) (level : Bool) → rule_broken_by facts (Recorded (Entry input level stamp wide)) ≡ None
+    → (breaks_entry facts input (timed level wide) Order ≡ false) × (breaks_entry facts input (timed level wide) Alternate ≡ false)
+keeps_both facts input stamp wide level none =
+    let entry = timed level wide in
+    let entries = neither (broken_state facts (Recorded (Entry input level stamp wide)) facts.seen) (option_map (λ rule. record { input = Some input; rule = rule }) (find (breaks_entry facts input entry) entry_rules)) none in
+    none-first (breaks_entry facts input entry Order) (breaks_entry facts input entry Fresh) (breaks_entry facts input entry Alternate) (further facts input entry)
+    (mapped-none (λ (rule : ContentRule). record { input = Some input; rule = rule }) (find (breaks_entry facts input entry) entry_rules) entries.1)
+
+-- ---- order
+
+-- an entry does not come behind itself
+pub not_behind_itself : (input wide : ℕ) → comes_behind input wide input wide ≡ false
+not_behind_itself input wide = rw (eq-self wide, less-self input) refl
+  where
+    eq-self : (n : ℕ) → (n == n) ≡ true
+    eq-self n = grind (arith, nat_tests)
+
+    less-self : (n : ℕ) → nat_lt n n ≡ false
+    less-self n = grind (arith, nat_tests)
+
+-- of two entries one alone comes behind the other
+pub behind_one_way : (input wide other above : ℕ) → wide < 2 ^ 32 → above < 2 ^ 32 → comes_behind other above input wide ≡ true → comes_behind input wide other above ≡ false
+behind_one_way input wide other above one two behind =
+    elim (eqb_tells above wide) as (λ _. comes_behind input wide other above ≡ false) [
+      | inl same ↦ (let now : nat_lt input other ≡ true = rw (same.1, eq-self wide) at behind in rw same.1 (at-once input wide other now))
+      | inr apart ↦ rw (unequal wide above (λ e. apart.1 (sym e)), half-turn wide above one two (λ e. apart.1 (sym e)) (ahead-of (milliseconds_between wide above) (rw apart.0 at behind))) refl
+    ]
+  where
+    eq-self : (n : ℕ) → (n == n) ≡ true
+    eq-self n = grind (arith, nat_tests)
+
+    unequal : (a b : ℕ) → (a ≡ b → ⊥) → (a == b) ≡ false
+    unequal a b apart = grind (arith, nat_tests)
+
+    -- at one time
+    at-once : (input wide other : ℕ) → nat_lt input other ≡ true → comes_behind input wide other wide ≡ false
+    at-once input wide other below = rw (eq-self wide, above-false other input below) refl
+      where
+        above-false : (a b : ℕ) → nat_lt b a ≡ true → nat_lt a b ≡ false
+        above-false a b below = grind (arith, nat_tests)
+
+    ahead-of : (n : ℕ) → (not (nat_le (2 ^ 31) n) || false) ≡ true → n < 2 ^ 31
+    ahead-of n ahead = grind (arith, nat_tests)
+
+    half-turn : (a b : ℕ) → a < 2 ^ 32 → b < 2 ^ 32 → (a ≡ b → ⊥) → milliseconds_between a b < 2 ^ 31 → nat_le (2 ^ 31) (milliseconds_between b a) ≡ true
+    half-turn a b one two apart ahead = at-least ((a + 2 ^ 32 - b) % 2 ^ 32) (around a b one two apart ahead)
+      where
+        around : (a b : ℕ) → a < 2 ^ 32 → b < 2 ^ 32 → (a ≡ b → ⊥) → (b + 2 ^ 32 - a) % 2 ^ 32 < 2 ^ 31 → 2 ^ 31 ≤ (a + 2 ^ 32 - b) % 2 ^ 32
+        around a b one two apart ahead = omega arith
+
+        at-least : (n : ℕ) → 2 ^ 31 ≤ n → nat_le (2 ^ 31) n ≡ true
+        at-least n more = grind (arith, nat_tests)
+
+-- ---- the states that were asked for
+
+module _ (facts : ContentFacts) (seen : Seen) (is : facts.seen ≡ Some seen) where
+  states-are : (event : ContentEvent) → comes_to seen event ≡ true → broken_state facts event facts.seen ≡ state_breach true (first_differing facts seen)
+  states-are event comes = ap (broken_state facts event) is ∙ ap (λ b. state_breach b (first_differing facts seen)) comes
+
+  none-differs : (found : Option ℕ) → state_breach true found ≡ None → found ≡ None
+  none-differs None none = refl
+  none-differs (Some input) none = absurd (cc)
+
+  some-differs : (found : Option ℕ) → is_some found ≡ true → is_some (state_breach true found) ≡ true
+  some-differs None some = some
+  some-differs (Some input) some = refl
+
+  -- an event at which the record comes to them breaks no rule
+  agree : (event : ContentEvent) → comes_to seen event ≡ true → rule_broken_by facts event ≡ None → first_differing facts seen ≡ None
+  agree (Recorded (Entry input level stamp wide)) comes none =
+      let event = Recorded (Entry input level stamp wide) in
+      none-differs (first_differing facts seen) (sym (states-are event comes) ∙ (neither (broken_state facts event facts.seen) _ none).0)
+  agree (Ended status stamp) comes none = none-differs (first_differing facts seen) (sym (states-are (Ended status stamp) comes) ∙ none)
+  agree other comes none = absurd (cc)
+
+  -- an input differs from them
+  differ : (event : ContentEvent) → comes_to seen event ≡ true → is_some (first_differing facts seen) ≡ true → is_some (rule_broken_by facts event) ≡ true
+  differ (Recorded (Entry input level stamp wide)) comes some =
+      let event = Recorded (Entry input level stamp wide) in
+      or-first (broken_state facts event facts.seen) _ (ap is_some (states-are event comes) ∙ some-differs (first_differing facts seen) some)
+  differ (Ended status stamp) comes some = ap is_some (states-are (Ended status stamp) comes) ∙ some-differs (first_differing facts seen) some
+  differ other comes some = absurd (cc)
+
+input-agrees : (facts : ContentFacts) (seen : Seen) (input : ℕ) → input < INPUTS → first_differing facts seen ≡ None → differs seen input (facts.inputs input) ≡ false
+unfolding first_differing
+input-agrees facts seen input within none = unnamed (differs seen input (facts.inputs input)) (none_said (differing facts seen) INPUTS input none within)
+  where
+    unnamed : (named : Bool) → (if named then Some input else None) ≡ None → named ≡ false
+    unnamed false none = refl
+    unnamed true none = absurd (cc)
+
+input-differs : (facts : ContentFacts) (seen : Seen) (input : ℕ) → input < INPUTS → differs seen input (facts.inputs input) ≡ true → is_some (first_differing facts seen) ≡ true
+unfolding first_differing
+input-differs facts seen input within other = some_said (differing facts seen) INPUTS input within (rw other refl)
+
+-- ---- a state that is told
+
+opposite : (one other : Bool) → beq one other ≡ false → one ≡ not other
+opposite true true other = absurd (cc)
+opposite true false other = refl
+opposite false true other = refl
+opposite false false other = absurd (cc)
+
+alike : (one : Bool) → beq one one ≡ true
+alike true = refl
+alike false = refl
+
+-- above an event that breaks no rule the latest entry of an input has this state: if it had the other one, the event
+-- would break a rule
+module _ (facts spoiled : ContentFacts) (input : ℕ) (within : input < INPUTS) (level : Bool)
+    (watched : (facts.inputs input).watched ≡ Some level) (other : (spoiled.inputs input).watched ≡ Some (not level))
+    (same : (seen : Seen) → facts.seen ≡ Some seen → spoiled.seen ≡ Some seen) where
+  by-states : (event : ContentEvent) (seen : Option Seen) → facts.seen ≡ seen → is_some_and seen (λ states. comes_to states event) ≡ true
+      → rule_broken_by facts event ≡ None → is_some (rule_broken_by spoiled event) ≡ true
+  by-states event None is comes none = absurd (cc)
+  by-states event (Some seen) is comes none =
+      let states = is_set seen.levels input in
+      let agrees : not (beq level states) ≡ false = rw watched at (input-agrees facts seen input within (agree facts seen is event comes none)) in
+      differ spoiled seen (same seen is) event comes (input-differs spoiled seen input within (rw other (turned-differs level states agrees)))
+    where
+      turned-differs : (level states : Bool) → not (beq level states) ≡ false → not (beq (not level) states) ≡ true
+      turned-differs true true agrees = refl
+      turned-differs true false agrees = absurd (cc)
+      turned-differs false true agrees = absurd (cc)
+      turned-differs false false agrees = refl
+
+  by-entry : (recorded stamp wide : ℕ) (now own : Bool) → (input == recorded && nat_lt input INPUTS) ≡ own
+      → (is_some (if own then Some (timed now wide) else None) || is_some_and facts.seen (λ states. comes_to states (Recorded (Entry recorded now stamp wide)))) ≡ true
+      → rule_broken_by facts (Recorded (Entry recorded now stamp wide)) ≡ None → is_some (rule_broken_by spoiled (Recorded (Entry recorded now stamp wide))) ≡ true
+  by-entry recorded stamp wide now false is tells none = by-states (Recorded (Entry recorded now stamp wide)) facts.seen refl tells none
+  by-entry recorded stamp wide now true is tells none =
+      let own : input ≡ recorded = named input recorded (nat_lt input INPUTS) is in
+      let kept = (keeps_both facts recorded stamp wide now none).1 in
+      let turned : now ≡ not level = opposite now level (rw (← own, watched) at kept) in
+      breaks_alternate spoiled recorded stamp wide now (rw (← own, other, turned) (alike (not level)))
+    where
+      named : (a b : ℕ) (within : Bool) → (a == b && within) ≡ true → a ≡ b
+      named a b within is = grind (arith, nat_tests)
+
+  pub is_told : (event : ContentEvent) → tells_state facts.seen input event ≡ true → rule_broken_by facts event ≡ None → is_some (rule_broken_by spoiled event) ≡ true
+  is_told (Recorded (Entry recorded now stamp wide)) tells none = by-entry recorded stamp wide now (input == recorded && nat_lt input INPUTS) refl tells none
+  is_told event tells none = by-states event facts.seen refl tells none

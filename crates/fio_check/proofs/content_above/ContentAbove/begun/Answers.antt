@@ -1,0 +1,15 @@
+use Rattle.fio_check.proofs.Names.{◌∙◌, ap, ContentFacts, None, Some, true}
+use Rattle.std.proofs.Math.Path.{fun_ext}
+use Rattle.fio_check.specs.ContentFacts.{content_begun}
+use Rattle.fio_check.specs.ContentKept.{input_kept}
+use Rattle.fio_check.proofs.content_above.ContentAbove.begun.Goals as goal
+
+pub returns : goal.returns
+returns c =
+    ap {A = ContentFacts} (λ facts. record facts {
+      clock = Some 0;
+      clear = true;
+      floor = Some (record { time = 0; input = None });
+      inputs = λ input. input_kept c.begun.result input;
+    }) c.new.ensures
+    ∙ ap (λ inputs. record content_begun { inputs = inputs }) (fun_ext c.begun.ensures)

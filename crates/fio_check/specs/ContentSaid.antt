@@ -1,0 +1,194 @@
+-- What one event says to the rules on content: the items of a command, the stamp of an answer, an entry, the end of a
+-- block; and how far times are apart.
+use Rattle.std.specs.Prelude.{ℕ, ◌^◌, ◌-◌, ◌+◌, ◌%◌, ◌==◌, Bool, ◌&&◌, true, false, List, [], ◌∷◌, Option, Some, None, fold, not, nat_le, nat_lt, if◌then◌else◌}
+use Rattle.std.specs.List.{list_any}
+use Rattle.fio_message.specs.Status.{says_again, says_error, says_more}
+use Rattle.fio_message.specs.declared.answers.Answer.{Answer}
+use Rattle.fio_message.specs.declared.answers.Answer.TheVariants as answers
+use Rattle.fio_message.specs.declared.commands.Command.{Command}
+use Rattle.fio_message.specs.declared.commands.Command.TheVariants as commands
+use Rattle.fio_message.specs.declared.fields.InputItem.{InputItem}
+use Rattle.fio_message.specs.declared.limits.TheConstants.{INPUTS}
+use Rattle.fio_input.specs.FilterRule.{filter_in_force}
+use Rattle.fio_cpu.specs.declared.record.Item.TheVariants.{Entry, Gap}
+use Rattle.fio_check.specs.ContentEvents.{ContentEvent, Sent, Heard, Recorded, Ended}
+
+-- ---- times
+
+-- how far the later of two times is from the earlier one, modulo 2 ^ 32
+abbrev pub milliseconds_between : ℕ → ℕ → ℕ
+milliseconds_between earlier later = (later + 2 ^ 32 - earlier) % 2 ^ 32
+
+-- a time is before another: it is not less than 2 ^ 31 ahead of it
+abbrev pub is_before : ℕ → ℕ → Bool
+is_before time other = nat_le (2 ^ 31) (milliseconds_between other time)
+
+-- a time is neither another nor before it
+abbrev pub is_later : ℕ → ℕ → Bool
+is_later time other = not (time == other) && not (is_before time other)
+
+-- ---- what is kept of an event
+
+-- both filters of an input, in samples
+pub record FilterPair : Type 0 where
+  pub leading : ℕ
+  pub trailing : ℕ
+
+-- an entry: its state and its wide time
+pub record TimedState : Type 0 where
+  pub level : Bool
+  pub wide : ℕ
+
+-- what each later entry is compared with: the wide time of an entry of this input, or the stamp of a block without C, which
+-- has none
+pub record Floor : Type 0 where
+  pub time : ℕ
+  pub input : Option ℕ
+
+-- the states that an answer 181 has, and its stamp
+pub record Seen : Type 0 where
+  pub stamp : ℕ
+  pub levels : ℕ
+
+-- an item as the module has it once it is applied: whether it ignores the input, and the filters in force
+pub record SentItem : Type 0 where
+  pub ignore : Bool
+  pub filters : FilterPair
+
+-- ---- what an event says
+
+-- the items of this input that a command has, in order; inputs above 63 have none
+abbrev pub items_for : ℕ → List InputItem → List InputItem
+items_for input [] = []
+items_for input (item ∷ items) = if item.input == input && nat_lt input INPUTS
+    then item ∷ items_for input items
+    else items_for input items
+
+-- the items of a command
+abbrev pub items_sent : Command → List InputItem
+items_sent (commands.ConfigureInputs items) = items.items
+items_sent command = []
+
+-- the items of this input that an event sends
+abbrev pub items_of_input : ℕ → ContentEvent → List InputItem
+items_of_input input (Sent command) = items_for input (items_sent command)
+items_of_input input event = []
+
+-- both filters of an item, as they are in force
+abbrev pub filters_of : InputItem → FilterPair
+filters_of item =
+    record { leading = filter_in_force item.leading; trailing = filter_in_force item.trailing }
+
+-- an item as it is kept
+abbrev pub item_kept : InputItem → SentItem
+item_kept item = record { ignore = item.ignore; filters = filters_of item }
+
+-- the last of items, or what is before them
+abbrev pub last_item : Option SentItem → List InputItem → Option SentItem
+last_item before items = fold (λ earlier item. Some (item_kept item)) before items
+
+-- items of an input are there
+abbrev pub are_some : List InputItem → Bool
+are_some [] = false
+are_some (item ∷ items) = true
+
+-- some item ignores the input
+abbrev pub ignores : List InputItem → Bool
+ignores items = list_any (λ item. item.ignore) items
+
+-- some item does not ignore it
+abbrev pub opens : List InputItem → Bool
+opens items = list_any (λ item. not item.ignore) items
+
+-- an event says so where this holds
+abbrev pub said_if : Bool → Option Bool
+said_if holds = if holds then Some true else None
+
+-- the last item of this input that is sent
+abbrev pub item_sent : ℕ → ContentEvent → Option SentItem
+item_sent input event = last_item None (items_of_input input event)
+
+-- an item is sent that ignores this input
+abbrev pub ignoring : ℕ → ContentEvent → Option Bool
+ignoring input event = said_if (ignores (items_of_input input event))
+
+-- an item is sent that does not ignore it
+abbrev pub opening : ℕ → ContentEvent → Option Bool
+opening input event = said_if (opens (items_of_input input event))
+
+-- a load of the counter is sent
+abbrev pub is_loading : ContentEvent → Option Bool
+is_loading (Sent (commands.LoadCounter load)) = Some true
+is_loading event = None
+
+-- an answer to a watchdog is heard
+abbrev pub is_set_dog : ContentEvent → Option Bool
+is_set_dog (Heard (answers.Watchdog status)) = Some true
+is_set_dog event = None
+
+-- of a command and an answer: whether it is the command, which awaits its answer
+abbrev pub awaiting : ContentEvent → Option (Option Command)
+awaiting (Sent command) = Some (Some command)
+awaiting (Heard answer) = Some None
+awaiting event = None
+
+-- an answer says that a configuration was taken
+abbrev pub accepts_items : Answer → Bool
+accepts_items (answers.ConfigureInputs status) = not (says_error status)
+accepts_items answer = false
+
+-- such an answer is heard
+abbrev pub is_accepting : ContentEvent → Bool
+is_accepting (Heard answer) = accepts_items answer
+is_accepting event = false
+
+-- the stamp of an answer, but of a block that is sent again
+abbrev pub stamp_of : Answer → Option ℕ
+stamp_of (answers.Status flags receive transmit stamp) = Some stamp
+stamp_of (answers.RawInputs inputs stamp) = Some stamp
+stamp_of (answers.FilteredInputs inputs stamp) = Some stamp
+stamp_of (answers.Block block entries status stamp) = if says_again status then None else Some stamp
+stamp_of answer = None
+
+-- that of an answer that is heard
+abbrev pub stamp_heard : ContentEvent → Option ℕ
+stamp_heard (Heard answer) = stamp_of answer
+stamp_heard event = None
+
+-- the end of a clear block
+abbrev pub is_clear_end : ContentEvent → Bool
+is_clear_end (Ended status stamp) = not (says_more status) && not (says_again status)
+is_clear_end event = false
+
+-- an entry of any input, or the end of a block without C, as the floor of later entries
+abbrev pub floor_of : ContentEvent → Option Floor
+floor_of (Recorded (Entry input level stamp wide)) = Some (record { time = wide; input = Some input })
+floor_of (Ended status stamp) =
+    if says_more status then None else Some (record { time = stamp; input = None })
+floor_of event = None
+
+-- an entry of this input; inputs above 63 have none
+abbrev pub entry_recorded : ℕ → ContentEvent → Option TimedState
+entry_recorded input (Recorded (Entry other level stamp wide)) =
+    if input == other && nat_lt input INPUTS then Some (record { level = level; wide = wide }) else None
+entry_recorded input event = None
+
+-- what can hide a change of this input from the record: an item that ignores it, or a gap mark
+abbrev pub concealing : ℕ → ContentEvent → Option Bool
+concealing input (Recorded Gap) = Some true
+concealing input event = ignoring input event
+
+-- of an item that ignores this input, and of the end of a clear block: whether it is the item
+abbrev pub hiding : ℕ → ContentEvent → Option Bool
+hiding input event = if is_clear_end event then Some false else ignoring input event
+
+-- the states that were asked for
+abbrev pub states_heard : ContentEvent → Option Seen
+states_heard (Heard (answers.FilteredInputs inputs stamp)) = Some (record { stamp = stamp; levels = inputs })
+states_heard event = None
+
+-- the record comes to these states: it has all entries up to their stamp, and none later yet
+abbrev pub comes_to : Seen → ContentEvent → Bool
+comes_to seen (Recorded (Entry input level stamp wide)) = is_later wide seen.stamp
+comes_to seen (Ended status stamp) = not (says_more status) && not (is_before stamp seen.stamp)
+comes_to seen event = false

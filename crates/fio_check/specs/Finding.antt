@@ -1,0 +1,141 @@
+-- What the rules on content always find of a log in which a block has other entries than it was sent with, and by which line.
+-- A log may be cut below any of its lines: a fault is found by the last line of a log that has it.
+use Rattle.std.specs.Prelude.{◌≡◌, ℕ, ◌+◌, Bool, ◌&&◌, ◌||◌, true, false, not, List, [], ◌∷◌, ◌++◌, Option, Some, None, fold, is_some, length, option_map, replicate}
+use Rattle.fio_message.specs.Blocks.{Block}
+use Rattle.fio_message.specs.declared.fields.Entry.{Entry}
+use Rattle.fio_cpu.specs.Record.{items_of_block}
+use Rattle.fio_check.specs.ContentAbove.{ContentFacts, content_at, input_at, is_at, latest_said}
+use Rattle.fio_check.specs.ContentSaid.{Seen, comes_to, entry_recorded}
+use Rattle.fio_check.specs.ContentEvents.{ContentEvent, LineEvent, events_of_log, is_taken, number_below}
+use Rattle.fio_check.specs.ContentRules.{ContentFault, content_fault_in}
+use Rattle.fio_check.specs.Lines.{TranscriptLine}
+use Rattle.fio_check.specs.Places.{is_some_and}
+use Rattle.fio_check.specs.Pollers.{block_on}
+
+-- ---- found
+
+-- a fault is found by the last of these lines: whatever follows them, it is the first fault of the log
+pub record IsFoundBy (begun : Bool) (lines : List TranscriptLine) : Type 0 where
+  pub fault : ContentFault
+  pub found : (below : List TranscriptLine) → content_fault_in begun (lines ++ below) ≡ Some fault
+
+-- ---- a block with other entries
+
+-- the CPU's number below lines, if a poll is among them
+abbrev pub number_below_lines : List TranscriptLine → Option ℕ
+number_below_lines lines = fold (λ number line. number_below number line.from_cpu line.octets) None lines
+
+-- at this line, below these, the CPU hears a block and takes it
+pub record TakesBlock (above : List TranscriptLine) (line : TranscriptLine) (block : Block) : Type 0 where
+  pub heard : block_on line ≡ Some block
+  pub taken : is_taken (number_below_lines above) block.number ≡ true
+
+-- the block with these entries
+abbrev pub with_entries : Block → List Entry → Block
+with_entries block entries = record block { entries = entries }
+
+-- the line with these octets
+abbrev pub with_octets : TranscriptLine → List ℕ → TranscriptLine
+with_octets line octets = record line { octets = octets }
+
+-- a line's block has these entries; these octets spell the same block with other entries
+pub record ChangesEntries (above : List TranscriptLine) (line : TranscriptLine) (octets : List ℕ) (block : Block)
+    (entries others : List Entry) : Type 0 where
+  pub was : TakesBlock above line (with_entries block entries)
+  pub is : TakesBlock above (with_octets line octets) (with_entries block others)
+
+-- the entry with the other state
+abbrev pub turned : Entry → Entry
+turned entry = record entry { level = not entry.level }
+
+-- ---- what is compared
+
+-- what is below lines
+abbrev pub content_below : Bool → List TranscriptLine → ContentFacts
+content_below begun lines = content_at (events_of_log begun lines) (length (events_of_log begun lines))
+
+-- below these lines the times of neighbouring entries are compared: a clear block is above, and no load of the counter was
+-- sent
+pub record ComparesTimes (begun : Bool) (lines : List TranscriptLine) : Type 0 where
+  pub clear : (content_below begun lines).clear ≡ true
+  pub unloaded : (content_below begun lines).loaded ≡ false
+
+-- an event tells the state of an input: it is an entry of that input, or the record comes there to these states
+abbrev pub tells_state : Option Seen → ℕ → ContentEvent → Bool
+tells_state seen input event = is_some (entry_recorded input event) || is_some_and seen (λ states. comes_to states event)
+
+-- at a place the latest entry of an input is compared with what tells the state of the input: no change since can have been
+-- hidden
+abbrev pub is_compared : List LineEvent → ℕ → ℕ → Bool
+is_compared events input place = is_some (input_at events input place).watched
+    && is_at (tells_state (content_at events place).seen input) events place
+
+-- the place of the latest entry of an input above a place
+abbrev pub place_of_latest : List LineEvent → ℕ → ℕ → Option ℕ
+place_of_latest events input place =
+    option_map (λ found. found.place) (latest_said (entry_recorded input) events place)
+
+-- the entry of this input that is compared at a place is that at an earlier place
+pub record IsComparedAt (events : List LineEvent) (input earlier place : ℕ) : Type 0 where
+  pub latest : place_of_latest events input place ≡ Some earlier
+  pub compared : is_compared events input place ≡ true
+
+-- the place of the entry of a block that follows these in it: the block is heard, and its items above that entry are recorded
+abbrev pub place_of_entry : Bool → List TranscriptLine → Block → List Entry → ℕ
+place_of_entry begun above block front =
+    length (events_of_log begun above) + (1 + length (items_of_block (with_entries block front)))
+
+-- ---- what is found
+
+-- Doubled: where times are compared, an entry is in a block twice in succession. It is found by that block, whatever else is
+-- in the log.
+abbrev pub FindsDoubled : Bool → Type 0
+FindsDoubled begun =
+    (above : List TranscriptLine) (line : TranscriptLine) (block : Block) (front back : List Entry) (entry : Entry)
+    → ComparesTimes begun above
+    → TakesBlock above line (with_entries block (front ++ (replicate 2 entry ++ back)))
+    → IsFoundBy begun (above ++ (line ∷ []))
+
+-- Swapped: where times are compared, two neighbours in a block are exchanged, in a log that had no fault. It is found by that
+-- block.
+abbrev pub FindsSwapped : Bool → Type 0
+FindsSwapped begun =
+    (above : List TranscriptLine) (line : TranscriptLine) (octets : List ℕ) (block : Block) (front back : List Entry)
+    (entry other : Entry)
+    → ComparesTimes begun above
+    → content_fault_in begun (above ++ (line ∷ [])) ≡ None
+    → ChangesEntries above line octets block (front ++ (entry ∷ (other ∷ back))) (front ++ (other ∷ (entry ∷ back)))
+    → IsFoundBy begun (above ++ (with_octets line octets ∷ []))
+
+-- Turned: an entry has the other state, in a log that had no fault. It is found by its block if an earlier entry of its input
+-- is compared with it.
+abbrev pub FindsTurned : Bool → Type 0
+FindsTurned begun =
+    (above : List TranscriptLine) (line : TranscriptLine) (octets : List ℕ) (block : Block) (front back : List Entry)
+    (entry : Entry)
+    → content_fault_in begun (above ++ (line ∷ [])) ≡ None
+    → ChangesEntries above line octets block (front ++ (entry ∷ back)) (front ++ (turned entry ∷ back))
+    → is_compared (events_of_log begun (above ++ (line ∷ []))) entry.input (place_of_entry begun above block front) ≡ true
+    → IsFoundBy begun (above ++ (with_octets line octets ∷ []))
+
+-- It is found by the line at which it is compared, if it is.
+abbrev pub FindsTurnedLater : Bool → Type 0
+FindsTurnedLater begun =
+    (above below : List TranscriptLine) (line : TranscriptLine) (octets : List ℕ) (block : Block) (front back : List Entry)
+    (entry : Entry) (place : ℕ)
+    → content_fault_in begun (above ++ (line ∷ below)) ≡ None
+    → ChangesEntries above line octets block (front ++ (entry ∷ back)) (front ++ (turned entry ∷ back))
+    → IsComparedAt (events_of_log begun (above ++ (line ∷ below))) entry.input (place_of_entry begun above block front) place
+    → IsFoundBy begun (above ++ (with_octets line octets ∷ below))
+
+-- Dropped: an entry is left out of its block, in a log that had no fault. It is found by the line at which the entry was
+-- compared, if an earlier entry of its input was compared with it.
+abbrev pub FindsDropped : Bool → Type 0
+FindsDropped begun =
+    (above below : List TranscriptLine) (line : TranscriptLine) (octets : List ℕ) (block : Block) (front back : List Entry)
+    (entry : Entry) (place : ℕ)
+    → content_fault_in begun (above ++ (line ∷ below)) ≡ None
+    → ChangesEntries above line octets block (front ++ (entry ∷ back)) (front ++ back)
+    → is_compared (events_of_log begun (above ++ (line ∷ below))) entry.input (place_of_entry begun above block front) ≡ true
+    → IsComparedAt (events_of_log begun (above ++ (line ∷ below))) entry.input (place_of_entry begun above block front) place
+    → IsFoundBy begun (above ++ (with_octets line octets ∷ below))

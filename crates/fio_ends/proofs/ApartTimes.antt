@@ -1,0 +1,170 @@
+-- The time of the latest entry of each input, and what is asked of the next one.
+use Rattle.fio_ends.proofs.Names.{◌≡◌, ◌∙◌, ◌+◌, ◌-◌, ◌^◌, ◌<◌, ◌≤◌, ◌&&◌, ◌⊎◌, inl, inr, ℕ, Bool, true, false, not, List, [], ◌∷◌, ◌++◌, length, Option, Some, None, refl, ap, subst, arith, append-nil, if◌then◌else◌, flat_map, flat_map-append, slice_get, AllByRecursion, nat_lt, nat_tests, is_some_and, same_Some, Settings, Life, life_of, log_of, Transition, MadeBlock, blocks_of, ContentFacts, InputAbove, FilterPair, Event, Machine, get_before_push}
+use Rattle.fio_input.specs.Delivery.{filter_to}
+use Rattle.fio_check.specs.ContentSaid.{milliseconds_between}
+use Rattle.fio_check.specs.ContentFacts.{input_with_entry}
+use Rattle.fio_check.specs.ContentRules.{filter_towards}
+use Rattle.fio_link.specs.declared.event.Event.TheVariants as events
+use Rattle.fio_ends.specs.ContentPremises.{InputsAreNear, WaitBriefly, blocks_taken, latest_with}
+use Rattle.fio_ends.proofs.BlockPlaces.{end_at}
+use Rattle.fio_ends.proofs.Clocks.{between_clocks, clock, offset_of}
+use Rattle.fio_ends.proofs.ContentSteps.{IsPastBus}
+use Rattle.fio_ends.proofs.Shut.{ShutHolds}
+use Rattle.fio_ends.proofs.LeastFilters.{AreNoMore, KeepsLeast}
+use Rattle.fio_ends.proofs.Settled.{setting_of}
+use Rattle.fio_ends.proofs.Steady.{IsSteady, loaded_after}
+
+-- ---- what is asked of the blocks
+
+-- the entries of blocks
+abbrev pub entries_in : List MadeBlock → List Transition
+entries_in blocks = flat_map (λ block. block.transitions) blocks
+
+-- the scans of the latest entry of each input below entries
+abbrev pub latest_after : (ℕ → Option ℕ) → List Transition → ℕ → Option ℕ
+latest_after latest [] = latest
+latest_after latest (transition ∷ transitions) = latest_after (latest_with latest transition) transitions
+
+abbrev pub none_yet : ℕ → Option ℕ
+none_yet input = None
+
+pub record AreNearByInput (blocks : List MadeBlock) : Type 0 where
+  pub brief : AllByRecursion WaitBriefly blocks
+  pub near : InputsAreNear none_yet (entries_in blocks)
+
+pub brief_front : (front more : List MadeBlock) → AllByRecursion WaitBriefly (front ++ more) → AllByRecursion WaitBriefly front
+brief_front [] more all = tt
+brief_front (block ∷ front) more all = (all.0, brief_front front more all.1)
+
+pub near_front : (latest : ℕ → Option ℕ) (front more : List Transition) → InputsAreNear latest (front ++ more) → InputsAreNear latest front
+near_front latest [] more near = tt
+near_front latest (transition ∷ front) more near = (near.0, near_front (latest_with latest transition) front more near.1)
+
+pub near_back : (latest : ℕ → Option ℕ) (front more : List Transition) → InputsAreNear latest (front ++ more) → InputsAreNear (latest_after latest front) more
+near_back latest [] more near = near
+near_back latest (transition ∷ front) more near = near_back (latest_with latest transition) front more near.1
+
+pub latest_after-append : (latest : ℕ → Option ℕ) (front more : List Transition) → latest_after latest (front ++ more) ≡ latest_after (latest_after latest front) more
+latest_after-append latest [] more = refl
+latest_after-append latest (transition ∷ front) more = latest_after-append (latest_with latest transition) front more
+
+pub front_asked : (front more : List MadeBlock) → AreNearByInput (front ++ more) → AreNearByInput front
+front_asked front more a = record {
+  brief = brief_front front more a.brief;
+  near = near_front none_yet (entries_in front) (entries_in more)
+      (subst (InputsAreNear none_yet) (flat_map-append (λ (block : MadeBlock). block.transitions) front more) a.near);
+}
+
+pub brief_last : (blocks : List MadeBlock) (block : MadeBlock) → AllByRecursion WaitBriefly (blocks ++ block ∷ []) → WaitBriefly block
+brief_last [] block all = all.0
+brief_last (first ∷ blocks) block all = brief_last blocks block all.1
+
+pub entries_with : (blocks : List MadeBlock) (block : MadeBlock) → entries_in (blocks ++ block ∷ []) ≡ entries_in blocks ++ block.transitions
+entries_with blocks block =
+    flat_map-append (λ (b : MadeBlock). b.transitions) blocks (block ∷ []) ∙ ap (λ more. entries_in blocks ++ more) (append-nil block.transitions)
+
+pub near_last : (blocks : List MadeBlock) (block : MadeBlock) → InputsAreNear none_yet (entries_in (blocks ++ block ∷ []))
+    → InputsAreNear (latest_after none_yet (entries_in blocks)) block.transitions
+near_last blocks block near = near_back none_yet (entries_in blocks) block.transitions (subst (InputsAreNear none_yet) (entries_with blocks block) near)
+
+-- ---- one entry
+
+pub towards : (level : Bool) (pair : FilterPair) (input : ℕ) (life : Life) → AreNoMore pair (setting_of input life)
+    → filter_towards level pair ≤ filter_to (setting_of input life) level
+towards true pair input life a = a.trailing
+towards false pair input life a = a.leading
+
+pub far_enough : (offset earlier later filter : ℕ) → earlier + filter ≤ later → later < earlier + 2 ^ 32
+    → nat_lt (milliseconds_between (clock offset earlier) (clock offset later)) filter ≡ false
+far_enough offset earlier later filter apart near =
+    let between : milliseconds_between (clock offset earlier) (clock offset later) ≡ later - earlier =
+    between_clocks offset earlier later (omega arith) near in
+    grind (arith, nat_tests)
+
+pub none_near : (test : ℕ → Bool) (loaded : Bool) (timed : Option ℕ) → (loaded ≡ false → (time : ℕ) → timed ≡ Some time → test time ≡ false)
+    → (not loaded && is_some_and timed test) ≡ false
+none_near test true timed kept = refl
+none_near test false None kept = refl
+none_near test false (Some time) kept = kept refl time refl
+
+-- ---- what is kept
+
+-- the latest entry of an input, where it is known with its time
+pub record IsTimed (offset : ℕ) (now : Life) (upto input : ℕ) (latest : Option ℕ) (time : ℕ) : Type 0 where
+  pub place : ℕ
+  pub transition : Transition
+  pub at : slice_get (log_of now) place ≡ Some transition
+  pub of_input : transition.input ≡ input
+  pub below : place < upto
+  pub time_is : time ≡ clock offset transition.scans
+  pub latest_is : latest ≡ Some transition.scans
+
+-- what is known of times, below a clear block
+pub record KeepsTimes (settings : Settings) (begin now : Life) (upto round : ℕ) (latest : ℕ → Option ℕ) (facts : ContentFacts) : Type 0 where
+  pub clear : facts.clear ≡ true → (length (log_of begin) ≤ upto) × (length (blocks_of settings begin) ≤ round)
+  pub timed : (input : ℕ) → input < 64 → (time : ℕ) → (facts.inputs input).timed ≡ Some time
+      → (facts.clear ≡ true) × IsTimed (offset_of begin) now upto input (latest input) time
+
+-- what is kept of a machine
+pub record KeepsApart (settings : Settings) (begin : Machine) (loaded : Bool) (machine : Machine) (facts : ContentFacts) : Type 0 where
+  pub loaded_is : facts.loaded ≡ loaded
+  pub steady : IsSteady loaded (life_of begin.history) (life_of machine.history)
+  pub both : ShutHolds settings machine facts
+  pub least : (input : ℕ) → input < 64
+      → KeepsLeast (life_of machine.history) machine.to_module machine.last_to_module (end_at settings (life_of machine.history) machine.round) input (facts.inputs input).least
+  pub times : loaded ≡ false
+      → KeepsTimes settings (life_of begin.history) (life_of machine.history) (end_at settings (life_of machine.history) machine.round) machine.round
+      (latest_after none_yet (entries_in (blocks_taken settings begin machine))) facts
+
+-- the log of a life goes on, or stays
+pub timed-later : (offset : ℕ) (now later : Life) (more : List Transition) (upto upto_later input : ℕ) (latest latest_later : Option ℕ) (time : ℕ)
+    → log_of later ≡ log_of now ++ more → upto ≤ upto_later → latest_later ≡ latest
+    → IsTimed offset now upto input latest time → IsTimed offset later upto_later input latest_later time
+timed-later offset now later more upto upto_later input latest latest_later time grown le same t = record {
+  place = t.place;
+  transition = t.transition;
+  at = ap (λ log. slice_get log t.place) grown ∙ get_before_push (log_of now) more t.place t.transition t.at;
+  of_input = t.of_input;
+  below = omega (arith, t.below);
+  time_is = t.time_is;
+  latest_is = same ∙ t.latest_is;
+}
+
+pub times-later : (settings : Settings) (begin now later : Life) (more : List Transition) (upto upto_later round : ℕ) (latest latest_later : ℕ → Option ℕ) (facts : ContentFacts)
+    → log_of later ≡ log_of now ++ more → upto ≤ upto_later → latest_later ≡ latest
+    → KeepsTimes settings begin now upto round latest facts → KeepsTimes settings begin later upto_later round latest_later facts
+times-later settings begin now later more upto upto_later round latest latest_later facts grown le same k = record {
+  clear = λ is. (let c = k.clear is in (omega (arith, c.0), c.1));
+  timed = λ input low time is.
+      (let t = k.timed input low time is in
+      (t.0, timed-later (offset_of begin) now later more upto upto_later input (latest input) (latest_later input) time grown le (ap (λ (f : ℕ → Option ℕ). f input) same) t.1));
+}
+
+-- a scan, a line sync or raised flags send nothing
+pub past_loaded : (loaded : Bool) (machine : Machine) (event : Event) → IsPastBus event → loaded ≡ loaded_after loaded machine event
+past_loaded loaded machine (events.Scan raw) past = refl
+past_loaded loaded machine (events.Raise mask) past = refl
+past_loaded loaded machine events.LineSync past = refl
+past_loaded loaded machine events.Poll past = absurd past
+past_loaded loaded machine (events.Send command) past = absurd past
+past_loaded loaded machine (events.ToModule index) past = absurd past
+past_loaded loaded machine (events.ToCpu index) past = absurd past
+past_loaded loaded machine events.Restart past = absurd past
+
+-- ---- the CPU takes a block
+
+-- an entry that is ahead of another of its input is of a later scan
+pub ahead_of : (older newer : Transition) → (older.scans < newer.scans) ⊎ ((older.scans ≡ newer.scans) × (older.input < newer.input)) → older.input ≡ newer.input
+    → older.scans < newer.scans
+ahead_of older newer (inl less) same = less
+ahead_of older newer (inr later) same = absurd (omega (arith, later.1, same))
+
+-- what holds of an input holds of it with an entry more, or without
+pub least_by : (here : Bool) (facts : ContentFacts) (level : Bool) (wide : ℕ) (above : InputAbove)
+    → (if here then input_with_entry facts level wide above else above).least ≡ above.least
+least_by true facts level wide above = refl
+least_by false facts level wide above = refl
+
+pub if_clear : (clear : Bool) (wide time : ℕ) → (if clear then Some wide else None) ≡ Some time → (clear ≡ true) × (wide ≡ time)
+if_clear true wide time is = (refl, same_Some _ _ is)
+if_clear false wide time is = absurd (cc is)

@@ -1,0 +1,96 @@
+-- Where the rules are kept, a log has no fault of them.
+use Rattle.fio_ends.proofs.Names.{◌≡◌, ℕ, zero, suc, Bool, false, List, length, Option, Some, None, refl, ap, ap₂, option_map, slice_get, Answer, Entry, Gap, TranscriptLine, ContentFacts, ContentEvent, LineEvent, Ended, Heard, Recorded, Sent, content_event_at, events_of_log, ContentRule, Accepted, Alternate, Apart, Cleared, Clock, Done, Fresh, Ignored, Order, State, Watchdog, rule_broken_by}
+use Rattle.std.specs.Option.{option_or}
+use Rattle.std.specs.Prelude.{find, option_and_then, take, if◌then◌else◌}
+use Rattle.fio_check.specs.ContentAbove.{content_at}
+use Rattle.fio_check.specs.ContentSaid.{TimedState}
+use Rattle.fio_check.specs.ContentEvents.{recorded_items}
+use Rattle.fio_check.specs.ContentRules.{answer_rules, breaks_answer, breaks_entry, content_fault_at, content_fault_in, entry_rules, fault_of}
+use Rattle.fio_check.specs.Places.{earliest_above}
+use Rattle.fio_check.specs.declared.content_rules.BrokenRule.{BrokenRule}
+use Rattle.fio_ends.specs.ContentPremises.{HasNearTimes}
+use Rattle.fio_ends.specs.ContentRuns.{AccusesNone, KeepsRule}
+use Rattle.fio_ends.proofs.AlternateKept.{alternate_never_accuses}
+use Rattle.fio_ends.proofs.AnswersKept.{accepted_never_accuses, cleared_never_accuses, done_never_accuses, watchdog_never_accuses}
+use Rattle.fio_ends.proofs.ApartKept.{apart_never_accuses}
+use Rattle.fio_ends.proofs.ClockKept.{clock_never_accuses}
+use Rattle.fio_ends.proofs.FloorsKept.{fresh_never_accuses, order_never_accuses}
+use Rattle.fio_ends.proofs.IgnoredKept.{ignored_never_accuses}
+use Rattle.fio_ends.proofs.StateKept.{state_never_accuses}
+
+-- ---- one event
+
+-- an event keeps all rules
+record KeepsAll (facts : ContentFacts) (event : ContentEvent) : Type 0 where
+  pub order : KeepsRule Order facts event
+  pub fresh : KeepsRule Fresh facts event
+  pub alternate : KeepsRule Alternate facts event
+  pub apart : KeepsRule Apart facts event
+  pub ignored : KeepsRule Ignored facts event
+  pub clock : KeepsRule Clock facts event
+  pub done : KeepsRule Done facts event
+  pub accepted : KeepsRule Accepted facts event
+  pub cleared : KeepsRule Cleared facts event
+  pub watchdog : KeepsRule Watchdog facts event
+  pub state : KeepsRule State facts event
+
+none_of_five : (a b c d e : Bool) (p q r s t : ContentRule) → a ≡ false → b ≡ false → c ≡ false → d ≡ false → e ≡ false
+    → (if a then Some p else (if b then Some q else (if c then Some r else (if d then Some s else (if e then Some t else None))))) ≡ None
+none_of_five a b c d e p q r s t first second third fourth fifth = rw (first, second, third, fourth, fifth) refl
+
+none_of_answer : (facts : ContentFacts) (answer : Answer) → KeepsAll facts (Heard answer) → find (breaks_answer facts answer) answer_rules ≡ None
+none_of_answer facts answer k =
+    none_of_five (breaks_answer facts answer Done) (breaks_answer facts answer Accepted) (breaks_answer facts answer Cleared) (breaks_answer facts answer Watchdog) (breaks_answer facts answer Clock)
+    Done Accepted Cleared Watchdog Clock k.done k.accepted k.cleared k.watchdog k.clock
+
+none_of_entry : (facts : ContentFacts) (input low wide : ℕ) (level : Bool) → KeepsAll facts (Recorded (Entry input level low wide))
+    → find (breaks_entry facts input (record { level = level; wide = wide })) entry_rules ≡ None
+none_of_entry facts input low wide level k =
+    let entry : TimedState = record { level = level; wide = wide } in
+    none_of_five (breaks_entry facts input entry Order) (breaks_entry facts input entry Fresh) (breaks_entry facts input entry Alternate) (breaks_entry facts input entry Apart)
+    (breaks_entry facts input entry Ignored) Order Fresh Alternate Apart Ignored k.order k.fresh k.alternate k.apart k.ignored
+
+none_broken : (facts : ContentFacts) (event : ContentEvent) → KeepsAll facts event → rule_broken_by facts event ≡ None
+none_broken facts (Heard answer) k = ap (option_map {U = BrokenRule} (λ rule. record { input = None; rule = rule })) (none_of_answer facts answer k)
+none_broken facts (Recorded (Entry input level low wide)) k =
+    ap₂ option_or k.state (ap (option_map {U = BrokenRule} (λ rule. record { input = Some input; rule = rule })) (none_of_entry facts input low wide level k))
+none_broken facts (Recorded Gap) k = refl
+none_broken facts (Ended status stamp) k = k.state
+none_broken facts (Sent command) k = refl
+
+-- ---- a log
+
+none_earliest : {A : Type 0} (says : ℕ → Option A) (below : ℕ) → ((place : ℕ) → says place ≡ None) → earliest_above says below ≡ None
+none_earliest says zero none = refl
+none_earliest says (suc below) none = ap₂ option_or (none_earliest says below none) (none below)
+
+module _ (lines : List TranscriptLine) (keeps : (place : ℕ) (event : ContentEvent) → content_event_at (events_of_log false lines) place ≡ Some event
+    → KeepsAll (content_at (events_of_log false lines) place) event) where
+  abbrev all : List LineEvent
+  all = events_of_log false lines
+
+  none_at : (place : ℕ) (here : Option LineEvent) → slice_get all place ≡ here
+      → option_and_then (λ found. option_map (fault_of found.line (recorded_items (take place all))) (rule_broken_by (content_at all place) found.event)) here ≡ None
+  none_at place None at = refl
+  none_at place (Some here) at =
+      ap (option_map (fault_of here.line (recorded_items (take place all))))
+      (none_broken (content_at all place) here.event (keeps place here.event (ap (option_map (λ (found : LineEvent). found.event)) at)))
+
+  no_faults : content_fault_in false lines ≡ None
+  no_faults = none_earliest (content_fault_at all) (length all) (λ place. none_at place (slice_get all place) refl)
+
+pub accuses_none : AccusesNone HasNearTimes
+accuses_none settings first before later machine last range run leads begins holds lines has =
+    no_faults lines (λ place event at. record {
+      order = order_never_accuses settings first before later machine last range run leads begins holds.entries lines has place event at;
+      fresh = fresh_never_accuses settings first before later machine last range run leads begins holds.entries lines has place event at;
+      alternate = alternate_never_accuses settings first before later machine last range run leads begins tt lines has place event at;
+      apart = apart_never_accuses settings first before later machine last range run leads begins holds.inputs lines has place event at;
+      ignored = ignored_never_accuses settings first before later machine last range run leads begins tt lines has place event at;
+      clock = clock_never_accuses settings first before later machine last range run leads begins holds.stamps lines has place event at;
+      done = done_never_accuses settings first before later machine last range run leads begins tt lines has place event at;
+      accepted = accepted_never_accuses settings first before later machine last range run leads begins tt lines has place event at;
+      cleared = cleared_never_accuses settings first before later machine last range run leads begins tt lines has place event at;
+      watchdog = watchdog_never_accuses settings first before later machine last range run leads begins tt lines has place event at;
+      state = state_never_accuses settings first before later machine last range run leads begins holds.states lines has place event at;
+    })

@@ -1,0 +1,246 @@
+-- The rule `ignored` never accuses: an input that was settled as ignored has no entries until an item opens it.
+use Rattle.fio_ends.proofs.Names.{◌≡◌, ◌∙◌, ◌+◌, ◌<◌, ◌≤◌, ◌&&◌, ◌||◌, inl, inr, ℕ, Bool, true, false, not, List, [], ◌∷◌, length, Option, Some, None, refl, ap, sym, subst, arith, if◌then◌else◌, ◌==◌, slice_get, slice_get_within, nat_lt, Answer, Command, Block, command_in, command_octets, IsCommand, says_again, says_more, says_error, all_present, InputItem, ArrayVec, Settings, AreInRange, Life, Scanned, LineSynced, Raised, life_of, life_after_command, log_of, Transition, entry_of, MadeBlock, blocks_in, ContentFacts, InputAbove, content_with, Ended, Recorded, Sent, Gap, Event, SentFrame, Machine, after, after_sending, after_delivery_to_module, after_taken, Ignored, IsKept}
+use Rattle.fio_message.specs.declared.answers.Answer.TheVariants as answers
+use Rattle.fio_message.specs.declared.commands.Command.TheVariants as commands
+use Rattle.fio_message.specs.Blocks.{block_answer}
+use Rattle.fio_message.specs.Status.{error_status}
+use Rattle.fio_message.proofs.StatusBits.{error_back}
+use Rattle.fio_input.specs.Widening.{wide_time_of}
+use Rattle.fio_module.specs.Blocks.{end_of_blocks}
+use Rattle.fio_check.specs.ContentSaid.{SentItem, accepts_items, are_some, items_for, items_sent, opens}
+use Rattle.fio_check.specs.ContentFacts.{input_below_clear, input_with_entry}
+use Rattle.fio_check.specs.ContentRules.{breaks_answer}
+use Rattle.fio_link.specs.declared.event.Event.TheVariants as events
+use Rattle.fio_ends.specs.ContentRuns.{Always, ContentNeverAccuses, KeepsRule}
+use Rattle.fio_ends.proofs.Alternating.{NoneOf}
+use Rattle.fio_ends.proofs.AlternateKept.{clear_open}
+use Rattle.fio_ends.proofs.Answered.{Says, says_of}
+use Rattle.fio_ends.proofs.BlockPlaces.{end_at, ends_within, is_next}
+use Rattle.fio_ends.proofs.BlockWalk.{IsWalk, entry_event, walk}
+use Rattle.fio_ends.proofs.ContentRuns.{content_never_accuses}
+use Rattle.fio_ends.proofs.ContentSteps.{HearsAnswer, IsInvariant, IsKnown, IsPastBus, Takes}
+use Rattle.fio_ends.proofs.Following.{IsSentLast, IsSince}
+use Rattle.fio_ends.proofs.Sends.{read_back}
+use Rattle.fio_ends.proofs.Settled.{KeepsItem, item-quiet, item-received, item-sent, item-taken, setting_of}
+use Rattle.fio_ends.proofs.Taken.{blocks_stay}
+use Rattle.fio_ends.proofs.Watching.{IsSilent, NoneHidden, input_at, rest_at}
+use Rattle.fio_ends.proofs.Shut.{KeepsBoth, ShutHolds, none_shut, shut-sent, silent-command, silent-further, silent-quiet}
+
+module _ (settings : Settings) (range : AreInRange settings) (first : ℕ) (begin : Machine) where
+  -- ---- the CPU takes a block
+
+  module _ (from : Life) (machine : Machine) (place number : ℕ) (answer : Block) (block : MadeBlock)
+      (known : IsKnown settings first begin from machine) (t : Takes settings first from machine place number answer block) where
+    abbrev now : Life
+    now = life_of machine.history
+
+    abbrev pub Both : ℕ → List Transition → ContentFacts → Type 0
+    Both upto rest facts =
+        (input : ℕ) → input < 64 → KeepsBoth now machine.to_module machine.last_to_module upto input (facts.inputs input)
+
+    both_further : (facts : ContentFacts) (upto further : ℕ) → upto ≤ further → (rest other : List Transition) → Both upto rest facts → Both further other facts
+    both_further facts upto further le rest other q = λ input low.
+        (let k = q input low in
+        record {
+          item = k.item;
+          shut = λ is. (let s = k.shut is in (s.0, silent-further now upto further input le s.1));
+        })
+
+    pub both_gap : (facts : ContentFacts) → end_at settings now machine.round ≤ block.start → Both (end_at settings now machine.round) block.transitions facts
+        → Both block.start block.transitions (content_with facts (Recorded Gap))
+    both_gap facts forward q = λ input low.
+        (let k = both_further facts (end_at settings now machine.round) block.start forward block.transitions block.transitions q input low in
+        record { item = k.item; shut = k.shut })
+
+    by_if : (upto input : ℕ) (above : InputAbove) (wide : ℕ) (level : Bool) (facts : ContentFacts) (here : Bool)
+        → KeepsBoth now machine.to_module machine.last_to_module upto input above
+        → KeepsBoth now machine.to_module machine.last_to_module upto input (if here then input_with_entry facts level wide above else above)
+    by_if upto input above wide level facts true k = record { item = k.item; shut = k.shut }
+    by_if upto input above wide level facts false k = k
+
+    pub both_entry : (k : ℕ) (transition : Transition) (rest : List Transition) (facts : ContentFacts) → slice_get block.transitions k ≡ Some transition
+        → slice_get (log_of now) (block.start + k) ≡ Some transition → Both (block.start + k) (transition ∷ rest) facts
+        → KeepsRule Ignored facts (entry_event answer.stamp transition)
+        × Both (block.start + (k + 1)) rest (content_with facts (entry_event answer.stamp transition))
+    both_entry k transition rest facts at logged q =
+        let input_low = input_at now (block.start + k) transition logged in (
+          none_shut (facts.inputs transition.input).shut
+              (λ is. (subst (NoneOf transition.input) (rest_at (log_of now) (block.start + k) transition logged) ((q transition.input input_low).shut is).1.none).0 refl),
+          λ input low. by_if (block.start + (k + 1)) input (facts.inputs input) (wide_time_of answer.stamp (entry_of transition).stamp) transition.level facts
+              ((input == transition.input) && nat_lt input 64)
+              (both_further facts (block.start + k) (block.start + (k + 1)) (omega arith) (transition ∷ rest) rest q input low),
+        )
+
+    -- at a clear block an item that was taken is settled
+    settle : (input : ℕ) → input < 64 → block.more ≡ false → says_again answer.status ≡ false → (above : InputAbove) (taken : Bool) → above.taken ≡ taken
+        → (item : Option SentItem) → above.item ≡ item
+        → KeepsBoth now machine.to_module machine.last_to_module block.end input above
+        → KeepsBoth now machine.to_module machine.last_to_module block.end input (input_below_clear above (if taken then item else None))
+    settle input low all anew above false is item item_is k = record { item = k.item; shut = k.shut }
+    settle input low all anew above true is None item_is k = record { item = k.item; shut = k.shut }
+    settle input low all anew above true is (Some item) item_is k = record {
+      item = k.item;
+      shut = λ ignored.
+          (let has = (k.item.taken_one is item item_is).1 in
+          let o = clear_open settings range first begin from machine place number answer block known t input low all anew in (
+            λ place frame high there. absurd (omega (arith, t.received, slice_get_within machine.to_module place frame there)),
+            silent (has.ignore ∙ ignored) o.1,
+          ));
+    }
+      where
+        silent : (setting_of input now).ignore ≡ true → NoneHidden now block.end input → IsSilent now block.end input
+        silent is (inl s) = s
+        silent is (inr w) = absurd (cc (sym is ∙ w.1.opened))
+
+    pub both_ended : (facts : ContentFacts) (more again : Bool) → says_more answer.status ≡ more → says_again answer.status ≡ again → Both block.end [] facts
+        → Both block.end [] (content_with facts (Ended answer.status answer.stamp))
+    both_ended facts true again more_is again_is q = rw more_is q
+    both_ended facts false true more_is again_is q = rw (more_is, again_is) q
+    both_ended facts false false more_is again_is q = rw (more_is, again_is) (λ input low.
+        settle input low (sym t.carried.more ∙ more_is) again_is (facts.inputs input) (facts.inputs input).taken refl (facts.inputs input).item refl (q input low))
+
+    both_walk : IsWalk Ignored settings now machine.round answer block Both (ShutHolds settings (after_taken machine place answer))
+    both_walk = record {
+      gap = both_gap;
+      entry = both_entry;
+      ended = λ facts q. (
+        tt,
+        (let upto = (is_next settings now machine.round block t.made).ends in
+            subst (λ n. (input : ℕ) → input < 64 → KeepsBoth now machine.to_module machine.last_to_module n input ((content_with facts (Ended answer.status answer.stamp)).inputs input)) upto
+            (both_ended facts (says_more answer.status) (says_again answer.status) refl refl q)),
+      );
+    }
+
+  -- ---- other events
+
+  pub both-happens : (machine : Machine) (facts : ContentFacts) (event : Event) → IsPastBus event → ShutHolds settings machine facts
+      → ShutHolds settings (after settings first machine event) facts
+  both-happens machine facts (events.Scan raw) past p = λ input low. (let k = p input low in
+      record {
+        item = item-quiet machine.to_module machine.last_to_module input (facts.inputs input).named (facts.inputs input).item (facts.inputs input).taken low (life_of machine.history) (Scanned raw) tt k.item;
+        shut = λ is. (let s = k.shut is in (s.0, silent-quiet (life_of machine.history) (Scanned raw) (end_at settings (life_of machine.history) machine.round) input tt (ends_within settings (life_of machine.history) machine.round) s.1));
+      })
+  both-happens machine facts events.LineSync past p = λ input low. (let k = p input low in
+      record {
+        item = item-quiet machine.to_module machine.last_to_module input (facts.inputs input).named (facts.inputs input).item (facts.inputs input).taken low (life_of machine.history) LineSynced tt k.item;
+        shut = λ is. (let s = k.shut is in (s.0, silent-quiet (life_of machine.history) LineSynced (end_at settings (life_of machine.history) machine.round) input tt (ends_within settings (life_of machine.history) machine.round) s.1));
+      })
+  both-happens machine facts (events.Raise mask) past p = λ input low. (let k = p input low in
+      record {
+        item = item-quiet machine.to_module machine.last_to_module input (facts.inputs input).named (facts.inputs input).item (facts.inputs input).taken low (life_of machine.history) (Raised mask) tt k.item;
+        shut = λ is. (let s = k.shut is in (s.0, silent-quiet (life_of machine.history) (Raised mask) (end_at settings (life_of machine.history) machine.round) input tt (ends_within settings (life_of machine.history) machine.round) s.1));
+      })
+  both-happens machine facts events.Poll past p = absurd past
+  both-happens machine facts (events.Send command) past p = absurd past
+  both-happens machine facts (events.ToModule index) past p = absurd past
+  both-happens machine facts (events.ToCpu index) past p = absurd past
+  both-happens machine facts events.Restart past p = absurd past
+
+  pub both-sends : (machine : Machine) (facts : ContentFacts) (command : Command) → IsCommand command → ShutHolds settings machine facts
+      → ShutHolds settings (after_sending machine command) (content_with facts (Sent command))
+  both-sends machine facts command within p = λ input low. (let k = p input low in
+      let f : SentFrame = record { octets = command_octets command; round = machine.round } in
+      record {
+        item = item-sent machine.to_module machine.last_to_module input (facts.inputs input).named (facts.inputs input).item (facts.inputs input).taken low (life_of machine.history) f command (read_back command within)
+            (are_some (items_for input (items_sent command))) (are_some (items_for input (items_sent command)) || false) refl k.item;
+        shut = shut-sent machine.to_module machine.last_to_module (end_at settings (life_of machine.history) machine.round) input (facts.inputs input).shut low (life_of machine.history) f command (read_back command within)
+            (opens (items_for input (items_sent command))) refl k.shut;
+      })
+
+  pub both-receives : (machine : Machine) (facts : ContentFacts) (place : ℕ) (frame : SentFrame) → IsKept settings first machine → machine.last_to_module < place + 1
+      → slice_get machine.to_module place ≡ Some frame → ShutHolds settings machine facts
+      → ShutHolds settings (after_delivery_to_module settings machine (place + 1) (Some frame)) facts
+  both-receives machine facts place frame k new at p = λ input low.
+      (let now = life_of machine.history in
+      let command = command_in frame.octets in
+      let few : machine.round ≤ length (blocks_in settings machine) = omega (arith, k.always.answers.behind, k.one_life.made) in
+      let upto : end_at settings (life_after_command command now) machine.round ≡ end_at settings now machine.round =
+      ap end_of_blocks (blocks_stay settings now command machine.round few) in
+      let both = p input low in
+      record {
+        item = item-received machine.to_module machine.last_to_module input (facts.inputs input).named (facts.inputs input).item (facts.inputs input).taken low now place frame (omega arith) at both.item;
+        shut = λ is.
+            (let s = both.shut is in (
+              λ later f high there. s.0 later f (omega arith) there,
+              subst (λ n. IsSilent (life_after_command command now) n input) (sym upto)
+                  (silent-command input low now (end_at settings now machine.round) command (s.0 place frame (omega arith) at) s.1),
+            ));
+      })
+
+  -- an answer that a configuration was taken
+  taken_or : (life : Life) (frames : List SentFrame) (last input : ℕ) (named : Bool) (item : Option SentItem) (taken here : Bool)
+      → (here ≡ true → KeepsItem life frames last input false item true) → KeepsItem life frames last input named item taken → KeepsItem life frames last input false item (here || taken)
+  taken_or life frames last input named item taken true new old = new refl
+  taken_or life frames last input named item taken false new old = record { taken_one = old.taken_one; sent_last = λ is. absurd (cc is) }
+
+  both_true : (a b : Bool) → (a && b) ≡ true → (a ≡ true) × (b ≡ true)
+  both_true true b is = (refl, is)
+  both_true false b is = absurd (cc is)
+
+  not_true : (b : Bool) → not (not b) ≡ true → b ≡ true
+  not_true true is = refl
+  not_true false is = absurd (cc is)
+
+  accepting : (life : Life) (command : Command) (answer : Answer) → Says life command answer → accepts_items answer ≡ true
+      → (items : ArrayVec InputItem) × (command ≡ commands.ConfigureInputs items) × (all_present items.items ≡ true)
+  accepting life (commands.ConfigureInputs items) answer says is =
+      let accepted : not (says_error (error_status (not (all_present items.items)))) ≡ true = sym (ap accepts_items says) ∙ is in
+      (items, refl, not_true (all_present items.items) (sym (ap not (error_back (not (all_present items.items)))) ∙ accepted))
+  accepting life (commands.Status clear) answer says is = absurd (cc (sym (ap accepts_items says) ∙ is))
+  accepting life (commands.LoadCounter load) answer says is = absurd (cc (sym (ap accepts_items says) ∙ is))
+  accepting life commands.RawInputs answer says is = absurd (cc (sym (ap accepts_items says.1) ∙ is))
+  accepting life commands.FilteredInputs answer says is = absurd (cc (sym (ap accepts_items says) ∙ is))
+  accepting life (commands.Watchdog timeout) answer says is = absurd (cc (sym (ap accepts_items says) ∙ is))
+  accepting life (commands.Poll number) answer says is = absurd says
+  accepting life (commands.SetOutputs levels controls) answer says is = absurd (cc (sym (ap accepts_items says.is) ∙ is))
+  accepting life commands.Identify answer says is = absurd (cc (sym (ap accepts_items says.is) ∙ is))
+  accepting life (commands.Other kind body) answer says is = absurd (cc (sym (ap accepts_items says.is) ∙ is))
+
+  pub item-heard : (from : Life) (machine : Machine) (facts : ContentFacts) (place : ℕ) (command : Command) (answer : Answer) (h : HearsAnswer settings from machine facts place command answer)
+      → (input : ℕ) → input < 64 → KeepsItem (life_of machine.history) machine.to_module machine.last_to_module input (facts.inputs input).named (facts.inputs input).item (facts.inputs input).taken
+      → KeepsItem (life_of machine.history) machine.to_module machine.last_to_module input false (facts.inputs input).item
+      ((accepts_items answer && (facts.inputs input).named) || (facts.inputs input).taken)
+  item-heard from machine facts place command answer h input low k =
+      taken_or (life_of machine.history) machine.to_module machine.last_to_module input (facts.inputs input).named (facts.inputs input).item (facts.inputs input).taken (accepts_items answer && (facts.inputs input).named)
+      (λ is.
+      (let parts = both_true (accepts_items answer) (facts.inputs input).named is in
+      let a = accepting h.life command answer (says_of settings from machine facts place command answer h) parts.0 in
+      let some : are_some (items_for input a.0.items) ≡ true =
+      ap (λ c. are_some (items_for input (items_sent c))) (sym a.1) ∙ sym (h.awaits.named input) ∙ parts.1 in
+      item-taken machine.to_module machine.last_to_module input (facts.inputs input).named (facts.inputs input).item (facts.inputs input).taken low h.life (life_of machine.history) a.0
+      (subst (IsSentLast machine.to_module) a.1 h.sent_last) h.received (subst (λ c. IsSince c h.life (life_of machine.history)) a.1 h.since) a.2 some parts.1 k)) k
+
+  heard_ignored : (facts : ContentFacts) (answer : Answer) → breaks_answer facts answer Ignored ≡ false
+  heard_ignored facts (answers.LoadCounter status) = refl
+  heard_ignored facts (answers.ConfigureInputs status) = refl
+  heard_ignored facts (answers.Status flags receive transmit stamp) = refl
+  heard_ignored facts (answers.Watchdog status) = refl
+  heard_ignored facts other = refl
+
+  ignored_is_invariant : IsInvariant settings first begin Ignored (Unit {0}) tt (λ state machine event. tt) (λ state machine later. Unit {0})
+      (λ state from machine facts. ShutHolds settings machine facts)
+  ignored_is_invariant = record {
+    goes_on = λ state machine event rest holds. tt;
+    begins = λ known input low. record {
+      item = record { taken_one = λ is. absurd (cc is); sent_last = λ is. absurd (cc is) };
+      shut = λ is. absurd (cc is);
+    };
+    happens = λ state from machine facts event rest known past holds p. both-happens machine facts event past p;
+    sends = λ state from machine facts event command known may within p. both-sends machine facts command within p;
+    receives = λ state from machine facts place frame known new at reads p. both-receives machine facts place frame known.is_kept new at p;
+    hears = λ state from machine facts place rest command answer known h holds p. (
+      heard_ignored facts answer,
+      λ input low. (let k = p input low in record { item = item-heard from machine facts place command answer h input low k.item; shut = k.shut }),
+    );
+    takes = λ state from machine facts place rest number answer block known t holds p.
+        walk Ignored settings (life_of machine.history) machine.round answer block (Both from machine place number answer block known t)
+        (ShutHolds settings (after_taken machine place answer)) (both_walk from machine place number answer block known t)
+        t.made t.carried facts (heard_ignored facts (block_answer answer)) (λ input low. (let k = p input low in
+        record { item = record { taken_one = k.item.taken_one; sent_last = λ is. absurd (cc is) }; shut = k.shut }));
+  }
+
+pub ignored_never_accuses : ContentNeverAccuses Ignored Always
+ignored_never_accuses = content_never_accuses Ignored (Unit {0}) tt (λ state machine event. tt) Always
+    (λ settings first begin state machine later. Unit {0}) (λ settings first begin state from machine facts. ShutHolds settings machine facts)
+    (λ settings first machine last later range k none leads premise. tt)
+    (λ settings first begin range. ignored_is_invariant settings range first begin)

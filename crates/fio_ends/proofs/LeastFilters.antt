@@ -1,0 +1,252 @@
+-- The least filters that can be in force for the changes of an input that are still to be recorded.
+use Rattle.fio_ends.proofs.Names.{◌≡◌, ◌∙◌, ◌+◌, ◌-◌, ◌<◌, ◌≤◌, ◌&&◌, ◌⊎◌, inl, inr, ℕ, Bool, true, false, List, [], ◌∷◌, ◌++◌, length, Option, Some, None, refl, ap, sym, subst, arith, append-nil, if◌then◌else◌, ◌==◌, slice_get, slice_get_within, AllByRecursion, nat_lt, nat_tests, same_Some, Command, command_in, InputItem, ArrayVec, Life, Occurrence, Scanned, LineSynced, Raised, Commanded, life_after_command, all_present, log_of, log_of-with_command, Transition, FilterPair, SentFrame, get_after_push, get_in_front}
+use Rattle.std.specs.Option.{option_or}
+use Rattle.std.proofs.lemmas.Bool.{cases_lt}
+use Rattle.fio_message.specs.declared.commands.Command.TheVariants as commands
+use Rattle.fio_input.specs.FilterHistory.{applied_items, last_item_of, setting_by}
+use Rattle.fio_input.specs.FilterRule.{Setting, filter_in_force}
+use Rattle.fio_module.specs.Log.{transitions_below}
+use Rattle.fio_module.proofs.ListParts.{get_in_back}
+use Rattle.fio_module.proofs.ScanTransitions.{IsOfScan, of_scan}
+use Rattle.fio_check.specs.ContentAbove.{least_of, lesser, one_sample}
+use Rattle.fio_check.specs.ContentSaid.{filters_of, items_for, items_sent}
+use Rattle.fio_ends.proofs.Following.{GoesOn, IsNoCommand, goes_on-more}
+use Rattle.fio_ends.proofs.Lives.{logged_since}
+use Rattle.fio_ends.proofs.Settled.{setting-since, setting_of}
+
+-- these filters are no more than those of a setting
+pub record AreNoMore (pair : FilterPair) (setting : Setting) : Type 0 where
+  pub leading : pair.leading ≤ filter_in_force setting.leading
+  pub trailing : pair.trailing ≤ filter_in_force setting.trailing
+
+-- nor than those of items
+abbrev pub AreBelowItems : FilterPair → List InputItem → Type 0
+AreBelowItems pair items =
+    AllByRecursion (λ item. (pair.leading ≤ filter_in_force item.leading) × (pair.trailing ≤ filter_in_force item.trailing)) items
+
+abbrev pub BelowCommand : FilterPair → ℕ → Option Command → Type 0
+BelowCommand pair input command = (items : ArrayVec InputItem) → command ≡ Some (commands.ConfigureInputs items) → AreBelowItems pair (items_for input items.items)
+
+-- a transition was logged where the filters were no less
+pub record IsLoggedWith (pair : FilterPair) (now : Life) (transition : Transition) : Type 0 where
+  pub raw : ℕ
+  pub life : Life
+  pub upto : GoesOn (Scanned raw ∷ life) now
+  pub of_scan : IsOfScan 64 raw life transition
+  pub filters : AreNoMore pair (setting_of transition.input life)
+
+-- so it is with the changes of an input that are still to be recorded
+pub record KeepsLeast (life : Life) (frames : List SentFrame) (last upto input : ℕ) (pair : FilterPair) : Type 0 where
+  pub now : AreNoMore pair (setting_of input life)
+  pub coming : (place : ℕ) (frame : SentFrame) → last ≤ place → slice_get frames place ≡ Some frame → BelowCommand pair input (command_in frame.octets)
+  pub logged : (k : ℕ) (transition : Transition) → upto ≤ k → slice_get (log_of life) k ≡ Some transition → transition.input ≡ input
+      → IsLoggedWith pair life transition
+
+-- ---- lesser filters
+
+-- one pair is no more than another
+record IsLower (lower pair : FilterPair) : Type 0 where
+  pub leading : lower.leading ≤ pair.leading
+  pub trailing : lower.trailing ≤ pair.trailing
+
+least-lower : (pair : FilterPair) (items : List InputItem) → IsLower (least_of pair items) pair
+least-lower pair [] = record { leading = omega arith; trailing = omega arith }
+least-lower pair (item ∷ items) =
+    let l = least-lower (lesser pair (filters_of item)) items in
+    record { leading = omega (arith, l.leading); trailing = omega (arith, l.trailing) }
+
+below-lower : (lower pair : FilterPair) (items : List InputItem) → IsLower lower pair → AreBelowItems pair items → AreBelowItems lower items
+below-lower lower pair [] l all = tt
+below-lower lower pair (item ∷ items) l all =
+    ((omega (arith, l.leading, all.0.0), omega (arith, l.trailing, all.0.1)), below-lower lower pair items l all.1)
+
+least-below : (pair : FilterPair) (items : List InputItem) → AreBelowItems (least_of pair items) items
+least-below pair [] = tt
+least-below pair (item ∷ items) =
+    let l = least-lower (lesser pair (filters_of item)) items in
+    ((omega (arith, l.leading), omega (arith, l.trailing)), least-below (lesser pair (filters_of item)) items)
+
+no_more-lower : (lower pair : FilterPair) (setting : Setting) → IsLower lower pair → AreNoMore pair setting → AreNoMore lower setting
+no_more-lower lower pair setting l a = record { leading = omega (arith, l.leading, a.leading); trailing = omega (arith, l.trailing, a.trailing) }
+
+with-lower : (lower pair : FilterPair) (now : Life) (transition : Transition) → IsLower lower pair → IsLoggedWith pair now transition → IsLoggedWith lower now transition
+with-lower lower pair now transition l w = record {
+  raw = w.raw;
+  life = w.life;
+  upto = w.upto;
+  of_scan = w.of_scan;
+  filters = no_more-lower lower pair (setting_of transition.input w.life) l w.filters;
+}
+
+with-more : (pair : FilterPair) (now : Life) (occurrence : Occurrence) (transition : Transition) → IsLoggedWith pair now transition → IsLoggedWith pair (occurrence ∷ now) transition
+with-more pair now occurrence transition w = record {
+  raw = w.raw;
+  life = w.life;
+  upto = goes_on-more (Scanned w.raw ∷ w.life) now occurrence w.upto;
+  of_scan = w.of_scan;
+  filters = w.filters;
+}
+
+-- ---- at first
+
+pub least-begins : (life : Life) (frames : List SentFrame) (last upto input : ℕ) → KeepsLeast life frames last upto input one_sample
+least-begins life frames last upto input = record {
+  now = record { leading = omega arith; trailing = omega arith };
+  coming = λ place frame low at items is. one_below (items_for input items.items);
+  logged = λ k transition low at of_input.
+      (let l = logged_since [] life k transition (record { more = life; is = sym (append-nil life) }) (omega arith) at in
+      record {
+        raw = l.raw;
+        life = l.life;
+        upto = l.upto;
+        of_scan = l.of_scan;
+        filters = record { leading = omega arith; trailing = omega arith };
+      });
+}
+  where
+    one_below : (items : List InputItem) → AreBelowItems one_sample items
+    one_below [] = tt
+    one_below (item ∷ items) = ((omega arith, omega arith), one_below items)
+
+-- ---- event by event
+
+module _ (frames : List SentFrame) (last upto input : ℕ) (pair : FilterPair) (low : input < 64) where
+  pub least-quiet : (life : Life) (occurrence : Occurrence) → IsNoCommand occurrence → KeepsLeast life frames last upto input pair
+      → KeepsLeast (occurrence ∷ life) frames last upto input pair
+  least-quiet life (Scanned raw) quiet p = record {
+    now = record { leading = p.now.leading; trailing = p.now.trailing };
+    coming = p.coming;
+    logged = λ k transition high at of_input.
+        (let log = log_of life in
+        elim (cases_lt k (length log)) as (λ _. IsLoggedWith pair (Scanned raw ∷ life) transition) [
+          | inl old ↦ with-more pair life (Scanned raw) transition (p.logged k transition high (get_in_front log (transitions_below 64 raw life) k transition old at) of_input)
+          | inr new ↦
+              record {
+                raw = raw;
+                life = life;
+                upto = record { more = []; is = refl };
+                of_scan = of_scan 64 raw life (k - length log) transition (get_in_back log (transitions_below 64 raw life) k transition new at);
+                filters = subst (λ i. AreNoMore pair (setting_of i life)) (sym of_input) p.now;
+              }
+        ]);
+  }
+  least-quiet life LineSynced quiet p = record {
+    now = record { leading = p.now.leading; trailing = p.now.trailing };
+    coming = p.coming;
+    logged = λ k transition high at of_input. with-more pair life LineSynced transition (p.logged k transition high at of_input);
+  }
+  least-quiet life (Raised mask) quiet p = record {
+    now = record { leading = p.now.leading; trailing = p.now.trailing };
+    coming = p.coming;
+    logged = λ k transition high at of_input. with-more pair life (Raised mask) transition (p.logged k transition high at of_input);
+  }
+  least-quiet life (Commanded command) quiet p = absurd quiet
+
+  -- a command is sent
+  pub least-sent : (life : Life) (f : SentFrame) (command : Command) → command_in f.octets ≡ Some command → KeepsLeast life frames last upto input pair
+      → KeepsLeast life (frames ++ f ∷ []) last upto input (least_of pair (items_for input (items_sent command)))
+  least-sent life f command reads p =
+      let items = items_for input (items_sent command) in
+      let l = least-lower pair items in
+      record {
+        now = no_more-lower (least_of pair items) pair (setting_of input life) l p.now;
+        coming = λ place frame high at.
+            elim (get_after_push frames f place frame at) as (λ _. BelowCommand (least_of pair items) input (command_in frame.octets)) [
+              | inl old ↦ (λ sent is. below-lower (least_of pair items) pair (items_for input sent.items) l (p.coming place frame high old sent is))
+              | inr new ↦ subst (λ (f : SentFrame). BelowCommand (least_of pair items) input (command_in f.octets)) (sym new.1) this
+            ];
+        logged = λ k transition high at of_input. with-lower (least_of pair items) pair life transition l (p.logged k transition high at of_input);
+      }
+    where
+      this : BelowCommand (least_of pair (items_for input (items_sent command))) input (command_in f.octets)
+      this sent spells =
+          let same : command ≡ commands.ConfigureInputs sent = same_Some _ _ (sym reads ∙ spells) in
+          subst (λ c. AreBelowItems (least_of pair (items_for input (items_sent command))) (items_for input (items_sent c))) same (least-below pair (items_for input (items_sent command)))
+
+  -- the module receives a command
+  by_item : (item : InputItem) (items : List InputItem) (named : Bool)
+      → AreBelowItems pair (if named && nat_lt input 64 then item ∷ items_for input items else items_for input items)
+      → AreBelowItems pair (items_for input items) × (named ≡ true → (pair.leading ≤ filter_in_force item.leading) × (pair.trailing ≤ filter_in_force item.trailing))
+  by_item item items true all =
+      let there : nat_lt input 64 ≡ true = grind (arith, nat_tests) in
+      let both = subst (λ b. AreBelowItems pair (if b then item ∷ items_for input items else items_for input items)) there all in
+      (both.1, λ is. both.0)
+  by_item item items false all = (all, λ is. absurd (cc is))
+
+  last_or : (found : Option InputItem) (item latest : InputItem) (named : Bool) → option_or found (if named then Some item else None) ≡ Some latest
+      → (found ≡ Some latest) ⊎ ((named ≡ true) × (item ≡ latest))
+  last_or (Some other) item latest named is = inl is
+  last_or None item latest true is = inr (refl, same_Some _ _ is)
+  last_or None item latest false is = absurd (cc is)
+
+  last_below : (items : List InputItem) (latest : InputItem) → last_item_of input items ≡ Some latest → AreBelowItems pair (items_for input items)
+      → (pair.leading ≤ filter_in_force latest.leading) × (pair.trailing ≤ filter_in_force latest.trailing)
+  last_below [] latest is all = absurd (cc is)
+  last_below (item ∷ items) latest is all =
+      let kept = by_item item items (item.input == input) all in
+      elim (last_or (last_item_of input items) item latest (item.input == input) is) as
+      (λ _. (pair.leading ≤ filter_in_force latest.leading) × (pair.trailing ≤ filter_in_force latest.trailing)) [
+        | inl later ↦ last_below items latest later kept.0
+        | inr here ↦
+            subst (λ (i : InputItem). (pair.leading ≤ filter_in_force i.leading) × (pair.trailing ≤ filter_in_force i.trailing)) here.1 (kept.1 here.0)
+      ]
+
+  set_below : (applied : Bool) (items : List InputItem) (found : Option InputItem) (setting : Setting) → AreBelowItems pair (items_for input items)
+      → AreNoMore pair setting → last_item_of input (if applied then items else []) ≡ found → AreNoMore pair (setting_by found setting)
+  set_below applied items None setting all a is = a
+  set_below true items (Some item) setting all a is = (let b = last_below items item is all in record { leading = b.0; trailing = b.1 })
+  set_below false items (Some item) setting all a is = absurd (cc is)
+
+  now-command : (life : Life) (command : Option Command) → BelowCommand pair input command → AreNoMore pair (setting_of input life)
+      → AreNoMore pair (setting_of input (life_after_command command life))
+  now-command life None below a = a
+  now-command life (Some (commands.ConfigureInputs items)) below a =
+      set_below (all_present items.items) items.items (last_item_of input (applied_items items.items)) (setting_of input life) (below items refl) a refl
+  now-command life (Some other) below a = record { leading = a.leading; trailing = a.trailing }
+
+  with-command : (life : Life) (command : Option Command) (transition : Transition) → IsLoggedWith pair life transition → IsLoggedWith pair (life_after_command command life) transition
+  with-command life None transition w = w
+  with-command life (Some command) transition w = with-more pair life (Commanded command) transition w
+
+  pub least-received : (life : Life) (place : ℕ) (frame : SentFrame) → last ≤ place → slice_get frames place ≡ Some frame → KeepsLeast life frames last upto input pair
+      → KeepsLeast (life_after_command (command_in frame.octets) life) frames (place + 1) upto input pair
+  least-received life place frame new at p = record {
+    now = now-command life (command_in frame.octets) (p.coming place frame new at) p.now;
+    coming = λ later f high there. p.coming later f (omega arith) there;
+    logged = λ k transition high there of_input.
+        with-command life (command_in frame.octets) transition
+        (p.logged k transition high (ap (λ log. slice_get log k) (sym (log_of-with_command (command_in frame.octets) life)) ∙ there) of_input);
+  }
+
+  -- more is recorded
+  pub least-further : (life : Life) (further : ℕ) → upto ≤ further → KeepsLeast life frames last upto input pair → KeepsLeast life frames last further input pair
+  least-further life further le p = record {
+    now = p.now;
+    coming = p.coming;
+    logged = λ k transition high at of_input. p.logged k transition (omega arith) at of_input;
+  }
+
+-- ---- where an item was settled, and all of the log at a command is recorded
+
+module _ (input : ℕ) (pair : FilterPair) (life : Life) (filters : AreNoMore pair (setting_of input life)) where
+  pub logged_quietly : (more : List Occurrence) → AllByRecursion IsNoCommand more → (k : ℕ) (transition : Transition) → length (log_of life) ≤ k
+      → slice_get (log_of (more ++ life)) k ≡ Some transition → transition.input ≡ input → IsLoggedWith pair (more ++ life) transition
+  logged_quietly [] quiet k transition low at of_input = absurd (omega (arith, low, slice_get_within (log_of life) k transition at))
+  logged_quietly (Scanned raw ∷ more) quiet k transition low at of_input =
+      let before = more ++ life in
+      let log = log_of before in
+      elim (cases_lt k (length log)) as (λ _. IsLoggedWith pair (Scanned raw ∷ before) transition) [
+        | inl old ↦ with-more pair before (Scanned raw) transition (logged_quietly more quiet.1 k transition low (get_in_front log (transitions_below 64 raw before) k transition old at) of_input)
+        | inr new ↦
+            record {
+              raw = raw;
+              life = before;
+              upto = record { more = []; is = refl };
+              of_scan = of_scan 64 raw before (k - length log) transition (get_in_back log (transitions_below 64 raw before) k transition new at);
+              filters = subst (λ i. AreNoMore pair (setting_of i before)) (sym of_input)
+                  (subst (AreNoMore pair) (sym (setting-since more life input quiet.1)) filters);
+            }
+      ]
+  logged_quietly (LineSynced ∷ more) quiet k transition low at of_input = with-more pair (more ++ life) LineSynced transition (logged_quietly more quiet.1 k transition low at of_input)
+  logged_quietly (Raised mask ∷ more) quiet k transition low at of_input = with-more pair (more ++ life) (Raised mask) transition (logged_quietly more quiet.1 k transition low at of_input)
+  logged_quietly (Commanded command ∷ more) quiet k transition low at of_input = absurd quiet.0

@@ -1,0 +1,194 @@
+-- An item of an input that was taken is the one that the module has.
+use Rattle.fio_ends.proofs.Names.{◌≡◌, ◌∙◌, ◌+◌, ◌<◌, ◌≤◌, ◌&&◌, inl, inr, ℕ, Bool, true, false, not, List, [], ◌∷◌, ◌++◌, length, Option, Some, None, refl, ap, sym, subst, arith, if◌then◌else◌, ◌==◌, option_map, slice_get, slice_get_within, AllByRecursion, nat_lt, nat_tests, same_Some, Command, command_in, InputItem, ArrayVec, Life, Occurrence, Scanned, LineSynced, Raised, Commanded, life_after_command, filter_events, all_present, input_setting, SentFrame, get_after_push}
+use Rattle.std.specs.Option.{option_or}
+use Rattle.fio_message.specs.declared.commands.Command.TheVariants as commands
+use Rattle.fio_input.specs.FilterHistory.{last_item_of, setting_by}
+use Rattle.fio_input.specs.FilterRule.{Setting, filter_in_force}
+use Rattle.fio_check.specs.ContentSaid.{SentItem, are_some, item_kept, items_for, items_sent, last_item}
+use Rattle.fio_ends.proofs.ContentFrame.{last_of}
+use Rattle.fio_ends.proofs.Following.{IsNoCommand, IsSentLast, IsSince}
+
+-- the setting of an input after a life
+abbrev pub setting_of : ℕ → Life → Setting
+setting_of input life = input_setting input (filter_events life)
+
+-- it is that of an item
+pub record HasItem (life : Life) (input : ℕ) (item : SentItem) : Type 0 where
+  pub ignore : (setting_of input life).ignore ≡ item.ignore
+  pub leading : filter_in_force (setting_of input life).leading ≡ item.filters.leading
+  pub trailing : filter_in_force (setting_of input life).trailing ≡ item.filters.trailing
+
+-- this command has no item of an input
+abbrev pub NamesNot : ℕ → Option Command → Type 0
+NamesNot input command = (items : ArrayVec InputItem) → command ≡ Some (commands.ConfigureInputs items) → are_some (items_for input items.items) ≡ false
+
+-- nor has a frame that is still to be received
+abbrev pub NoneNames : List SentFrame → ℕ → ℕ → Type 0
+NoneNames frames last input =
+    (place : ℕ) (frame : SentFrame) → last ≤ place → slice_get frames place ≡ Some frame → NamesNot input (command_in frame.octets)
+
+-- what is known of the items of an input
+pub record KeepsItem (life : Life) (frames : List SentFrame) (last input : ℕ) (named : Bool) (item : Option SentItem) (taken : Bool) : Type 0 where
+  pub taken_one : taken ≡ true → (kept : SentItem) → item ≡ Some kept → NoneNames frames last input × HasItem life input kept
+  pub sent_last : named ≡ true → (items : ArrayVec InputItem) → IsSentLast frames (commands.ConfigureInputs items) → are_some (items_for input items.items) ≡ true
+      → item ≡ last_item None (items_for input items.items)
+
+-- ---- items
+
+last-some : (before : Option SentItem) (items : List InputItem) → are_some items ≡ true → last_item before items ≡ last_item None items
+last-some before [] is = absurd (cc is)
+last-some before (item ∷ items) is = refl
+
+-- the last of the items of an input, by the whole list
+module _ (input : ℕ) (low : input < 64) where
+  by_item : (before : Option SentItem) (item : InputItem) (items : List InputItem) (found : Option InputItem) (named : Bool)
+      → last_item (if named then Some (item_kept item) else before) (items_for input items) ≡ option_or (option_map item_kept found) (if named then Some (item_kept item) else before)
+      → last_item before (if named && nat_lt input 64 then item ∷ items_for input items else items_for input items)
+      ≡ option_or (option_map item_kept (option_or found (if named then Some item else None))) before
+  by_item before item items found true rest =
+      let there : nat_lt input 64 ≡ true = grind (arith, nat_tests) in
+      ap (λ b. last_item before (if b then item ∷ items_for input items else items_for input items)) there ∙ rest ∙ by found
+    where
+      by : (found : Option InputItem) → option_or (option_map item_kept found) (Some (item_kept item)) ≡ option_or (option_map item_kept (option_or found (Some item))) before
+      by None = refl
+      by (Some other) = refl
+  by_item before item items found false rest = rest ∙ by found
+    where
+      by : (found : Option InputItem) → option_or (option_map item_kept found) before ≡ option_or (option_map item_kept (option_or found None)) before
+      by None = refl
+      by (Some other) = refl
+
+  last_is : (before : Option SentItem) (items : List InputItem) → last_item before (items_for input items) ≡ option_or (option_map item_kept (last_item_of input items)) before
+  last_is before [] = refl
+  last_is before (item ∷ items) =
+      by_item before item items (last_item_of input items) (item.input == input)
+      (last_is (if item.input == input then Some (item_kept item) else before) items)
+
+  -- no item of it
+  none_by : (item : InputItem) (items : List InputItem) (named : Bool) → are_some (if named && nat_lt input 64 then item ∷ items_for input items else items_for input items) ≡ false
+      → (named ≡ false) × (are_some (items_for input items) ≡ false)
+  none_by item items true none =
+      let there : nat_lt input 64 ≡ true = grind (arith, nat_tests) in
+      absurd (cc (sym (ap (λ b. are_some (if b then item ∷ items_for input items else items_for input items)) there) ∙ none))
+  none_by item items false none = (refl, none)
+
+  pub none_last : (items : List InputItem) → are_some (items_for input items) ≡ false → last_item_of input items ≡ None
+  none_last [] none = refl
+  none_last (item ∷ items) none =
+      let n = none_by item items (item.input == input) none in
+      ap (λ found. option_or found (if item.input == input then Some item else None)) (none_last items n.1)
+      ∙ ap (λ (b : Bool). if b then Some item else None) n.0
+
+  none_applied : (applied : Bool) (items : List InputItem) → are_some (items_for input items) ≡ false → last_item_of input (if applied then items else []) ≡ None
+  none_applied true items none = none_last items none
+  none_applied false items none = refl
+
+  -- so a command that has none leaves the setting
+  pub setting-command : (life : Life) (command : Option Command) → NamesNot input command → setting_of input (life_after_command command life) ≡ setting_of input life
+  setting-command life None none = refl
+  setting-command life (Some (commands.ConfigureInputs items)) none =
+      ap (λ found. setting_by found (setting_of input life)) (none_applied (all_present items.items) items.items (none items refl))
+  setting-command life (Some other) none = refl
+
+  -- a configuration that is applied sets the last item of it
+  set-item : (items : ArrayVec InputItem) (life : Life) (found : Option InputItem) (kept : SentItem) → all_present items.items ≡ true
+      → last_item_of input items.items ≡ found → option_or (option_map item_kept found) None ≡ Some kept
+      → HasItem (Commanded (commands.ConfigureInputs items) ∷ life) input kept
+  set-item items life None kept present is at = absurd (cc at)
+  set-item items life (Some item) kept present is at =
+      let set : setting_of input (Commanded (commands.ConfigureInputs items) ∷ life) ≡ (record { ignore = item.ignore; leading = item.leading; trailing = item.trailing }) =
+      ap (λ (p : Bool). setting_by (last_item_of input (if p then items.items else [])) (setting_of input life)) present
+      ∙ ap (λ found. setting_by found (setting_of input life)) is in
+      let same : item_kept item ≡ kept = same_Some _ _ at in
+      subst (HasItem (Commanded (commands.ConfigureInputs items) ∷ life) input) same
+      (record {
+        ignore = ap (λ (s : Setting). s.ignore) set;
+        leading = ap (λ (s : Setting). filter_in_force s.leading) set;
+        trailing = ap (λ (s : Setting). filter_in_force s.trailing) set;
+      })
+
+-- ---- the setting stays
+
+has-same : (life later : Life) (input : ℕ) (item : SentItem) → setting_of input later ≡ setting_of input life → HasItem life input item → HasItem later input item
+has-same life later input item same h = record {
+  ignore = ap (λ (s : Setting). s.ignore) same ∙ h.ignore;
+  leading = ap (λ (s : Setting). filter_in_force s.leading) same ∙ h.leading;
+  trailing = ap (λ (s : Setting). filter_in_force s.trailing) same ∙ h.trailing;
+}
+
+pub setting-quiet : (occurrence : Occurrence) (life : Life) (input : ℕ) → IsNoCommand occurrence → setting_of input (occurrence ∷ life) ≡ setting_of input life
+setting-quiet (Scanned raw) life input quiet = refl
+setting-quiet LineSynced life input quiet = refl
+setting-quiet (Raised mask) life input quiet = refl
+setting-quiet (Commanded command) life input quiet = absurd quiet
+
+pub setting-since : (more life : List Occurrence) (input : ℕ) → AllByRecursion IsNoCommand more → setting_of input (more ++ life) ≡ setting_of input life
+setting-since [] life input quiet = refl
+setting-since (occurrence ∷ more) life input quiet = setting-quiet occurrence (more ++ life) input quiet.0 ∙ setting-since more life input quiet.1
+
+-- ---- event by event
+
+module _ (frames : List SentFrame) (last input : ℕ) (named : Bool) (item : Option SentItem) (taken : Bool) (low : input < 64) where
+  pub item-quiet : (life : Life) (occurrence : Occurrence) → IsNoCommand occurrence → KeepsItem life frames last input named item taken → KeepsItem (occurrence ∷ life) frames last input named item taken
+  item-quiet life occurrence quiet k = record {
+    taken_one = λ is kept at. (let t = k.taken_one is kept at in (t.0, has-same life (occurrence ∷ life) input kept (setting-quiet occurrence life input quiet) t.1));
+    sent_last = k.sent_last;
+  }
+
+  pub item-received : (life : Life) (place : ℕ) (frame : SentFrame) → last ≤ place → slice_get frames place ≡ Some frame → KeepsItem life frames last input named item taken
+      → KeepsItem (life_after_command (command_in frame.octets) life) frames (place + 1) input named item taken
+  item-received life place frame new at k = record {
+    taken_one = λ is kept there.
+        (let t = k.taken_one is kept there in (
+          λ later f high found. t.0 later f (omega arith) found,
+          has-same life (life_after_command (command_in frame.octets) life) input kept (setting-command input low life (command_in frame.octets) (t.0 place frame new at)) t.1,
+        ));
+    sent_last = k.sent_last;
+  }
+
+  pub item-sent : (life : Life) (f : SentFrame) (command : Command) → command_in f.octets ≡ Some command → (here now : Bool) → are_some (items_for input (items_sent command)) ≡ here
+      → KeepsItem life frames last input named item taken
+      → KeepsItem life (frames ++ f ∷ []) last input now (last_item item (items_for input (items_sent command))) (not here && taken)
+  item-sent life f command reads here now said k = record {
+    taken_one = λ is kept at. by here said is kept at;
+    sent_last = λ is items sent some.
+        (let same : command ≡ commands.ConfigureInputs items = same_Some _ _ (sym reads ∙ last_of frames f (commands.ConfigureInputs items) sent) in
+        ap (λ c. last_item item (items_for input (items_sent c))) same ∙ last-some item (items_for input items.items) some);
+  }
+    where
+      none_here : are_some (items_for input (items_sent command)) ≡ false → NamesNot input (command_in f.octets)
+      none_here none items spells =
+          let same : command ≡ commands.ConfigureInputs items = same_Some _ _ (sym reads ∙ spells) in
+          ap (λ c. are_some (items_for input (items_sent c))) (sym same) ∙ none
+
+      no_items : (items : List InputItem) → are_some items ≡ false → last_item item items ≡ item
+      no_items [] none = refl
+      no_items (first ∷ items) none = absurd (cc none)
+
+      by : (here : Bool) → are_some (items_for input (items_sent command)) ≡ here → (not here && taken) ≡ true → (kept : SentItem)
+          → last_item item (items_for input (items_sent command)) ≡ Some kept → NoneNames (frames ++ f ∷ []) last input × HasItem life input kept
+      by true said is kept at = absurd (cc is)
+      by false said is kept at =
+          let t = k.taken_one is kept (sym (no_items (items_for input (items_sent command)) said) ∙ at) in (
+            λ place frame low there.
+                elim (get_after_push frames f place frame there) as (λ _. NamesNot input (command_in frame.octets)) [
+                  | inl old ↦ t.0 place frame low old
+                  | inr new ↦ subst (λ (f : SentFrame). NamesNot input (command_in f.octets)) (sym new.1) (none_here said)
+                ],
+            t.1,
+          )
+
+  -- the answer is heard that the configuration was taken
+  pub item-taken : (life now : Life) (items : ArrayVec InputItem) → IsSentLast frames (commands.ConfigureInputs items) → last ≡ length frames
+      → IsSince (commands.ConfigureInputs items) life now → all_present items.items ≡ true
+      → are_some (items_for input items.items) ≡ true → named ≡ true → KeepsItem now frames last input named item taken → KeepsItem now frames last input false item true
+  item-taken life now items sent all since present some is_named k = record {
+    taken_one = λ is kept at. (
+      λ place frame high there. absurd (omega (arith, all, slice_get_within frames place frame there)),
+      has-same (Commanded (commands.ConfigureInputs items) ∷ life) now input kept
+          (ap (setting_of input) since.is ∙ setting-since since.more (Commanded (commands.ConfigureInputs items) ∷ life) input since.none)
+          (set-item input low items life (last_item_of input items.items) kept present refl
+          (sym (last_is input low None items.items) ∙ sym (k.sent_last is_named items sent some) ∙ at)),
+    );
+    sent_last = λ is. absurd (cc is);
+  }

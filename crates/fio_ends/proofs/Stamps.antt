@@ -1,0 +1,115 @@
+-- The stamps that the CPU hears, and the scans when the module received their commands.
+use Rattle.fio_ends.proofs.Names.{◌≡◌, ◌∙◌, ◌≤◌, ◌&&◌, ℕ, Bool, true, false, not, List, [], ◌∷◌, ◌++◌, length, Option, Some, None, refl, ap, sym, subst, arith, if◌then◌else◌, AllByRecursion, is_some_and, same_Some, length-append, Answer, Command, Block, LoadCounter, answered_block, says_again, Settings, Life, Occurrence, Commanded, life_of, scans_of, ContentFacts, Clock, Event, Machine}
+use Rattle.std.specs.Prelude.{option_and_then}
+use Rattle.fio_message.specs.Blocks.{block_answer}
+use Rattle.fio_message.specs.declared.answers.Answer.TheVariants as answers
+use Rattle.fio_message.specs.declared.commands.Command.TheVariants as commands
+use Rattle.fio_module.specs.Life.{counter_of}
+use Rattle.fio_check.specs.ContentSaid.{is_before, stamp_of}
+use Rattle.fio_check.specs.ContentRules.{breaks_answer}
+use Rattle.fio_ends.specs.ContentPremises.{NoLoadTakesEffect, StampsAreNear, scans_asked, scans_stamped}
+use Rattle.fio_ends.proofs.Answered.{Says}
+use Rattle.fio_ends.proofs.Clocks.{clock, offset_of}
+use Rattle.fio_ends.proofs.Following.{GoesOn, IsNoCommand, IsSince}
+use Rattle.fio_ends.proofs.Steady.{IsSteady, loaded_after}
+
+-- ---- the command that is answered
+
+pub length-more : (more life : List Occurrence) → length life ≤ length (more ++ life)
+length-more more life = omega (arith, length-append more life)
+
+-- after the life itself no command came
+pub none_since : (command : Command) (from life : Life) → IsSince command life from → GoesOn from life → ⊥
+none_since command from life s g =
+    let shorter = ap length s.is ∙ length-append s.more (Commanded command ∷ life) in
+    let longer = ap length g.is ∙ length-append g.more from in
+    absurd (omega arith)
+
+-- what happens since a command is no command
+pub since-back : (command : Command) (life now : Life) (occurrence : Occurrence) → IsNoCommand occurrence → IsSince command life (occurrence ∷ now)
+    → IsSince command life now
+since-back command life now occurrence quiet s = by s.more s.is s.none
+  where
+    by : (more : List Occurrence) → occurrence ∷ now ≡ more ++ (Commanded command ∷ life) → AllByRecursion IsNoCommand more → IsSince command life now
+    by [] is none = (let same : occurrence ≡ Commanded command = cc is in absurd (subst IsNoCommand same quiet))
+    by (first ∷ more) is none = (let rest : now ≡ more ++ (Commanded command ∷ life) = cc is in record { more = more; is = rest; none = none.1 })
+
+-- since a command that came last there is no other
+pub since-now : (command other : Command) (life now : Life) → IsSince command life (Commanded other ∷ now) → life ≡ now
+since-now command other life now s = by s.more s.is s.none
+  where
+    by : (more : List Occurrence) → Commanded other ∷ now ≡ more ++ (Commanded command ∷ life) → AllByRecursion IsNoCommand more → life ≡ now
+    by [] is none = cc is
+    by (first ∷ more) is none = (let same : Commanded other ≡ first = cc is in absurd (subst IsNoCommand (sym same) none.0))
+
+-- ---- what is kept
+
+-- what the rule reads of the events above: whether a load was sent, the scans at which the command sent last was received, and
+-- those of the latest stamp
+pub record ClockState : Type 0 where
+  pub loaded : Bool
+  pub asked : ℕ
+  pub before : Option ℕ
+
+abbrev pub clock_after : ClockState → Machine → Event → ClockState
+clock_after state machine event = record {
+  loaded = loaded_after state.loaded machine event;
+  asked = scans_asked machine state.asked event;
+  before = scans_stamped machine state.asked state.before event;
+}
+
+-- the latest stamp
+pub record IsStamped (offset : ℕ) (from : Life) (before : Option ℕ) (stamp : ℕ) : Type 0 where
+  pub scans : ℕ
+  pub before_is : before ≡ Some scans
+  pub time : stamp ≡ clock offset scans
+  pub within : scans ≤ scans_of from
+
+pub record KeepsClock (begin : Life) (state : ClockState) (from : Life) (machine : Machine) (facts : ContentFacts) : Type 0 where
+  pub loaded_is : facts.loaded ≡ state.loaded
+  pub steady : IsSteady state.loaded begin (life_of machine.history)
+  pub stamped : state.loaded ≡ false → (stamp : ℕ) → facts.clock ≡ Some stamp → IsStamped (offset_of begin) from state.before stamp
+  pub received : machine.last_to_module ≡ length machine.to_module → (command : Command) (life : Life) → IsSince command life (life_of machine.history)
+      → GoesOn from life → state.asked ≡ scans_of life
+
+-- what is asked of the rest of a log
+pub record AsksClock (settings : Settings) (first : ℕ) (state : ClockState) (machine : Machine) (later : List Event) : Type 0 where
+  pub no_load : state.loaded ≡ false → NoLoadTakesEffect settings first machine later
+  pub near : StampsAreNear settings first machine state.asked state.before later
+
+-- ---- an answer
+
+pub clock_is : (facts : ContentFacts) (answer : Answer)
+    → breaks_answer facts answer Clock ≡ (not facts.loaded && is_some_and (stamp_of answer) (λ stamp. is_some_and facts.clock (is_before stamp)))
+clock_is facts (answers.Status flags receive transmit stamp) = refl
+clock_is facts (answers.LoadCounter status) = refl
+clock_is facts (answers.ConfigureInputs status) = refl
+clock_is facts (answers.Watchdog status) = refl
+clock_is facts other = refl
+
+pub none_before : (loaded : Bool) (stamp above : Option ℕ)
+    → (loaded ≡ false → (s c : ℕ) → stamp ≡ Some s → above ≡ Some c → is_before s c ≡ false)
+    → (not loaded && is_some_and stamp (λ s. is_some_and above (is_before s))) ≡ false
+none_before true stamp above kept = refl
+none_before false None above kept = refl
+none_before false (Some s) None kept = refl
+none_before false (Some s) (Some c) kept = kept refl s c refl refl
+
+-- the stamp of an answer is the counter after the life
+pub stamp_says : (life : Life) (command : Command) (answer : Answer) → Says life command answer → (stamp : ℕ) → stamp_of answer ≡ Some stamp → stamp ≡ counter_of life
+stamp_says life (commands.Status clear) answer says stamp is = sym (same_Some _ _ (sym (ap stamp_of says) ∙ is))
+stamp_says life (commands.LoadCounter load) answer says stamp is = absurd (cc (sym (ap stamp_of says) ∙ is))
+stamp_says life (commands.ConfigureInputs items) answer says stamp is = absurd (cc (sym (ap stamp_of says) ∙ is))
+stamp_says life commands.RawInputs answer says stamp is = sym (same_Some _ _ (sym (ap stamp_of says.1) ∙ is))
+stamp_says life commands.FilteredInputs answer says stamp is = sym (same_Some _ _ (sym (ap stamp_of says) ∙ is))
+stamp_says life (commands.Watchdog timeout) answer says stamp is = absurd (cc (sym (ap stamp_of says) ∙ is))
+stamp_says life (commands.Poll number) answer says stamp is = absurd says
+stamp_says life (commands.SetOutputs levels controls) answer says stamp is = absurd (cc (sym (ap stamp_of says.is) ∙ is))
+stamp_says life commands.Identify answer says stamp is = absurd (cc (sym (ap stamp_of says.is) ∙ is))
+stamp_says life (commands.Other kind body) answer says stamp is = absurd (cc (sym (ap stamp_of says.is) ∙ is))
+
+-- of the block that a frame has
+pub block_stamp : (found : Option Answer) (block : Block) → answered_block found ≡ Some block → option_and_then stamp_of found ≡ stamp_of (block_answer block)
+block_stamp None block is = absurd (cc is)
+block_stamp (Some (answers.Block number entries status stamp)) block is = ap (λ (b : Block). if says_again b.status then None else Some b.stamp) (same_Some _ _ is)
+block_stamp (Some other) block is = absurd (cc is)

@@ -1,0 +1,95 @@
+-- What the rule `state` asks for, by the inputs that are watched and by times.
+use Rattle.fio_ends.proofs.Names.{◌≡◌, ◌∙◌, ◌+◌, ◌-◌, ◌%◌, ◌^◌, ◌<◌, ◌≤◌, ◌&&◌, inl, inr, ℕ, zero, suc, Bool, true, false, not, Option, Some, None, refl, ap, arith, ◌==◌, nat_le, nat_tests, eqb_tells, beq, is_some_and, Life, filter_events, ContentFacts, ContentEvent}
+use Rattle.fio_message.specs.Bits.{bit_of, is_set}
+use Rattle.fio_input.specs.FilterHistory.{input_state}
+use Rattle.fio_module.proofs.Words.{bit_at-word_of}
+use Rattle.fio_check.specs.ContentSaid.{Seen, comes_to, is_before, is_later}
+use Rattle.fio_check.specs.ContentRules.{differing, first_differing, state_breach}
+use Rattle.fio_check.specs.Places.{earliest_above}
+use Rattle.fio_ends.proofs.Answered.{states_of}
+use Rattle.fio_ends.proofs.Clocks.{clock}
+use Rattle.fio_ends.proofs.Watching.{state_of}
+
+-- ---- times
+
+-- a time that is not later
+pub not_later : (offset earlier later : ℕ) → earlier ≤ later → later < earlier + 2 ^ 31 → is_later (clock offset earlier) (clock offset later) ≡ false
+not_later offset earlier later low near =
+    elim (eqb_tells (clock offset earlier) (clock offset later)) as (λ _. is_later (clock offset earlier) (clock offset later) ≡ false) [
+      | inl same ↦ ap (λ b. not b && not (is_before (clock offset earlier) (clock offset later))) same.0
+      | inr apart ↦
+          let before : is_before (clock offset earlier) (clock offset later) ≡ true = half offset earlier later low near apart.1 in
+          by (clock offset earlier == clock offset later) (is_before (clock offset earlier) (clock offset later)) before
+    ]
+  where
+    by : (same before : Bool) → before ≡ true → (not same && not before) ≡ false
+    by true before is = refl
+    by false before is = ap not is
+
+    half : (offset earlier later : ℕ) → earlier ≤ later → later < earlier + 2 ^ 31 → (clock offset earlier ≡ clock offset later → ⊥) → is_before (clock offset earlier) (clock offset later) ≡ true
+    half offset earlier later low near apart = at-least _ (around ((offset + earlier) % 2 ^ 32) ((offset + later) % 2 ^ 32) (later - earlier) (ahead offset earlier later low) (omega arith) apart (omega arith) (omega arith))
+      where
+        ahead : (offset earlier later : ℕ) → earlier ≤ later → (offset + later) % 2 ^ 32 ≡ ((offset + earlier) % 2 ^ 32 + (later - earlier)) % 2 ^ 32
+        ahead offset earlier later low = omega arith
+
+        around : (a b d : ℕ) → b ≡ (a + d) % 2 ^ 32 → d < 2 ^ 31 → (a ≡ b → ⊥) → a < 2 ^ 32 → b < 2 ^ 32 → 2 ^ 31 ≤ (a + 2 ^ 32 - b) % 2 ^ 32
+        around a b d is near apart one two = omega arith
+
+        at-least : (n : ℕ) → 2 ^ 31 ≤ n → nat_le (2 ^ 31) n ≡ true
+        at-least n more = grind (arith, nat_tests)
+
+-- a time that is before
+pub before_clock : (offset earlier later : ℕ) → earlier < later → later < earlier + 2 ^ 31 → is_before (clock offset earlier) (clock offset later) ≡ true
+before_clock offset earlier later less near = at-least _ (around ((offset + earlier) % 2 ^ 32) ((offset + later) % 2 ^ 32) (later - earlier) (ahead offset earlier later less) (omega arith) (omega arith) (omega arith) (omega arith))
+  where
+    ahead : (offset earlier later : ℕ) → earlier < later → (offset + later) % 2 ^ 32 ≡ ((offset + earlier) % 2 ^ 32 + (later - earlier)) % 2 ^ 32
+    ahead offset earlier later low = omega arith
+
+    around : (a b d : ℕ) → b ≡ (a + d) % 2 ^ 32 → 0 < d → d < 2 ^ 31 → a < 2 ^ 32 → b < 2 ^ 32 → 2 ^ 31 ≤ (a + 2 ^ 32 - b) % 2 ^ 32
+    around a b d is some near one two = omega arith
+
+    at-least : (n : ℕ) → 2 ^ 31 ≤ n → nat_le (2 ^ 31) n ≡ true
+    at-least n more = grind (arith, nat_tests)
+
+-- ---- the rule
+
+-- a bit of the states is the state of its input
+pub states_bit : (life : Life) (input : ℕ) → input < 64 → is_set (states_of life) input ≡ state_of input life
+unfolding is_set
+states_bit life input low = ap (λ b. b == 1) (bit_at-word_of 64 (λ i. input_state i (filter_events life)) input low) ∙ by (state_of input life)
+  where
+    by : (b : Bool) → (bit_of b == 1) ≡ b
+    by true = refl
+    by false = refl
+
+-- states that no watched input differs from
+pub none_differs : (facts : ContentFacts) (seen : Seen) → ((input : ℕ) (level : Bool) → input < 64 → (facts.inputs input).watched ≡ Some level → level ≡ is_set seen.levels input)
+    → first_differing facts seen ≡ None
+unfolding first_differing
+none_differs facts seen same = none-found 64 (omega arith)
+  where
+    alike : (level bit : Bool) → level ≡ bit → not (beq level bit) ≡ false
+    alike true true is = refl
+    alike true false is = absurd (cc is)
+    alike false true is = absurd (cc is)
+    alike false false is = refl
+
+    by : (input : ℕ) → input < 64 → (watched : Option Bool) → (facts.inputs input).watched ≡ watched → is_some_and watched (λ level. not (beq level (is_set seen.levels input))) ≡ false
+    by input low None is = refl
+    by input low (Some level) is = alike level (is_set seen.levels input) (same input level low is)
+
+    none-found : (count : ℕ) → count ≤ 64 → earliest_above (differing facts seen) count ≡ None
+    none-found zero few = refl
+    none-found (suc count) few =
+        let none = by count (omega (arith, few)) (facts.inputs count).watched refl in
+        rw (none-found count (omega (arith, few)), none) refl
+
+-- so the rule is kept, if this is so where the record comes to them
+pub keeps_state : (facts : ContentFacts) (event : ContentEvent) (seen : Seen)
+    → (comes_to seen event ≡ true → (input : ℕ) (level : Bool) → input < 64 → (facts.inputs input).watched ≡ Some level → level ≡ is_set seen.levels input)
+    → state_breach (comes_to seen event) (first_differing facts seen) ≡ None
+keeps_state facts event seen same = by (comes_to seen event) refl
+  where
+    by : (comes : Bool) → comes_to seen event ≡ comes → state_breach comes (first_differing facts seen) ≡ None
+    by false is = refl
+    by true is = ap (state_breach true) (none_differs facts seen (same is))

@@ -1,0 +1,193 @@
+-- What is asked of a log, so that a rule on content that reads times accuses no right link.
+use Rattle.std.specs.Prelude.{◌≡◌, ℕ, ◌+◌, ◌^◌, ◌<◌, ◌==◌, Bool, ◌≤◌, ◌&&◌, ◌||◌, true, false, List, [], ◌∷◌, Option, Some, None, drop, is_some, length, nat_lt, not, option_and_then, slice_get, take, if◌then◌else◌}
+use Rattle.std.specs.List.{AllByRecursion, flat_map, list_any}
+use Rattle.fio_message.specs.declared.commands.Command.TheVariants.{LoadCounter}
+use Rattle.fio_message.specs.Decoding.{answer_in, block_in}
+use Rattle.fio_input.specs.Counter.{asked_number}
+use Rattle.fio_module.specs.Settings.{Settings}
+use Rattle.fio_module.specs.Life.{counter_events, life_of, scans_of}
+use Rattle.fio_module.specs.Log.{Transition}
+use Rattle.fio_module.specs.Blocks.{MadeBlock}
+use Rattle.fio_check.specs.ContentSaid.{stamp_of, states_heard}
+use Rattle.fio_check.specs.ContentEvents.{Heard}
+use Rattle.fio_link.specs.Claims.{blocks_in}
+use Rattle.fio_link.specs.declared.event.Event.{Event}
+use Rattle.fio_link.specs.declared.event.Event.TheVariants.{LineSync, Send, ToCpu, ToModule}
+use Rattle.fio_link.specs.Link.{Machine, after, item_numbered}
+
+-- No load that was sent before these events takes effect in them: until they send one, none is asked for at a line sync.
+abbrev pub NoLoadTakesEffect : Settings → ℕ → Machine → List Event → Type 0
+NoLoadTakesEffect settings first machine [] = Unit {0}
+NoLoadTakesEffect settings first machine (Send (LoadCounter load) ∷ events) = Unit {0}
+NoLoadTakesEffect settings first machine (LineSync ∷ events) =
+    (asked_number (counter_events (life_of machine.history)) ≡ None)
+    × NoLoadTakesEffect settings first (after settings first machine LineSync) events
+NoLoadTakesEffect settings first machine (event ∷ events) =
+    NoLoadTakesEffect settings first (after settings first machine event) events
+
+-- the blocks that the CPU takes from one machine of a run on to another
+abbrev pub blocks_taken : Settings → Machine → Machine → List MadeBlock
+blocks_taken settings begin last = drop begin.round (take last.round (blocks_in settings last))
+
+-- fewer than 65,536 scans lie between each entry of a block and the making of the block
+abbrev pub WaitBriefly : MadeBlock → Type 0
+WaitBriefly block = AllByRecursion (λ transition. block.scans < transition.scans + 2 ^ 16) block.transitions
+
+-- fewer than 2^31 scans lie between these, if there are any, and those
+abbrev pub IsNear : Option ℕ → ℕ → Type 0
+IsNear None scans = Unit {0}
+IsNear (Some before) scans = scans < before + 2 ^ 31
+
+-- the scans of the last of these entries, or what is before them
+abbrev pub scans_of_last : Option ℕ → List Transition → Option ℕ
+scans_of_last before [] = before
+scans_of_last before (transition ∷ transitions) = scans_of_last (Some transition.scans) transitions
+
+-- the scans of the entry or of the block without C that is the latest below a block
+abbrev pub scans_below : Option ℕ → MadeBlock → Option ℕ
+scans_below before block =
+    if block.more then scans_of_last before block.transitions else Some block.scans
+
+-- each entry is near the one before it, and the first near what is before it
+abbrev pub EntriesAreNear : Option ℕ → List Transition → Type 0
+EntriesAreNear before [] = Unit {0}
+EntriesAreNear before (transition ∷ transitions) =
+    IsNear before transition.scans × EntriesAreNear (Some transition.scans) transitions
+
+-- each entry of these blocks is near the latest entry or block without C before it
+abbrev pub BlocksAreNear : Option ℕ → List MadeBlock → Type 0
+BlocksAreNear before [] = Unit {0}
+BlocksAreNear before (block ∷ blocks) =
+    EntriesAreNear before block.transitions × BlocksAreNear (scans_below before block) blocks
+
+-- what the rules `order` and `fresh` ask of a log
+pub record HasNearEntries (settings : Settings) (first : ℕ) (begin : Machine) (later : List Event) (last : Machine) : Type 0 where
+  pub no_load : NoLoadTakesEffect settings first begin later
+  pub brief : AllByRecursion WaitBriefly (blocks_taken settings begin last)
+  pub near : BlocksAreNear None (blocks_taken settings begin last)
+
+-- ---- successive stamps
+
+-- after an event, the scans that there were when the module received the command sent last
+abbrev pub scans_asked : Machine → ℕ → Event → ℕ
+scans_asked machine asked (ToModule index) =
+    if index == length machine.to_module then scans_of (life_of machine.history) else asked
+scans_asked machine asked other = asked
+
+-- the CPU hears an answer with a stamp, but no block that is sent again
+abbrev pub hears_stamp : Machine → Event → Bool
+hears_stamp machine (ToCpu index) = is_some (option_and_then (λ frame. option_and_then stamp_of (answer_in frame.octets)) (item_numbered machine.to_cpu index))
+hears_stamp machine other = false
+
+-- after an event, the scans of the latest stamp that the CPU has heard: those when the module received the command
+abbrev pub scans_stamped : Machine → ℕ → Option ℕ → Event → Option ℕ
+scans_stamped machine asked before event = if hears_stamp machine event then Some asked else before
+
+-- fewer than 2^31 scans lie between each stamp that the CPU hears at these events and the one before it
+abbrev pub StampsAreNear : Settings → ℕ → Machine → ℕ → Option ℕ → List Event → Type 0
+StampsAreNear settings first machine asked before [] = Unit {0}
+StampsAreNear settings first machine asked before (event ∷ events) =
+    (hears_stamp machine event ≡ true → IsNear before asked)
+    × StampsAreNear settings first (after settings first machine event) (scans_asked machine asked event)
+    (scans_stamped machine asked before event) events
+
+-- what the rule `clock` asks of a log
+pub record HasNearStamps (settings : Settings) (first : ℕ) (begin : Machine) (later : List Event) (last : Machine) : Type 0 where
+  pub no_load : NoLoadTakesEffect settings first begin later
+  pub near : StampsAreNear settings first begin 0 None later
+
+-- ---- successive entries of an input
+
+-- fewer than 2^32 scans lie between these, if there are any, and those
+abbrev pub IsWithinAge : Option ℕ → ℕ → Type 0
+IsWithinAge None scans = Unit {0}
+IsWithinAge (Some before) scans = scans < before + 2 ^ 32
+
+-- the scans of the latest entry of each input, with one entry more
+abbrev pub latest_with : (ℕ → Option ℕ) → Transition → ℕ → Option ℕ
+latest_with latest transition input =
+    if input == transition.input then Some transition.scans else latest input
+
+-- each entry comes fewer than 2^32 scans after the latest one of its input before it
+abbrev pub InputsAreNear : (ℕ → Option ℕ) → List Transition → Type 0
+InputsAreNear latest [] = Unit {0}
+InputsAreNear latest (transition ∷ transitions) =
+    IsWithinAge (latest transition.input) transition.scans
+    × InputsAreNear (latest_with latest transition) transitions
+
+-- what the rule `apart` asks of a log
+pub record HasNearInputs (settings : Settings) (first : ℕ) (begin : Machine) (later : List Event) (last : Machine) : Type 0 where
+  pub no_load : NoLoadTakesEffect settings first begin later
+  pub brief : AllByRecursion WaitBriefly (blocks_taken settings begin last)
+  pub near : InputsAreNear (λ input. None) (flat_map (λ block. block.transitions) (blocks_taken settings begin last))
+
+-- ---- the states that were asked for
+
+-- the CPU hears the states of the inputs
+abbrev pub hears_states : Machine → Event → Bool
+hears_states machine (ToCpu index) =
+    is_some (option_and_then (λ frame. option_and_then (λ answer. states_heard (Heard answer)) (answer_in frame.octets)) (item_numbered machine.to_cpu index))
+hears_states machine other = false
+
+-- the block that the CPU takes where it hears a block answer
+abbrev pub block_taken : Settings → Machine → Event → Option MadeBlock
+block_taken settings machine (ToCpu index) = option_and_then
+    (λ frame. option_and_then (λ block. slice_get (blocks_in settings machine) machine.round) (block_in frame.octets))
+    (item_numbered machine.to_cpu index)
+block_taken settings machine other = None
+
+-- an entry of a later scan is among these
+abbrev pub is_later_among : ℕ → List Transition → Bool
+is_later_among scans transitions = list_any (λ transition. nat_lt scans transition.scans) transitions
+
+-- with a block the record comes to states of so many scans: an entry of it is later, or it has no C and was made later
+abbrev pub comes_with : ℕ → MadeBlock → Bool
+comes_with scans block = is_later_among scans block.transitions || (not block.more && nat_lt scans block.scans)
+
+-- the scans, if the record does not come to them with a block
+abbrev pub scans_left : Option MadeBlock → Option ℕ → Option ℕ
+scans_left None seen = seen
+scans_left (Some block) None = None
+scans_left (Some block) (Some scans) = if comes_with scans block then None else Some scans
+
+-- after an event, the scans that there were for the latest states that the CPU heard, till the record comes to them
+abbrev pub scans_seen : Settings → Machine → ℕ → Option ℕ → Event → Option ℕ
+scans_seen settings machine asked seen event =
+    if hears_states machine event then Some asked else scans_left (block_taken settings machine event) seen
+
+-- fewer than 2^31 scans lie between
+pub record AreNear (one other : ℕ) : Type 0 where
+  pub after : one < other + 2 ^ 31
+  pub before : other < one + 2 ^ 31
+
+-- these entries are near the states, up to the first that is later
+abbrev pub EntriesNearStates : ℕ → List Transition → Type 0
+EntriesNearStates scans [] = Unit {0}
+EntriesNearStates scans (transition ∷ transitions) =
+    AreNear scans transition.scans × (transition.scans ≤ scans → EntriesNearStates scans transitions)
+
+-- a block is near the states, if the record has not come to them above: its entries are, and it is itself, if none is later
+pub record IsNearStates (scans : ℕ) (block : MadeBlock) : Type 0 where
+  pub entries : EntriesNearStates scans block.transitions
+  pub made : is_later_among scans block.transitions ≡ false → block.more ≡ false → AreNear scans block.scans
+
+-- each block that the CPU takes is near the states that it heard, till the record comes to them
+abbrev pub StatesAreNear : Settings → ℕ → Machine → ℕ → Option ℕ → List Event → Type 0
+StatesAreNear settings first machine asked seen [] = Unit {0}
+StatesAreNear settings first machine asked seen (event ∷ events) =
+    ((scans : ℕ) (block : MadeBlock) → seen ≡ Some scans → block_taken settings machine event ≡ Some block → IsNearStates scans block)
+    × StatesAreNear settings first (after settings first machine event) (scans_asked machine asked event)
+    (scans_seen settings machine asked seen event) events
+
+-- what the rule `state` asks of a log
+pub record HasNearStates (settings : Settings) (first : ℕ) (begin : Machine) (later : List Event) (last : Machine) : Type 0 where
+  pub no_load : NoLoadTakesEffect settings first begin later
+  pub brief : AllByRecursion WaitBriefly (blocks_taken settings begin last)
+  pub near : StatesAreNear settings first begin 0 None later
+
+-- what all rules ask of a log
+pub record HasNearTimes (settings : Settings) (first : ℕ) (begin : Machine) (later : List Event) (last : Machine) : Type 0 where
+  pub entries : HasNearEntries settings first begin later last
+  pub stamps : HasNearStamps settings first begin later last
+  pub inputs : HasNearInputs settings first begin later last
+  pub states : HasNearStates settings first begin later last
