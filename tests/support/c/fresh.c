@@ -99,7 +99,7 @@ static void ends(void) {
     CHECK(fio2070_checker_heard(checker, out, count, breach) == 0 && breach->due == 0);
     fio2070_content_start(content);
     fio2070_content_sent(content, (const uint8_t *)"\x36\5", 2);
-    CHECK(fio2070_content_heard(content, out, count, entry) == 0 && entry->rule == 0 && entry->entry == 0 && entry->input == 0);
+    CHECK(fio2070_content_heard(content, out, count, entry) == 0 && entry->rule == 0 && entry->items == 0 && entry->input == 0);
     fio2070_poller_start(poller, 5);
     heard = fio2070_poller_hear(poller, out, count, items, FIO2070_MOST_RECORD_ITEMS);
     CHECK(heard.kind == FIO2070_HEARD_TAKEN && heard.items == 1 && heard.stamp == 1 && poller->number == 6);

@@ -145,7 +145,7 @@ static int is_judged(struct fio2070_checker *checker, struct fio2070_content_che
     if (length > 1) poll[1] = octets[1];
     if (below(4) == 0) {
         fio2070_checker_start(checker);
-        fio2070_content_start(content);
+        (below(2) ? fio2070_content_start : fio2070_content_start_begun)(content);
         fio2070_content_sent(content, poll, 2);
         if (fio2070_checker_sent(checker, poll, 2, &breach) != 0) return 0;
     }
@@ -155,7 +155,7 @@ static int is_judged(struct fio2070_checker *checker, struct fio2070_content_che
         return rule == breach.rule && rule <= last_rule;
     }
     rule = fio2070_content_heard(content, octets, length, &entry);
-    if (rule != entry.rule || rule > FIO2070_CONTENT_APART || (rule != 0 && entry.entry >= octets[2])) return 0;
+    if (rule != entry.rule || rule > FIO2070_CONTENT_WATCHDOG || entry.items > (length > 2 ? octets[2] + 1 : 0)) return 0;
     rule = fio2070_checker_heard(checker, octets, length, &breach);
     return rule == breach.rule && rule <= last_rule;
 }

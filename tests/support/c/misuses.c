@@ -74,7 +74,9 @@ const char *rules(uint8_t rule, uint8_t content) {
 #if MISUSE != 23
     case FIO2070_CONTENT_NONE: break;
 #endif
-    case FIO2070_CONTENT_ORDER: case FIO2070_CONTENT_ALTERNATE: case FIO2070_CONTENT_APART: return "a rule on content";
+    case FIO2070_CONTENT_ORDER: case FIO2070_CONTENT_FRESH: case FIO2070_CONTENT_ALTERNATE: case FIO2070_CONTENT_APART:
+    case FIO2070_CONTENT_IGNORED: case FIO2070_CONTENT_STATE: case FIO2070_CONTENT_CLOCK: case FIO2070_CONTENT_DONE:
+    case FIO2070_CONTENT_ACCEPTED: case FIO2070_CONTENT_CLEARED: case FIO2070_CONTENT_WATCHDOG: return "a rule on content";
     }
     return "";
 }

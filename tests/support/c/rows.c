@@ -88,7 +88,8 @@ static void says_faults(void) {
 
 static void says_rules(void) {
     static const char *const names[] = {"", "readable", "pair", "number", "advance", "same", "sequence", "limits", "rest", "refusal", ""};
-    static const char *const content[] = {"", "order", "alternate", "apart", ""};
+    static const char *const content[] = {"", "order", "fresh", "alternate", "apart", "ignored", "state", "clock", "done",
+                                          "accepted", "cleared", "watchdog", ""};
     char text[FIO2070_LONGEST_TEXT + 1];
     uint8_t rule;
     for (rule = 0; rule < 11; rule++) {
@@ -96,7 +97,7 @@ static void says_rules(void) {
         CHECK(fio2070_rule_text(rule, text, strlen(names[rule])) == strlen(names[rule]) && text[0] == '?');
         CHECK(has_words(fio2070_rule_text(rule, text, sizeof text), text, names[rule]));
     }
-    for (rule = 0; rule < 5; rule++) {
+    for (rule = 0; rule < 13; rule++) {
         memset(text, '?', sizeof text);
         CHECK(fio2070_content_rule_text(rule, text, strlen(content[rule])) == strlen(content[rule]) && text[0] == '?');
         CHECK(has_words(fio2070_content_rule_text(rule, text, sizeof text), text, content[rule]));
@@ -324,7 +325,7 @@ static void says_what_was_heard(void) {
 /* ---- The rules of a transcript ---- */
 
 /* A frame that the CPU's end sent or heard, its breach, and the checker below it: each octet of both structs, in the
- * order of their fields. A row without a direction starts the checker. */
+ * order of their fields, but for the limits. A row without a direction starts the checker. */
 struct judged {
     char direction;
     const char *octets;
@@ -370,7 +371,7 @@ static const struct judged judged[] = {
 };
 
 static void checks(void) {
-    struct fio2070_checker checker;
+    struct fio2070_checker checker, expected;
     struct fio2070_breach breach;
     size_t place;
     memcpy(full_block, "\xb6\7\xff", 3);
@@ -389,42 +390,92 @@ static void checks(void) {
             rule = fio2070_checker_heard(&checker, octets, row->length, &breach);
         }
         check(rule == row->breach[0] && memcmp(&breach, row->breach, sizeof breach) == 0, "the breach of row", (unsigned)place);
-        check(memcmp(&checker, row->checker, sizeof checker) == 0, "the checker below row", (unsigned)place);
+        memcpy(&expected, row->checker, sizeof expected);
+        expected.per_block = FIO2070_MOST_ENTRIES;
+        expected.waiting = FIO2070_STANDARD_WAITING;
+        check(memcmp(&checker, &expected, sizeof checker) == 0, "the checker below row", (unsigned)place);
     }
+}
+
+/* What a checker of a module with these limits finds in a block of so many entries with this status. */
+static int rule_within(uint8_t per_block, uint16_t waiting, uint8_t entries, uint8_t status) {
+    struct fio2070_limits limits = FIO2070_STANDARD_LIMITS;
+    struct fio2070_checker checker;
+    struct fio2070_breach breach;
+    uint8_t block[8 + 3 * 3] = {182, 5};
+    size_t length = 8 + 3 * (size_t)entries;
+    limits.per_block = per_block;
+    limits.waiting = waiting;
+    block[2] = entries;
+    block[length - 5] = status;
+    if (fio2070_checker_start_within(&checker, limits) != FIO2070_STARTED) return -1;
+    if (fio2070_checker_sent(&checker, (const uint8_t *)"\x36\5", 2, &breach) != 0) return -1;
+    return fio2070_checker_heard(&checker, block, length, &breach);
+}
+
+/* C with as many entries as a block takes; F without C where no more may wait than a block takes. */
+static void judges_by_limits(void) {
+    struct fio2070_limits limits = {0, 255, 0};
+    struct fio2070_checker checker, before;
+    memset(&checker, 0xa5, sizeof checker);
+    before = checker;
+    CHECK(rule_within(255, 1024, 1, 4) == FIO2070_RULE_LIMITS && rule_within(255, 256, 1, 4) == FIO2070_RULE_LIMITS);
+    CHECK(rule_within(255, 255, 1, 4) == 0 && rule_within(255, 64, 1, 4) == 0 && rule_within(2, 2, 2, 4) == 0);
+    CHECK(rule_within(2, 3, 2, 8) == 0 && rule_within(2, 3, 2, 12) == 0 && rule_within(2, 3, 1, 8) == FIO2070_RULE_LIMITS);
+    CHECK(rule_within(2, 3, 3, 8) == FIO2070_RULE_LIMITS && rule_within(2, 3, 2, 4) == FIO2070_RULE_LIMITS);
+    CHECK(rule_within(0, 1, 1, 0) == -1 && rule_within(1, 0, 1, 0) == -1 && rule_within(1, FIO2070_MOST_WAITING + 1, 1, 0) == -1);
+    CHECK(fio2070_checker_start_within(&checker, limits) == FIO2070_REFUSED && memcmp(&checker, &before, sizeof checker) == 0);
 }
 
 /* ---- The rules on content ---- */
 
-static int is_entry(struct fio2070_content_breach breach, int rule, int entry, int input) {
-    return breach.rule == rule && breach.entry == entry && breach.input == input;
+static int is_breach(struct fio2070_content_breach breach, int rule, int input, int items) {
+    return breach.rule == rule && breach.input == input && breach.items == items;
 }
 
-/* Input 12 goes to 0 at 10; the next block has an entry of input 13, and then that of input 12 once more. */
+/* Input 12 goes to 0 at 10, and again at 13, below an entry of input 13; it goes to 1 at 24, below an entry at 25, and to 0
+   two samples later, below a filter of five. */
 static void judges_content(void) {
     static const uint8_t empty[] = {182, 255, 0, 0, 0, 0, 0, 5}, once[] = {182, 0, 1, 12, 0, 10, 0, 0, 0, 0, 11};
-    static const uint8_t again[] = {182, 1, 2, 13, 0, 11, 12, 0, 12, 0, 0, 0, 0, 21};
-    static const uint8_t before[] = {182, 2, 1, 141, 0, 9, 0, 0, 0, 0, 31};
-    static const uint8_t near[] = {182, 3, 1, 140, 0, 13, 0, 0, 0, 0, 41};
+    static const uint8_t again[] = {182, 1, 2, 13, 0, 12, 12, 0, 13, 0, 0, 0, 0, 21};
+    static const uint8_t before[] = {182, 2, 2, 141, 0, 25, 140, 0, 24, 0, 0, 0, 0, 25};
+    static const uint8_t near[] = {182, 3, 1, 12, 0, 26, 0, 0, 0, 0, 41};
     struct fio2070_content_checker content;
     struct fio2070_content_breach breach;
     memset(&content, 0xa5, sizeof content);
     fio2070_content_start(&content);
     fio2070_content_sent(&content, (const uint8_t *)"\x33\2\x0c\5\3\x0d\5\3", 8);
-    CHECK(fio2070_content_heard(&content, (const uint8_t *)"\xb3\0", 2, &breach) == 0 && is_entry(breach, 0, 0, 0));
+    CHECK(fio2070_content_heard(&content, (const uint8_t *)"\xb3\0", 2, &breach) == 0 && is_breach(breach, 0, 0, 0));
     fio2070_content_sent(&content, (const uint8_t *)"\x36\xff", 2);
     CHECK(fio2070_content_heard(&content, empty, sizeof empty, &breach) == 0);
     fio2070_content_sent(&content, (const uint8_t *)"\x36\0", 2);
     CHECK(fio2070_content_heard(&content, once, sizeof once, &breach) == 0);
     fio2070_content_sent(&content, (const uint8_t *)"\x36\1", 2);
     CHECK(fio2070_content_heard(&content, again, sizeof again, &breach) == FIO2070_CONTENT_ALTERNATE);
-    CHECK(is_entry(breach, FIO2070_CONTENT_ALTERNATE, 1, 12));
-    CHECK(fio2070_content_heard(&content, again, sizeof again, &breach) == 0 && is_entry(breach, 0, 0, 0));
+    CHECK(is_breach(breach, FIO2070_CONTENT_ALTERNATE, 12, 1));
+    CHECK(fio2070_content_heard(&content, again, sizeof again, &breach) == 0 && is_breach(breach, 0, 0, 0));
     fio2070_content_sent(&content, (const uint8_t *)"\x36\2", 2);
     CHECK(fio2070_content_heard(&content, before, sizeof before, &breach) == FIO2070_CONTENT_ORDER);
-    CHECK(is_entry(breach, FIO2070_CONTENT_ORDER, 0, 13));
+    CHECK(is_breach(breach, FIO2070_CONTENT_ORDER, 12, 1));
     fio2070_content_sent(&content, (const uint8_t *)"\x36\3", 2);
     CHECK(fio2070_content_heard(&content, near, sizeof near, &breach) == FIO2070_CONTENT_APART);
-    CHECK(is_entry(breach, FIO2070_CONTENT_APART, 0, 12));
+    CHECK(is_breach(breach, FIO2070_CONTENT_APART, 12, 0));
+    CHECK(fio2070_content_heard(&content, (const uint8_t *)"\xb2\1", 2, &breach) == FIO2070_CONTENT_DONE);
+    CHECK(is_breach(breach, FIO2070_CONTENT_DONE, FIO2070_NO_INPUT, 0));
+}
+
+/* An input is ignored until it is configured: only a log says so that begins with both ends. */
+static void judges_from_the_start(void) {
+    static const uint8_t once[] = {182, 0, 1, 12, 0, 10, 0, 0, 0, 0, 11};
+    struct fio2070_content_checker later, begun;
+    struct fio2070_content_breach breach;
+    fio2070_content_start(&later);
+    fio2070_content_sent(&later, (const uint8_t *)"\x36\0", 2);
+    CHECK(fio2070_content_heard(&later, once, sizeof once, &breach) == 0);
+    fio2070_content_start_begun(&begun);
+    fio2070_content_sent(&begun, (const uint8_t *)"\x36\0", 2);
+    CHECK(fio2070_content_heard(&begun, once, sizeof once, &breach) == FIO2070_CONTENT_IGNORED);
+    CHECK(is_breach(breach, FIO2070_CONTENT_IGNORED, 12, 0));
 }
 
 /* ---- Parts of a module ---- */
@@ -656,7 +707,9 @@ int main(void) {
     hears();
     says_what_was_heard();
     checks();
+    judges_by_limits();
     judges_content();
+    judges_from_the_start();
     counts();
     filters();
     is_a_module();

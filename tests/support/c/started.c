@@ -6,7 +6,7 @@
 
 #include <string.h>
 
-static unsigned char first[sizeof(struct fio2070_content_checker)], second[sizeof(struct fio2070_content_checker)];
+static unsigned char first[sizeof(struct fio2070_sized_module)], second[sizeof(struct fio2070_sized_module)];
 
 static void fill(void *one, void *other, size_t size) {
     memset(one, 0x5a, size);
@@ -20,13 +20,13 @@ static int same(const void *one, const void *other, size_t size) {
     return memcmp(first, second, size) == 0 && memchr(first, 0, size) != NULL;
 }
 
-/* `fio2070_NAME_start` sets every octet of the struct. */
+/* `fio2070_NAME` sets every octet of the struct. */
 #define STARTS(name, type)                                      \
     do {                                                        \
         static struct type one, other;                          \
         fill(&one, &other, sizeof one);                         \
-        fio2070_##name##_start(&one);                           \
-        fio2070_##name##_start(&other);                         \
+        fio2070_##name(&one);                                   \
+        fio2070_##name(&other);                                 \
         check(same(&one, &other, sizeof one), #name, __LINE__); \
     } while (0)
 
@@ -40,10 +40,11 @@ static void modules(void) {
 }
 
 int main(void) {
-    STARTS(counter, fio2070_counter);
-    STARTS(checker, fio2070_checker);
-    STARTS(content, fio2070_content_checker);
-    STARTS(filters, fio2070_filters);
+    STARTS(counter_start, fio2070_counter);
+    STARTS(checker_start, fio2070_checker);
+    STARTS(content_start, fio2070_content_checker);
+    STARTS(content_start_begun, fio2070_content_checker);
+    STARTS(filters_start, fio2070_filters);
     modules();
     return end_of_checks();
 }

@@ -131,7 +131,7 @@ static void tells_values() {
     TELLS(outputs::levels), TELLS(outputs::controls);
     TELLS(error_counts::receive), TELLS(error_counts::transmit);
     TELLS(breach::rule), TELLS(breach::has_due), TELLS(breach::due), TELLS(breach::got);
-    TELLS(content_breach::rule), TELLS(content_breach::entry), TELLS(content_breach::input);
+    TELLS(content_breach::rule), TELLS(content_breach::input), TELLS(content_breach::items);
     TELLS(command::code), TELLS(command::clear), TELLS(command::block), TELLS(command::timeout), TELLS(command::count);
     TELLS(command::body), TELLS(command::load), TELLS(command::levels), TELLS(command::controls);
     TELLS(answer::code), TELLS(answer::flags), TELLS(answer::receive_errors), TELLS(answer::transmit_errors);
@@ -153,7 +153,7 @@ static void has_the_most() {
 
 static void has_words() {
     CHECK(fio2070::rule_text(FIO2070_RULE_ADVANCE) == "advance" && fio2070::rule_text(FIO2070_RULE_NONE).empty());
-    CHECK(fio2070::content_rule_text(FIO2070_CONTENT_APART) == "apart" && fio2070::content_rule_text(4).empty());
+    CHECK(fio2070::content_rule_text(FIO2070_CONTENT_APART) == "apart" && fio2070::content_rule_text(12).empty());
     fio2070::Poller poller(5);
     CHECK(poller.hear(List({0xb3, 0})).text() == "other 179" && poller.hear(List()).text() == "unreadable empty");
     CHECK(poller.hear(BLOCK).text() == "block entries 1 status 00" && poller.hear(BLOCK).text() == "stale 5");
@@ -245,7 +245,7 @@ static void has_parts() {
 /* An entry of input 12 comes once more in the next block, behind one of input 13. */
 static void judges_content() {
     const std::uint8_t empty[] = {182, 255, 0, 0, 0, 0, 0, 5}, once[] = {182, 0, 1, 12, 0, 10, 0, 0, 0, 0, 11};
-    const std::uint8_t again[] = {182, 1, 2, 13, 0, 11, 12, 0, 12, 0, 0, 0, 0, 21};
+    const std::uint8_t again[] = {182, 1, 2, 13, 0, 12, 12, 0, 13, 0, 0, 0, 0, 21};
     fio2070::ContentChecker content;
     content.sent(fio2070::encode::poll(255));
     CHECK(content.heard(empty).rule == 0);
@@ -253,9 +253,13 @@ static void judges_content() {
     CHECK(content.heard(once).rule == 0);
     content.sent(fio2070::encode::poll(1));
     fio2070_content_breach breach = content.heard(again);
-    CHECK(breach.rule == FIO2070_CONTENT_ALTERNATE && breach.entry == 1 && breach.input == 12);
+    CHECK(breach.rule == FIO2070_CONTENT_ALTERNATE && breach.items == 1 && breach.input == 12);
     CHECK(breach == breach && breach != content.heard(again));
     CHECK(content.heard(again).rule == 0);
+    CHECK(fio2070::Checker::within(1, 1)->heard(empty).rule == FIO2070_RULE_PAIR && !fio2070::Checker::within(0, 1));
+    fio2070::ContentChecker begun = fio2070::ContentChecker::begun();
+    begun.sent(fio2070::encode::poll(0));
+    CHECK(begun.heard(once).rule == FIO2070_CONTENT_IGNORED);
 }
 
 int main() {

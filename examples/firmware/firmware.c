@@ -1,0 +1,152 @@
+/* A field I/O module on a Cortex-M4 without an operating system: the module's end of the link on a UART.
+ *
+ * SysTick's handler scans each millisecond. The main loop receives frames. The library asks that no one else writes a module
+ * during a call, so the main loop holds the scans off around each call on the module. A scan that is held off is done at once
+ * afterwards, and a handler that comes late does as many scans as are due: the module's milliseconds stay those of the clock.
+ *
+ * A second UART has the lines of fio2070-test, which set the inputs too: tester_lines.c. A product leaves that file out, and
+ * reads the inputs from its ports.
+ *
+ * With STEPPED there is no clock, and each line `inputs` is a scan: then fio2070-test compares each octet. */
+#include "firmware.h"
+
+#include "board.h"
+#include "hdlc.h"
+
+enum { ID = 2, LINK_RATE = 153600, TESTER_RATE = 115200, SCAN_US = 1000 };
+
+#ifdef STEPPED
+enum { IS_STEPPED = 1 };
+#else
+enum { IS_STEPPED = 0 };
+#endif
+
+struct uart link_uart, tester_uart;
+struct firmware_counts counts;
+uint8_t answer[FIO2070_LONGEST_FRAME];
+
+static struct fio2070_module module;
+static struct hdlc_reader reader;      /* of the link */
+static uint64_t levels = ~(uint64_t)0; /* of the inputs */
+static uint32_t scanned_to;            /* the microsecond up to which scans are done: the handler's alone */
+
+static void keep_longest(uint32_t *longest, uint32_t since) {
+    uint32_t gone = MICROSECONDS - since;
+    if (gone > *longest) *longest = gone;
+}
+
+/* ---- Each millisecond ---- */
+
+static void scan(void) {
+    uint32_t begun = MICROSECONDS;
+    fio2070_module_scan(&module, levels);
+    counts.scans++;
+    keep_longest(&counts.longest_scan, begun);
+}
+
+/* SysTick's handler. Of two ticks that come while it is held off the core keeps one, so the handler does not count ticks: a
+ * counter that goes on says how many scans are due. */
+void each_tick(void) {
+    uint32_t due = (MICROSECONDS - scanned_to) / SCAN_US;
+    if (due > 1) counts.late += due - 1;
+    for (; due > 0; due--, scanned_to += SCAN_US) {
+        if (!IS_STEPPED) scan();
+    }
+}
+
+/* ---- Calls on the module, each with the scans held off ---- */
+
+size_t receive(const uint8_t *octets, size_t length) {
+    uint32_t begun = MICROSECONDS;
+    size_t count;
+    hold_scans();
+    count = fio2070_module_receive(&module, octets, length, answer, sizeof answer);
+    LAMPS = fio2070_module_outputs(&module).levels[0];
+    let_scans();
+    keep_longest(&counts.longest_hold, begun);
+    return count;
+}
+
+void set_levels(uint64_t read) {
+    hold_scans(); /* 64 bits are two stores */
+    levels = read;
+    let_scans();
+    if (IS_STEPPED) scan();
+}
+
+/* On a board with LINESYNC the handler of its interrupt, of the priority of the scans, calls the library alone. */
+void line_sync_rises(void) {
+    hold_scans();
+    fio2070_module_line_sync(&module);
+    let_scans();
+}
+
+void restart(void) {
+    hold_scans();
+    fio2070_module_restart(&module);
+    let_scans();
+}
+
+static void count_receive_error(void) {
+    hold_scans();
+    fio2070_module_count_receive_error(&module);
+    let_scans();
+}
+
+uint8_t receive_errors(void) {
+    uint8_t count;
+    hold_scans();
+    count = fio2070_module_errors(&module).receive;
+    let_scans();
+    return count;
+}
+
+size_t waiting(void) {
+    size_t count;
+    hold_scans();
+    count = fio2070_module_waiting(&module);
+    let_scans();
+    return count;
+}
+
+/* ---- Octets ---- */
+
+void link_interrupt(void) { uart_interrupt(&link_uart); }
+
+void tester_interrupt(void) { uart_interrupt(&tester_uart); }
+
+/* An octet of the link. A damaged frame is an error in receiving, and so is a frame that is no command. */
+static void link_octet(uint8_t octet) {
+    static uint8_t frame[HDLC_LONGEST_FRAME];
+    size_t count = FIO2070_NO_MESSAGE;
+    enum hdlc_result result = hdlc_read(&reader, octet);
+    if (result == HDLC_NOTHING) return;
+    if (result == HDLC_MESSAGE) count = receive(reader.message, reader.length);
+    if (count == FIO2070_NO_MESSAGE) {
+        count_receive_error();
+    } else if (count > 0) {
+        uart_send(&link_uart, frame, hdlc_write(answer, count, frame));
+    }
+}
+
+/* Sleeps until an interrupt, unless an octet is there. One that comes between the look and the sleep ends the sleep at once. */
+static void sleep_until_octet(void) {
+    __asm volatile("cpsid i" : : : "memory");
+    if (!uart_has_octet(&link_uart) && !uart_has_octet(&tester_uart)) __asm volatile("wfi");
+    __asm volatile("cpsie i" : : : "memory");
+}
+
+int main(void) {
+    const struct fio2070_limits limits = FIO2070_STANDARD_LIMITS;
+    if (fio2070_module_start(&module, ID, limits) != FIO2070_STARTED) return 1;
+    hdlc_start(&reader);
+    uart_start(&link_uart, UART_LINK, LINK_RATE);
+    uart_start(&tester_uart, UART_TESTER, TESTER_RATE);
+    start_clock();
+    scanned_to = MICROSECONDS - SCAN_US / 2; /* in the middle of two ticks: a tick is never counted as none or as two */
+    for (;;) {
+        if (uart_has_octet(&link_uart)) link_octet(uart_take(&link_uart));
+        if (uart_has_octet(&tester_uart)) tester_octet(uart_take(&tester_uart));
+        sleep_until_octet();
+    }
+}

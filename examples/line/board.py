@@ -1,0 +1,81 @@
+"""The board under qemu-system-arm, and the lines of fio2070-test on its second UART."""
+
+import contextlib
+import socket
+import subprocess
+import time
+
+QEMU = 'qemu-system-arm'
+# How long a line may be answered, also on a busy machine.
+ANSWER_S = 20
+
+
+def free_port():
+    """A port of the loopback that no one has now."""
+    with socket.socket() as one:
+        one.bind(('127.0.0.1', 0))
+        return one.getsockname()[1]
+
+
+@contextlib.contextmanager
+def running(words, number, seconds=20, **settings):
+    """A process that is ended by this signal."""
+    process = subprocess.Popen(words, stdin=subprocess.DEVNULL, **settings)
+    try:
+        yield process
+    finally:
+        if process.poll() is None:
+            process.send_signal(number)
+        try:
+            process.wait(seconds)
+        except subprocess.TimeoutExpired:
+            process.kill()
+            process.wait()
+
+
+def board_words(image, link, lines):
+    """The command of the board, with its two UARTs at these ports. QEMU writes octet by octet: without `nodelay` each would wait
+    until the one before it is acknowledged."""
+    uarts = [word for port in (link, lines) for word in
+             ('-serial', 'tcp:127.0.0.1:%d,server=on,wait=off,nodelay=on' % port)]
+    return [QEMU, '-M', 'mps2-an386', '-display', 'none', '-monitor', 'none', *uarts, '-kernel', image]
+
+
+class Lines:
+    """Asks the firmware by lines."""
+
+    def __init__(self, port):
+        for _ in range(200):
+            try:
+                self.socket = socket.create_connection(('127.0.0.1', port), ANSWER_S)
+                break
+            except ConnectionRefusedError:
+                time.sleep(0.05)
+        else:
+            raise ConnectionError('%s does not listen' % QEMU)
+        self.file = self.socket.makefile('rw', newline='\n')
+
+    def ask(self, line):
+        """The answer to a line."""
+        self.file.write(line + '\n')
+        self.file.flush()
+        return self.file.readline().rstrip('\n')
+
+    def done(self, line):
+        """Asks by a line whose answer is `done`."""
+        answer = self.ask(line)
+        if answer != 'done':
+            raise ValueError('%s: %s' % (line, answer))
+
+    def inputs(self, levels):
+        """Sets the 64 levels; bit i is input i."""
+        self.done('inputs ' + levels.to_bytes(8, 'little').hex())
+
+    def counts(self):
+        """What the firmware counts, by name."""
+        words = self.ask('counts').split()
+        return dict(zip(words[::2], map(int, words[1::2])))
+
+    def close(self):
+        self.file.close()
+        self.socket.close()

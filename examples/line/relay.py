@@ -1,0 +1,90 @@
+#!/usr/bin/env python3
+"""A bad line between a controller and a module: it loses, damages, repeats and delays whole frames, each direction by itself.
+
+    relay.py [--lose P] [--damage P] [--repeat P] [--delay MS] [--seed N] PORT HOST:PORT
+
+It keeps what docs/PROTOCOL.md assumes of the bus: no frame overtakes another of its direction, and a repeat comes directly after
+its frame. A damaged frame has a wrong check, so it is lost too. At its end, by SIGINT or SIGTERM, it writes what it did."""
+
+import argparse
+import asyncio
+import collections
+import random
+import signal
+
+FLAG = b'\x7e'
+FATES = 'lose', 'damage', 'repeat'
+
+
+async def take(reader, queue, option, dice, counts):
+    """Reads frames, and queues what becomes of each with the time when it is due."""
+    due = 0.0
+    while True:
+        frame = (await reader.readuntil(FLAG))[:-1]
+        if not frame:
+            continue
+        fate = {kind: dice.random() < getattr(option, kind) for kind in FATES}
+        counts.update(['frames', *(kind for kind in FATES if fate[kind])])
+        if fate['lose']:
+            continue
+        if fate['damage']:
+            frame = frame[:-1] + bytes([frame[-1] ^ 1])
+        for _ in range(1 + fate['repeat']):
+            due = max(due, asyncio.get_running_loop().time() + dice.uniform(0, option.delay / 1000))
+            queue.put_nowait((due, FLAG + frame + FLAG))
+
+
+async def give(queue, writer):
+    """Sends each frame when it is due."""
+    while True:
+        due, octets = await queue.get()
+        await asyncio.sleep(due - asyncio.get_running_loop().time())
+        writer.write(octets)
+
+
+async def carry(option, dice, counts, controller, module):
+    """Carries both directions until one end closes."""
+    tasks = []
+    for name, reader, writer in ('to module', controller[0], module[1]), ('to controller', module[0], controller[1]):
+        queue = asyncio.Queue()
+        tasks += [asyncio.create_task(take(reader, queue, option, dice[name], counts[name])),
+                  asyncio.create_task(give(queue, writer))]
+    await asyncio.wait(tasks, return_when=asyncio.FIRST_COMPLETED)
+    for task in tasks:
+        task.cancel()
+    for result in await asyncio.gather(*tasks, return_exceptions=True):
+        if not isinstance(result, (asyncio.CancelledError, asyncio.IncompleteReadError, ConnectionError)):
+            raise result
+    controller[1].close()
+    module[1].close()
+
+
+async def relay(option):
+    """Carries for one controller after another, on one connection to the module each."""
+    counts, ended = collections.defaultdict(collections.Counter), asyncio.Event()
+    dice = {name: random.Random('%d %s' % (option.seed, name)) for name in ('to module', 'to controller')}
+    host, port = option.module.rsplit(':', 1)
+
+    async def accept(*controller):
+        await carry(option, dice, counts, controller, await asyncio.open_connection(host, int(port)))
+
+    for number in signal.SIGINT, signal.SIGTERM:
+        asyncio.get_running_loop().add_signal_handler(number, ended.set)
+    async with await asyncio.start_server(accept, '127.0.0.1', option.port):
+        await ended.wait()
+    for name, numbers in counts.items():
+        print('%s: %s' % (name, ', '.join('%s %d' % pair for pair in numbers.items())), flush=True)
+
+
+def main():
+    parser = argparse.ArgumentParser(description=__doc__.split('\n', maxsplit=1)[0])
+    for name in (*FATES, 'delay'):
+        parser.add_argument('--' + name, type=float, default=0.0)
+    parser.add_argument('--seed', type=int, default=1)
+    parser.add_argument('port', type=int)
+    parser.add_argument('module')
+    asyncio.run(relay(parser.parse_args()))
+
+
+if __name__ == '__main__':
+    main()

@@ -1,0 +1,223 @@
+#!/usr/bin/env python3
+"""Runs the whole of it: the firmware under qemu-system-arm, a bad line, the controller, and a script that moves the inputs. Then
+compares the controller's table with the moves, and with what `fio2070 check` and `record` say of its transcript. The last line
+says what was compared, and ends in `right`; the status is 0 then.
+
+Without --rough no frame is repeated, and each answer comes by the deadline or never, unless the machine is too busy. With --rough
+answers come late and twice: `check` says so of the transcript, and the table is right all the same. On a line so bad that the
+module's buffer runs over (--lose 0.85) the table has gaps."""
+
+import argparse
+import contextlib
+import csv
+import os
+import shutil
+import signal
+import subprocess
+import sys
+import threading
+import time
+
+sys.dont_write_bytecode = True
+
+import board
+import moves
+
+HERE = os.path.dirname(os.path.realpath(__file__))
+TOP = os.path.dirname(os.path.dirname(HERE))
+# The number at which --restart ends the first controller: the module has just been polled for 0.
+CRITICAL = '001'
+
+
+def options():
+    """The command line."""
+    parser = argparse.ArgumentParser(description=__doc__, formatter_class=argparse.RawDescriptionHelpFormatter)
+    parser.add_argument('--seconds', type=float, default=20.0, help='how long inputs are moved')
+    parser.add_argument('--rough', action='store_true', help='one frame in ten comes twice, and answers come up to 80 ms late')
+    parser.add_argument('--restart', choices=('module', 'controller'), help='half way through, an end is ended and begun anew')
+    parser.add_argument('--deadline', type=int, metavar='MS', help='how long the controller waits for an answer')
+    for name, default in ('lose', 0.1), ('damage', 0.02), ('repeat', 0.0):
+        parser.add_argument('--' + name, type=float, default=default, metavar='P', help='the part of frames, %s by default' % default)
+    parser.add_argument('--delay', type=float, default=8.0, metavar='MS', help='the most that a frame is delayed')
+    parser.add_argument('--seed', type=int, default=1)
+    parser.add_argument('--out', default=os.path.join(TOP, 'examples', 'out'), help='the folder of the programs and tables')
+    parser.add_argument('--program', help='the command fio2070, for check and record; `none` leaves these out')
+    option = parser.parse_args()
+    if option.rough:
+        option.repeat, option.delay = option.repeat or 0.1, 80.0
+    option.deadline = option.deadline or (40 if option.rough else 200)
+    return option
+
+
+class Controller:
+    """The controller at a port. It can be ended at once, and begun again."""
+
+    def __init__(self, option, port):
+        self.files = {name: os.path.join(option.out, name) for name in ('record.csv', 'events.csv', 'line.transcript', 'number')}
+        for path in self.files.values():
+            with contextlib.suppress(FileNotFoundError):
+                os.remove(path)
+        self.words = [os.path.join(option.out, 'controller'), '--deadline', str(option.deadline), '--keep', self.files['number'],
+                      '--transcript', self.files['line.transcript'], '--events', self.files['events.csv'], '--on', '0',
+                      '127.0.0.1:%d' % port, self.files['record.csv']]
+        self.process = None
+
+    def begin(self):
+        self.process = subprocess.Popen(self.words, stdin=subprocess.DEVNULL)
+
+    def end(self):
+        """Ends it as a user does. Returns whether its status is 0."""
+        self.process.send_signal(signal.SIGINT)
+        return self.process.wait(20) == 0
+
+    def number(self):
+        """The number that it keeps, as its file has it; none before the first block."""
+        try:
+            with open(self.files['number'], encoding='ascii') as file:
+                return file.read(3)
+        except FileNotFoundError:
+            return ''
+
+    def kill(self, seconds=20):
+        """Kills it when the number that it keeps is CRITICAL, or after this time, if it has not ended by itself."""
+        end = time.time() + seconds
+        while time.time() < end and self.process.poll() is None:
+            self.process.send_signal(signal.SIGSTOP)
+            if self.number() == CRITICAL:
+                break
+            self.process.send_signal(signal.SIGCONT)
+            time.sleep(0.002)
+        self.process.kill()
+        self.process.wait(20)
+
+    def rows(self):
+        """The rows of its table."""
+        with open(self.files['record.csv'], encoding='ascii') as file:
+            return list(csv.DictReader(file))
+
+
+def wait_for(condition, seconds=10):
+    """Waits until a condition holds, at most this long."""
+    end = time.time() + seconds
+    while not condition() and time.time() < end:
+        time.sleep(0.05)
+
+
+def settle(controller, lines):
+    """Waits until all that the inputs did is in the table: no entry waits, and two further blocks were taken."""
+    time.sleep(0.1)
+    wait_for(lambda: lines.counts()['waiting'] == 0, 60)
+    for _ in range(2):
+        number = controller.number()
+        wait_for(lambda before=number: controller.number() != before, 30)
+    print('firmware:', ' '.join('%s %d' % pair for pair in lines.counts().items()), flush=True)
+
+
+def moved(option, lines, controller):
+    """Moves inputs, and restarts an end half way through if that is asked for. Returns the moves."""
+    mover = moves.Mover(lines, option.seed)
+    mover.move(option.seconds / 2)
+    if option.restart == 'module':
+        lines.done('reset')
+        wait_for(lambda: any(row['input'] == 'restart' for row in controller.rows()))
+    elif option.restart == 'controller':
+        killer = threading.Thread(target=controller.kill)
+        killer.start()
+        while killer.is_alive():
+            mover.move(0.1)  # so that each block has entries
+        controller.begin()
+    mover.move(option.seconds / 2)
+    return mover.made
+
+
+def whole_run(option):
+    """Runs all of it. Returns the moves, the controller, and whether it ended well."""
+    link, lines_port, bad = board.free_port(), board.free_port(), board.free_port()
+    image = os.path.join(option.out, 'firmware.elf')
+    relay = [sys.executable, os.path.join(HERE, 'relay.py'), str(bad), '127.0.0.1:%d' % link, '--seed', str(option.seed),
+             *('--%s=%s' % (name, getattr(option, name)) for name in ('lose', 'damage', 'repeat', 'delay'))]
+    controller = Controller(option, bad)
+    with board.running(board.board_words(image, link, lines_port), signal.SIGTERM), board.running(relay, signal.SIGINT):
+        lines = board.Lines(lines_port)
+        time.sleep(1)
+        controller.begin()
+        try:
+            # Inputs are reported from their configuration on.
+            wait_for(controller.number)
+            time.sleep(0.2)
+            made = moved(option, lines, controller)
+            settle(controller, lines)
+            is_ended = controller.end()
+        finally:
+            controller.process.kill()
+            controller.process.wait()
+            lines.close()
+    return made, controller, is_ended
+
+
+def program_of(option):
+    """The command fio2070: the one that is named, the one of this tree if it is built, or that of the path."""
+    built = os.path.join(TOP, 'crates', 'fio2070', 'out', 'fio2070')
+    return option.program or (built if os.path.exists(built) else shutil.which('fio2070'))
+
+
+def said(program, tool, path):
+    """The lines that a tool of the program writes of a transcript."""
+    with open(path, encoding='ascii') as file:
+        return subprocess.run([program, tool], stdin=file, capture_output=True, text=True, check=False).stdout.splitlines()
+
+
+def as_record(rows):
+    """The lines that `record` writes of these rows."""
+    return ['record %d' % len(rows)] + ['gap' if row['input'] == 'gap' else 'input %s state %s stamp %d wide %s' % (
+        row['input'], row['state'], int(row['wide']) & 0xffff, row['wide']) for row in rows]
+
+
+def events_fault(rows, path):
+    """Whether the high-resolution events are the rows of the table: 82 is on, which is state 0 here, and input 0 is channel 1."""
+    due = [('82' if row['state'] == '0' else '81', str(int(row['input']) + 1)) for row in rows if row['wide']]
+    with open(path, encoding='ascii') as file:
+        return None if due == [tuple(line.rstrip('\n').split(',')[1:]) for line in file] else 'the events are not the table'
+
+
+def judged(option, made, controller):
+    """What is wrong, nothing if all is right, and the words that say what was compared."""
+    rows = controller.rows()
+    marks = [row['input'] for row in rows if row['wide'] == '']
+    fault = moves.fault_of(made, rows) or events_fault(rows, controller.files['events.csv'])
+    if not fault and not marks:
+        print('the time in the table less that of the move, ms: least %.1f, median %.1f, most %.1f' % moves.lateness(made, rows))
+    missing = len(made) - (len(rows) - len(marks))
+    gone = '%d missing at %d marks, each other' % (missing, len(marks)) if marks else 'each'
+    words = ['%d moves of inputs, %s once in the table and in the events' % (len(made), gone)]
+    program = program_of(option)
+    if program in (None, 'none'):
+        return fault, [*words, 'check and record are left out, without the program fio2070']
+    if option.rough or option.restart == 'module':
+        return fault, words
+    transcript = controller.files['line.transcript']
+    check = (said(program, 'check', transcript) or ['nothing'])[0]
+    if check.endswith((' pair', ' number')):
+        # The machine was too busy for the deadline.
+        return fault, [*words, 'an answer came late, so check and record are left out']
+    words.append('check says %s' % check)
+    if not check.startswith('good'):
+        fault = fault or 'the transcript breaks a rule'
+    elif said(program, 'record', transcript) != as_record(rows):
+        fault = fault or 'record does not write the table'
+    else:
+        words.append('record writes the table')
+    return fault, words
+
+
+def main():
+    option = options()
+    made, controller, is_ended = whole_run(option)
+    fault, words = judged(option, made, controller)
+    fault = fault or (None if is_ended else 'the controller did not end well')
+    print('WRONG: %s (%d moves of inputs)' % (fault, len(made)) if fault else '; '.join(words) + ': right')
+    return 1 if fault else 0
+
+
+if __name__ == '__main__':
+    sys.exit(main())
