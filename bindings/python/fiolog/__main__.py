@@ -14,7 +14,7 @@ COMMANDS = {
     'stats': 'how much, how often, how fast',
     'plan': 'how often to poll, how long an outage may last, how late a transition can be',
     'convert': 'the frames as a transcript, frames, pcapng or VCD',
-    'record': 'what the CPU learned, and which entries break a rule on content',
+    'record': 'what the CPU learned, and what breaks a rule on content',
     'live': 'decodes a line that talks now, and checks it by all these rules',
 }
 
@@ -54,7 +54,12 @@ def open_streams():
 def main(words=None):
     """Runs a subcommand. Status 0: good; 1: a fault is reported; 2: the command line is invalid; 3: a read failed."""
     open_streams()
-    parser, option = arguments(sys.argv[1:] if words is None else words)
+    try:
+        parser, option = arguments(sys.argv[1:] if words is None else words)
+    except OSError as fault:
+        # The library that the modules of the subcommands load.
+        say(str(fault))
+        return 3
     if getattr(option, 'pattern', None):
         try:
             if 'octets' not in re.compile(option.pattern).groupindex:

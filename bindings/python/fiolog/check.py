@@ -1,92 +1,61 @@
-"""`fiolog check`: every breach of the rules of transcripts, with what was due and what came."""
+"""`fiolog check`: every breach of the rules of transcripts and on content, with what was due and what came, or what it
+means."""
 
+import argparse
 import json
-import re
 import sys
 
-import fio2070
-
-from . import log, terminal
+from . import log, many, terminal
 from .counts import Counts
-from .decode import DATED, clock, direction_of
-from .events import DAMAGED, FRAME, REMARK
-from .judge import words_of
+from .decode import clock_of
+from .events import DAMAGED, FRAME
+from .late import LateRules
 from .message import POLL, message_of
-from .protocol import RULES
-
-# What was due and what came, by rule, where the library says both.
-DUE = {'pair': 'an answer %d was due, %d came', 'number': 'block %d was asked for, %d came',
-       'advance': 'block %d was due, %d came'}
-
-
-_OF_DAY = re.compile(r'\d{1,2}:\d\d:\d\d(?:[.,]\d{1,9})?')
+from .options import number_in
+from .protocol import BLOCK_ENTRIES, MOST_WAITING, STANDARD_WAITING
+from .rules import NineRules, Rules, is_lost
 
 
 def add_place(parser):
     """The options of where and when a log was taken."""
     parser.add_argument('--at', choices=('auto', 'cpu', 'module', 'bus'), default='auto',
                         help='where the log was taken; auto: at the CPU where directions say so, else on the bus')
-    parser.add_argument('--start-at-poll', action='store_true', help='leave out what comes before the first poll')
+    start = parser.add_mutually_exclusive_group()
+    start.add_argument('--start-at-poll', action='store_true', help='leave out what comes before the first poll')
+    add_whole(start)
+    add_limits(parser)
+
+
+def add_whole(parser):
+    """The option of what is above a log."""
+    parser.add_argument('--whole', action='store_true', help='the log begins with the start of both ends: more is found')
+
+
+def add_limits(parser):
+    """The option of the module's limits."""
+    parser.add_argument('--limits', nargs=2, action=Limits, default=(BLOCK_ENTRIES, STANDARD_WAITING), metavar=('ENTRIES', 'WAITING'),
+                        help='of the module: the most entries of a block, and the most that wait (%d %d)' % (BLOCK_ENTRIES, STANDARD_WAITING))
+
+
+class Limits(argparse.Action):
+    """Both limits of a module, in their ranges."""
+
+    def __call__(self, parser, namespace, values, option_string=None):
+        try:
+            limits = [number_in(1, most)(value) for value, most in zip(values, (BLOCK_ENTRIES, MOST_WAITING))]
+        except ValueError:
+            raise argparse.ArgumentError(self, 'a block has 1 to %d entries, and 1 to %d wait' % (BLOCK_ENTRIES, MOST_WAITING)) from None
+        setattr(namespace, self.dest, limits)
 
 
 def add_arguments(parser):
     log.add_arguments(parser)
     add_place(parser)
-    parser.add_argument('--json', action='store_true', help='an object for each breach, and one for the summary')
-
-
-class Judge:
-    """The library's checker, fed with frames as the CPU's end sent and heard them."""
-
-    def __init__(self, at):
-        self.at, self.checker, self.excused, self.polled = at, fio2070.Checker(), 0, None
-        self.is_behind_damage = False
-
-    def lose(self):
-        """A frame was damaged here: the CPU may have heard it, so up to the next poll nothing is said against the CPU."""
-        self.is_behind_damage = True
-
-    def place(self, read, event):
-        """Where this frame was logged: the CPU's end, the module's or the bus between."""
-        if self.at != 'auto':
-            return self.at
-        if not event.direction:
-            return 'bus'
-        is_own = event.text[:2] in ('> ', '< ')
-        return 'module' if read.reader.reversed > read.reader.agreeing and not is_own else 'cpu'
-
-    def direction(self, read, event):
-        """Whether the CPU sent a frame (`>`) or heard it (`<`)."""
-        direction = direction_of(event)
-        is_turned = self.place(read, event) == 'module' and event.direction
-        return {'>': '<', '<': '>'}[direction] if is_turned else direction
-
-    def breach(self, read, event):
-        """The breach of a frame, as its rule and words; nothing where it keeps the rules."""
-        place, direction = self.place(read, event), self.direction(read, event)
-        hear = self.checker.sent if direction == '>' else self.checker.heard
-        found = hear(event.octets)
-        is_poll, before = len(event.octets) == 2 and event.octets[0] == POLL, self.polled
-        was_damaged = self.is_behind_damage
-        if is_poll:
-            self.polled, self.is_behind_damage = event.octets[1], False
-        if found is None:
-            return None
-        rule, words = RULES[found.rule]
-        if place != 'cpu' and (was_damaged or rule == 'advance' and self.polled == before):
-            # Whether the CPU heard the answer is not known here: asking again, or for the next block, may be right.
-            self.excused += 1
-            return None
-        if found.has_due:
-            words = DUE[rule] % (found.due, found.got)
-        elif rule == 'readable':
-            words = words_of(event.octets) or words
-        return rule, words, found
-
-
-def is_lost(event):
-    """Whether a line has a frame that was damaged on its way here."""
-    return event.kind == REMARK and event.note.startswith('frame check')
+    parser.add_argument('--rules', choices=('all', 'nine'), default='all', help='nine: the rules of transcripts alone')
+    parser.add_argument('--late-answers', action='store_true', help='leave out answers that came late or twice, and count them')
+    many.add_arguments(parser)
+    parser.add_argument('--json', action='store_true',
+                        help='an object for each breach, with several logs for each log; and one for the summary')
 
 
 class Spans:
@@ -111,18 +80,17 @@ def _place(event):
     """The line of a frame, and its time where it has one; a time of the day as the log writes it."""
     if event.time is None:
         return 'in line %d' % event.number
-    of_day = _OF_DAY.search(event.text) if event.time < DATED else None
-    return 'in line %d at %s' % (event.number, of_day[0] if of_day else clock(event.time))
+    return 'in line %d at %s' % (event.number, clock_of(event))
 
 
-def due_of(found):
-    """What was due and what came, where the library says it."""
-    return {'due': found.due, 'got': found.got} if found.has_due else {}
-
-
-def frames_judged(read, option, begin):
-    """Each frame of a log with its breach and what judged it, which `begin` gives for each file; with --start-at-poll from the
-    first poll on."""
+def frames_judged(read, option, late=None):
+    """Each frame of a log with its breach and the rules that judged it, new ones for each file; with --start-at-poll from the
+    first poll on. If late answers are left out, they are counted in `late`."""
+    def begin():
+        if late:
+            return LateRules(option.at, option.limits, late)
+        judged = NineRules if getattr(option, 'rules', 'all') == 'nine' else Rules
+        return judged(option.at, not option.start_at_poll, option.whole, option.limits)
     judge, name, is_open = begin(), None, not option.start_at_poll
     for event in read.events():
         if is_lost(event):
@@ -137,20 +105,21 @@ def frames_judged(read, option, begin):
 
 
 def run(option):
-    """Checks the logs; status 1 where a rule is broken or no frame is there."""
+    """Checks a log, or several side by side; status 1 if a rule is broken or no frame is there."""
+    if len(option.files) > 1:
+        return many.run(option)
     paint, read, counts = terminal.painter('auto'), log.Log(option, sys.stdout.flush, writes=option.json), Counts()
     excused, breaches, spans = 0, 0, Spans()
-    for event, found, judge in frames_judged(read, option, lambda: Judge(option.at)):
+    for event, found, rules in frames_judged(read, option, counts if option.late_answers else None):
         counts.add(event, message_of(event.octets) if event.kind == FRAME else None)
-        excused = judge.excused
+        excused = rules.excused
         if found:
             breaches += 1
-            rule, words, breach = found
-            spans.add(rule, event)
+            spans.add(found.rule, event)
             if option.json:
-                print(json.dumps({'file': read.name, 'line': event.number, 'rule': rule, **due_of(breach), 'says': words}))
+                print(json.dumps({'file': read.name, 'line': event.number, 'rule': found.rule, **found.due, 'says': found.says}))
             else:
-                print('line %d: %s: %s' % (event.number, paint('fault', rule), words))
+                print('line %d: %s: %s' % (event.number, paint('fault', found.rule), found.says))
     if not read.summary():
         return 1
     for words in () if option.quiet else spans.words():
@@ -167,7 +136,8 @@ def say_excused(excused):
 
 def end(option, read, counts, excused, breaches):
     """The summary, and the hints."""
-    numbers = {**counts.in_short(), 'breaches': breaches}
+    late = {'late_answers': counts.late_answers} if option.late_answers else {}
+    numbers = {**counts.in_short(), **late, 'breaches': breaches}
     if option.json:
         print(json.dumps({'summary': numbers}))
     else:

@@ -7,6 +7,9 @@ from .message import AGAIN, BLOCK, LOST, POLL
 
 # How many response times are kept for the median and the 99th percentile: beyond, every second one, and so on.
 MOST_TIMES = 1 << 16
+# What two counts have together is the sum of what each has.
+SUMS = ('frames', 'damaged', 'polls', 'repeats', 'lost_answers', 'marks', 'entries', 'late_answers', 'types', 'inputs', 'fill',
+        'responses')
 
 
 class Sample:
@@ -22,6 +25,15 @@ class Sample:
             if len(self.kept) > MOST_TIMES:
                 self.kept, self.every = self.kept[::2], self.every * 2
         self.count += 1
+
+    def __add__(self, other):
+        both = Sample()
+        both.count, both.every = self.count + other.count, max(self.every, other.every)
+        both.most = max((one.most for one in (self, other) if one.count), default=None)
+        both.kept = [number for one in (self, other) for number in one.kept[::both.every // one.every]]
+        while len(both.kept) > MOST_TIMES:
+            both.kept, both.every = both.kept[::2], both.every * 2
+        return both
 
     def at(self, part):
         """The number below which this part of all lies; None where there is none."""
@@ -40,6 +52,20 @@ class Counts:
         self.responses, self.entries = Sample(), 0
         self.first = self.last = self.open_poll = self.number = self.sent_at = self.command = None
         self.begins_with_poll = self.block = None
+        self.late_answers = 0   # those that late.py leaves out
+
+    def __add__(self, other):
+        """The counts of two logs, or of two parts of a log. Their length is from the first time to the last."""
+        both = Counts()
+        for name in SUMS:
+            setattr(both, name, getattr(self, name) + getattr(other, name))
+        # A poll at the end of the first has no answer.
+        both.lost_answers += self.open_poll is not None
+        both.open_poll = other.open_poll
+        both.begins_with_poll = other.begins_with_poll if self.begins_with_poll is None else self.begins_with_poll
+        times = [time for one in (self, other) for time in (one.first, one.last) if time is not None]
+        both.first, both.last = min(times, default=None), max(times, default=None)
+        return both
 
     def add(self, event, message):
         """Counts a frame; a damaged one has no message."""

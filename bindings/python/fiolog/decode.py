@@ -4,6 +4,7 @@ import argparse
 import csv
 import functools
 import json
+import re
 import sys
 import time
 
@@ -15,6 +16,7 @@ from .options import line_range, message_type, number_in, status_letters
 
 # Times from here on are of a date.
 DATED = 1e8
+_OF_DAY = re.compile(r'\d{1,2}:\d\d:\d\d(?:[.,]\d{1,9})?')
 COLUMNS = ['file', 'line', 'time', 'direction', 'octets', 'type', 'says', 'input', 'state', 'stamp', 'wide']
 
 
@@ -23,7 +25,7 @@ def add_arguments(parser):
     form = parser.add_mutually_exclusive_group()
     form.add_argument('--json', action='store_true',
                       help='one object a line: file, line, time (seconds or null), direction (> or <) and octets; then fault, or '
-                           'type, says, the numbers of that message by name, and entries or items')
+                           'type, says, the numbers of that message by name, what its status bits say, and entries or items')
     form.add_argument('--csv', action='store_true', help='a table; an entry a row')
     parser.add_argument('--input', type=number_in(0, 63), metavar='N', help='only messages with this input, and of them its lines')
     parser.add_argument('--type', type=message_type, action='append', metavar='N', help='only this type: 49 to 60, 177 to 188, poll, block')
@@ -47,6 +49,12 @@ def clock(seconds):
         return '%.6f' % seconds
     whole, part = divmod(round(seconds * 1e6), 1_000_000)
     return _date(whole) + ('%06d' % part if part % 1000 else '%03d' % (part // 1000))
+
+
+def clock_of(event):
+    """The time of a frame: a time of the day as the log writes it, else as `clock` has it."""
+    of_day = _OF_DAY.search(event.text) if event.time is not None and event.time < DATED else None
+    return of_day[0] if of_day else clock(event.time)
 
 
 def direction_of(event):
@@ -91,10 +99,10 @@ class Filter:
 
 
 def as_text(write, paint, takes_part=lambda part: True):
-    """Writes messages in the words of `show`."""
+    """Writes messages in the words of `show`, and what the bits of a status say."""
     def line(name, event, message):
         direction = direction_of(event)
-        head = '%-6s %s%s ' % ('%d:' % event.number, clock(event.time) + ' ' if event.time is not None else '', direction)
+        head = '%-6s %s%s ' % ('%d:' % event.number, clock_of(event) + ' ' if event.time is not None else '', direction)
         if message is None:
             write('%s%s\n' % (head, paint('fault', event.note)))
             return
@@ -102,7 +110,8 @@ def as_text(write, paint, takes_part=lambda part: True):
         if message.code == BLOCK and message.fields['status']:
             colour = 'mark'
         says, *lines = message.lines()
-        write('%s%s\n' % (head, paint(colour, says))
+        bits = ''.join(paint('dim', '  %s: %s' % bit) + '\n' for bit in message.bits().items())
+        write('%s%s\n%s' % (head, paint(colour, says), bits)
               + ''.join(words + '\n' for part, words in zip(message.parts, lines) if takes_part(part)))
     return line
 
@@ -116,6 +125,8 @@ def as_json(write, takes_part):
             one['fault'] = event.note
         else:
             one.update(type=message.code, says=message.lines()[0], **message.fields)
+            if message.bits():
+                one['bits'] = message.bits()
             if message.parts:
                 one['entries' if message.code == BLOCK else 'items'] = list(filter(takes_part, message.parts))
         write(json.dumps(one) + '\n')

@@ -9,6 +9,7 @@ import selectors
 import shlex
 import signal
 import socket
+import struct
 import subprocess
 import sys
 import time
@@ -24,11 +25,17 @@ from .message import message_of
 from .options import number_in
 from .pcapng import Writer
 from .reader import Reader
-from .rules import Rules
+from .rules import DROPPED, Rules, is_lost
 from .source import Ends
 
 CHUNK = 1 << 16
 LONGEST_DATAGRAM = 1 << 16
+# The system's buffer for datagrams: some seconds of the densest traffic.
+DATAGRAM_BUFFER = 1 << 25
+# Linux: the count of dropped datagrams comes with each one (socket(7)).
+SO_RXQ_OVFL = 40
+# Linux: a buffer beyond what the system's administrator allows to all.
+SO_RCVBUFFORCE = 33
 # A frame with its header and check, each octet stuffed; a babbler's octets beyond are dropped.
 LONGEST_STUFFED = 2 * (LONGEST_FRAME + 4)
 # Seconds without a frame after which the status line says so.
@@ -50,6 +57,8 @@ def add_arguments(parser):
     parser.add_argument('--transcript', metavar='FILE', help='write what comes as a transcript')
     parser.add_argument('--pcapng', metavar='FILE', help='write it as pcapng; - for `| wireshark -k -i -`')
     parser.add_argument('--at', choices=('auto', 'cpu', 'module', 'bus'), default='auto', help='where it is heard')
+    check.add_whole(parser)
+    check.add_limits(parser)
     parser.add_argument('--seconds', type=float, metavar='N', help='end after so long')
     parser.add_argument('-v', '--verbose', action='store_true', help='name each line that is passed over, and why')
     parser.add_argument('-q', '--quiet', action='store_true', help='do not write the messages')
@@ -72,6 +81,10 @@ class Lines:
         """The events of what is left."""
         yield from self.feed(self.ends.end or b'\n' if self.ends.left else b'')
         yield from self.reader.end()
+
+    def losses(self):
+        """What did not come whole, by its words: a line says it itself."""
+        return {}
 
 
 class Hdlc:
@@ -109,23 +122,46 @@ class Hdlc:
         return Line(self.number, REMARK, '', note='frame check is wrong')
 
     def end(self):
-        """Nothing: what has no flag behind it is no frame."""
+        """Nothing: what has no flag after it is no frame."""
         return ()
+
+    def losses(self):
+        """What did not come whole, by its words."""
+        return {'wrong frame checks': self.wrong}
 
 
 class Datagrams:
-    """A frame a datagram."""
+    """A frame a datagram. One without octets is none. What the system dropped makes a remark, since the CPU may have heard it."""
 
     def __init__(self):
-        self.reader, self.number = Reader(), 0
+        self.reader, self.number, self.dropped, self.unsaid = Reader(), 0, 0, 0
+
+    def receive(self, heard):
+        """Returns the octets of a datagram; the count of those that the system dropped comes with it."""
+        octets, notes, _, _ = heard.recvmsg(LONGEST_DATAGRAM, socket.CMSG_SPACE(4))
+        for level, kind, data in notes:
+            if (level, kind) == (socket.SOL_SOCKET, SO_RXQ_OVFL):
+                count, = struct.unpack('=I', data[:4])
+                self.unsaid += (count - self.dropped) % (1 << 32)
+                self.dropped = count
+        return octets
 
     def feed(self, octets):
+        """The event of a datagram, with a remark before it if others were dropped."""
         self.number += 1
-        yield event_of(self.number, octets)
+        if self.unsaid:
+            yield Line(self.number, REMARK, '', note='%s: %d datagrams' % (DROPPED, self.unsaid))
+            self.unsaid = 0
+        if octets:
+            yield event_of(self.number, octets)
 
     def end(self):
         """Nothing is held."""
         return ()
+
+    def losses(self):
+        """What did not come whole, by its words."""
+        return {'datagrams dropped': self.dropped}
 
 
 def event_of(number, octets):
@@ -139,12 +175,12 @@ class Station:
 
     def __init__(self, option, source):
         self.option, self.source, self.counts = option, source, Counts()
-        self.breaches, self.broken_entries, self.is_open = 0, 0, False
+        self.breaches, self.content_breaches, self.is_open = 0, 0, False
         self.name, self.reader, self.form = '-', source.reader, ''
         self.out = sys.stderr if option.pcapng == '-' else sys.stdout
         self.paint, self.status = terminal.painter('auto'), terminal.Status()
         self.line = as_text(self._write, self.paint)
-        self.rules = Rules(option.at)
+        self.rules = Rules(option.at, whole=option.whole, limits=option.limits)
         self.transcript = open(option.transcript, 'w') if option.transcript else None
         self.capture = None
         if option.pcapng:
@@ -155,7 +191,7 @@ class Station:
     def add(self, event):
         """A frame, good or damaged; other lines are passed over."""
         self.remark()
-        if check.is_lost(event):
+        if is_lost(event):
             self.rules.lose()
         if event.kind not in (FRAME, DAMAGED):
             if event.kind == PASSED and self.option.verbose:
@@ -197,7 +233,7 @@ class Station:
         found = self.rules.breach(self, event) if self.is_open else None
         if found:
             self.breaches += not found.is_content
-            self.broken_entries += found.is_content
+            self.content_breaches += found.is_content
             self._write('line %d: %s: %s\n' % (event.number, self.paint('fault', found.rule), found.says))
 
     def flush(self):
@@ -216,10 +252,10 @@ class Station:
     def numbers(self, is_over=True):
         """What was counted."""
         numbers = {name.replace('_', ' '): number for name, number in self.counts.in_short(is_over).items()}
-        numbers.update({'breaches': self.breaches, 'breaches in content': self.broken_entries})
+        numbers.update({'breaches': self.breaches, 'breaches in content': self.content_breaches})
         passed = self.source.reader.kinds['passed']
         return {**numbers, **({'lines passed over': passed} if passed else {}),
-                **({'wrong frame checks': self.source.wrong} if getattr(self.source, 'wrong', 0) else {})}
+                **{words: count for words, count in self.source.losses().items() if count}}
 
     def end(self):
         """The summary; status 1 where a rule is broken or nothing came."""
@@ -230,10 +266,10 @@ class Station:
             self._say(words)
         self._write(', '.join('%s %d' % pair for pair in self.numbers().items()) + '\n')
         self._flush()
-        check.say_excused(self.rules.judge.excused)
+        check.say_excused(self.rules.excused)
         if not self.counts.frames:
             terminal.say('no frame came')
-        return 1 if self.breaches or self.broken_entries or not self.counts.frames else 0
+        return 1 if self.breaches or self.content_breaches or not self.counts.frames else 0
 
 
 def opened(option):
@@ -242,9 +278,8 @@ def opened(option):
         process = subprocess.Popen(shlex.split(option.exec), stdout=subprocess.PIPE)
         return process.stdout, lambda: os.read(process.stdout.fileno(), CHUNK), Lines(), lambda: end_of(process)
     if option.udp is not None:
-        heard = socket.socket(socket.AF_INET, socket.SOCK_DGRAM)
-        heard.bind((option.host, option.udp))
-        return heard, lambda: heard.recv(LONGEST_DATAGRAM), Datagrams(), heard.close
+        heard, source = datagram_socket(option), Datagrams()
+        return heard, lambda: source.receive(heard), source, heard.close
     if option.fifo:
         # Without a writer an open would wait, and not look at the time.
         descriptor = os.open(option.fifo, os.O_RDONLY | os.O_NONBLOCK)
@@ -253,6 +288,18 @@ def opened(option):
     if isinstance(port, int):
         return port, lambda: os.read(port, CHUNK), Hdlc(), lambda: os.close(port)
     return port, lambda: os.read(port.fileno(), CHUNK), Hdlc(), port.close
+
+
+def datagram_socket(option):
+    """A socket with a large buffer, that says how many datagrams were dropped if the system can."""
+    heard = socket.socket(socket.AF_INET, socket.SOCK_DGRAM)
+    for name, value in ((SO_RCVBUFFORCE, DATAGRAM_BUFFER), (socket.SO_RCVBUF, DATAGRAM_BUFFER), (SO_RXQ_OVFL, 1)):
+        try:
+            heard.setsockopt(socket.SOL_SOCKET, name, value)
+        except OSError:
+            pass        # not Linux, or no leave for the first: what can be set is set
+    heard.bind((option.host, option.udp))
+    return heard
 
 
 def end_of(process):

@@ -8,7 +8,7 @@ from fio2070.constants import BIT_AGAIN as AGAIN, BIT_LOST as LOST, BIT_MORE as 
 from fio2070.constants import TYPE_ANSWER, TYPE_CONFIGURE_INPUTS as CONFIGURATION, TYPE_POLL as POLL
 
 from . import judge
-from .fields import FIELDS
+from .fields import BITS, FIELDS
 
 BLOCK = POLL + TYPE_ANSWER
 # The bits of a block's status.
@@ -29,6 +29,11 @@ class Message(NamedTuple):
     def lines(self):
         """Returns the lines that `show` writes: one of the message, and one of each part."""
         return fio2070.show(self.octets).splitlines()
+
+    def bits(self):
+        """Returns what the bits of its flags or its status that are 1 say, by their letters."""
+        return {letter: says for name, value in self.fields.items()
+                for letter, bit, says in BITS.get((self.code, name), ()) if value & bit}
 
     @property
     def is_answer(self):

@@ -19,6 +19,19 @@ def number_in(low, high):
     return read
 
 
+def counted(low, high, first, last):
+    """A count and a number, as `60:20`."""
+    read_count, read_number = number_in(low, high), number_in(first, last)
+
+    def read(text):
+        count, colon, number = text.partition(':')
+        if not colon:
+            raise ValueError(text)
+        return read_count(count), read_number(number)
+    read.__name__ = 'number from %d to %d, a colon, and a number from %d to %d' % (low, high, first, last)
+    return read
+
+
 def message_type(text):
     """A type of message, by its number or name."""
     number = TYPES.get(text) or (int(text) if text.isascii() and text.isdigit() else 0)

@@ -5,7 +5,7 @@ import json
 import sys
 
 from . import terminal
-from .options import number_in
+from .options import counted, number_in
 from .protocol import BLOCK_ENTRIES, INPUTS, MOST_WAITING, STANDARD_WAITING
 
 WAITING = {'standard': STANDARD_WAITING, 'largest': MOST_WAITING}
@@ -17,15 +17,18 @@ MOST_FILTER, MOST_SCANS = 255, 1 << 31
 
 
 def add_arguments(parser):
-    parser.add_argument('--inputs', type=number_in(1, INPUTS), required=True, metavar='N',
+    parser.add_argument('--inputs', type=number_in(1, INPUTS), metavar='N',
                         help='inputs that are not ignored, 1 to %d' % INPUTS)
-    parser.add_argument('--filter', type=number_in(0, MOST_FILTER), required=True, metavar='N',
+    parser.add_argument('--filter', type=number_in(0, MOST_FILTER), metavar='N',
                         help='the smallest filter of one of them, 0 to 255')
+    parser.add_argument('--group', type=counted(1, INPUTS, 0, MOST_FILTER), action='append', metavar='N:FILTER',
+                        help='instead of both: at most N inputs are open in a group with such filters; repeat it for each group')
     parser.add_argument('--limits', choices=WAITING, default='standard',
                         help='{:,} entries wait (standard) or {:,}'.format(*WAITING.values()))
     parser.add_argument('--outage', type=number_in(0, MOST_SCANS), metavar='MS', help='the link is down so long')
     parser.add_argument('--lost', type=number_in(0, 1000), default=0, metavar='N', help='rounds lost in a row')
     parser.add_argument('--every', type=number_in(1, MOST_SCANS), metavar='MS', help='a poll comes so often')
+    parser.add_argument('-v', '--verbose', action='store_true', help='also the clause that each number is from')
     parser.add_argument('--json', action='store_true', help='a list of objects')
 
 
@@ -46,6 +49,27 @@ def lossy_pace(every, within):
     """How far apart rounds may begin of which at most `LOST` of each `EACH` are lost, where a clean one makes up for `every`
     scans and the blocks may be `within` behind."""
     return min((EACH - 1 - LOST) * every // (EACH - 1), within // (LOST + 1))
+
+
+def differing_pace(groups, per_block):
+    """The most scans in which the inputs of these groups report no more than a block takes: each reports once, and once more
+    for each filter that ends in them."""
+    every = 0
+    while sum(count * (1 + every // max(length, 1)) for count, length in groups) <= per_block and every < MOST_FILTER * per_block:
+        every += 1
+    return every
+
+
+def differing(option):
+    """The rows where the filters of the open inputs differ."""
+    every = differing_pace(option.group, BLOCK_ENTRIES)
+    yield 'poll every', '%d ms' % every, '`enough` of `FewChangeEach`'
+    if every == 0 or 2 * BLOCK_ENTRIES > WAITING[option.limits]:
+        return
+    yield 'entries that wait, at most', BLOCK_ENTRIES, '`few_wait` of `IsLateForEach`'
+    yield 'late, at most', '%d ms' % (every - 1), '`late` of `IsLateForEach`'
+    yield 'entries that wait, at most, answers lost', 2 * BLOCK_ENTRIES, '`few_wait` of `IsLateForEach`'
+    yield 'late, at most, answers lost', '%d ms' % (2 * every - 1), '`late` of `IsLateForEach`'
 
 
 def paces(inputs, filter_length, per_block, waiting, left):
@@ -112,11 +136,22 @@ def outage(option, inputs, length, per_block, waiting, longest):
 
 def run(option):
     """Writes the row."""
-    rows = list(row(option))
+    if option.group and sum(count for count, _ in option.group) > INPUTS:
+        print('fiolog: the groups have more than %d inputs' % INPUTS, file=sys.stderr)
+        return 2
+    if option.group and (option.inputs, option.filter, option.outage, option.every, option.lost) != (None, None, None, None, 0):
+        print('fiolog: --group goes with --limits and --json alone', file=sys.stderr)
+        return 2
+    if not option.group and (option.inputs is None or option.filter is None):
+        print('fiolog: plan wants --inputs and --filter, or --group', file=sys.stderr)
+        return 2
+    rows = list(differing(option) if option.group else row(option))
     if option.json:
         json.dump([{'what': what, 'number': number, 'from': source} for what, number, source in rows], sys.stdout, indent=1)
         print()
     else:
-        terminal.table('%d open inputs with filters of at least %d, %s limits'
-                       % (option.inputs, option.filter, option.limits), ['what', 'number', 'from'], rows)
+        groups = option.group or [(option.inputs, option.filter)]
+        opened = ', '.join('%d open inputs with filters of at least %d' % group for group in groups)
+        names = ['what', 'number', 'from'][:3 if option.verbose else 2]
+        terminal.table('%s, %s limits' % (opened, option.limits), names, [one[:len(names)] for one in rows])
     return 0

@@ -1,5 +1,5 @@
-"""The limits of a module; and the rules by their numbers: the name of each, and what a line or an entry does that breaks it.
-Written by tools/generate-constants."""
+"""The limits of a module; and the rules by their numbers: the name of each, and what a line does that breaks it, or what a
+breach of a rule on content means. Written by tools/generate-constants."""
 
 INPUTS = 64
 BLOCK_ENTRIES = 255
@@ -32,10 +32,27 @@ RULES = {
 
 CONTENT_RULES = {
     1: ('order',
-        'has a wide time before that of the entry above it: two are swapped, or the module restarted'),
-    2: ('alternate',
-        'has the state of the latest entry of its input: one is lost, doubled or turned'),
-    3: ('apart',
-        'has the other state than the latest entry of its input, but is nearer to it than the filter for the '
-        'change'),
+        'input {input} is not later than the entry above it: two are swapped, one is doubled, or the module '
+        'restarted'),
+    2: ('fresh',
+        'input {input} changed before the block above was made, which has all changes until then: this one is '
+        'doubled or late'),
+    3: ('alternate',
+        'input {input} went to {state} twice: a change between was lost, or this one doubled'),
+    4: ('apart',
+        'input {input} went to {state} sooner than its filter lets it: a time or a filter is wrong'),
+    5: ('ignored',
+        'input {input} is ignored, and changed in the record all the same'),
+    6: ('state',
+        'input {input} had another state in the answer 181 than in the record: a change was lost or turned'),
+    7: ('clock',
+        'the counter went back: the module restarted, or a stamp is wrong'),
+    8: ('done',
+        'the module refused a load of the counter'),
+    9: ('accepted',
+        'the module refused a configuration of inputs that it has'),
+    10: ('cleared',
+        'a flag is set that the command clears'),
+    11: ('watchdog',
+        'the module says that no watchdog was set before, and one was'),
 }

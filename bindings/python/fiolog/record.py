@@ -1,6 +1,7 @@
 """`fiolog record`: what the CPU learned: the record of the proved CPU's end, which heard the answers of the log, and each
-entry that breaks a rule on content."""
+breach of a rule."""
 
+import csv
 import json
 import shutil
 import sys
@@ -9,12 +10,12 @@ from typing import NamedTuple
 
 import fio2070
 
-from . import log, plot, terminal
+from . import hires, log, plot, terminal
 from .check import add_place, frames_judged
-from .decode import clock
+from .decode import clock_of
 from .events import FRAME, Line
 from .message import BLOCK, LOST, POLL, message_of
-from .rules import Breach, Rules
+from .rules import Breach
 from .waveform import Block, draw
 
 COLUMNS = ['line', 'time', 'input', 'state', 'stamp', 'wide']
@@ -26,8 +27,10 @@ def add_arguments(parser):
     form = parser.add_mutually_exclusive_group()
     form.add_argument('--text', action='store_true', help='as `fio2070 record` writes it, to the first breach')
     form.add_argument('--json', action='store_true', help='one object a line: an item, or with `breaks` a breach')
+    form.add_argument('--csv', action='store_true', help='a table; an item or a breach a row')
     form.add_argument('--vcd', action='store_true', help='a VCD file; breaches on standard error')
     form.add_argument('--plot', metavar='FILE', help='a picture of the inputs over time, as .png, .svg or .pdf (by matplotlib)')
+    hires.add_arguments(parser)
 
 
 class Taken(NamedTuple):
@@ -66,7 +69,7 @@ class Hearing:
 def taken(read, option):
     """What each frame adds to the record or breaks, where it does either."""
     hearing = Hearing()
-    for event, breach, _ in frames_judged(read, option, lambda: Rules(option.at, not option.start_at_poll)):
+    for event, breach, _ in frames_judged(read, option):
         is_taken, items = False, []
         if event.kind == FRAME and event.octets[0] == POLL:
             words = hearing.note(event)
@@ -101,10 +104,9 @@ class Record:
                             one.breach.entry if one.breach else -1)
 
     def parts(self):
-        """The items and the breaches with their lines: an entry's breach above its item."""
+        """The items and the breaches with their lines: a breach of a rule on content below the items that are above it."""
         for one in self:
-            above = one.items and one.items[0].gap
-            place = one.breach.entry + above if one.breach and one.breach.entry >= 0 else len(one.items)
+            place = one.breach.items if one.breach and one.breach.is_content else len(one.items)
             yield from ((one.event, item, None) for item in one.items[:place])
             if one.breach:
                 yield one.event, None, one.breach
@@ -122,22 +124,36 @@ def write(record):
         if breach:
             print(breach.words(event.number))
         else:
-            print('%-6s %s' % ('%d:' % event.number, (clock(event.time) + ' ' if event.time else '') + item_words(item)))
+            print('%-6s %s' % ('%d:' % event.number, (clock_of(event) + ' ' if event.time is not None else '') + item_words(item)))
 
 
 def write_json(record):
     """An object a line."""
     for event, item, breach in record.parts():
         if breach:
-            fields = {'input': breach.input, 'entry': breach.entry} if breach.is_content else {}
+            fields = {name: number for name, number in (('input', breach.input), ('entry', breach.entry)) if number >= 0}
             fields['breaks'] = breach.rule
         else:
             fields = {'gap': True} if item.gap else {name: getattr(item, name) for name in COLUMNS[2:]}
         print(json.dumps({'line': event.number, 'time': event.time, **fields}))
 
 
+def write_csv(record):
+    """A row for each item and each breach; a gap mark has `gap` in its last column, a breach its rule."""
+    rows = csv.writer(sys.stdout, lineterminator='\n')
+    rows.writerow([*COLUMNS, 'mark'])
+    for event, item, breach in record.parts():
+        head = [event.number, '' if event.time is None else event.time]
+        if breach:
+            rows.writerow([*head, breach.input if breach.is_content else '', '', '', '', breach.rule])
+        elif item.gap:
+            rows.writerow([*head, '', '', '', '', 'gap'])
+        else:
+            rows.writerow([*head, *(getattr(item, name) for name in COLUMNS[2:]), ''])
+
+
 def write_text(record):
-    """What `fio2070 record` writes: the items above the first entry that breaks a rule, then that breach; where one of the
+    """What `fio2070 record` writes: the items above the first breach of a rule on content, then that breach; where one of the
     rules of `check` is broken, the first such breach alone."""
     count, broken, verdict = 0, '', ''
     with tempfile.TemporaryFile('w+') as items:
@@ -162,11 +178,16 @@ def run(option):
     """Writes the record; status 1 where a rule is broken or no frame is there."""
     read = log.Log(option, sys.stdout.flush, writes=not option.plot)
     record = Record(read, option)
-    if option.plot:
+    if option.hires:
+        if hires.missing(option):
+            terminal.say('--hires needs %s too' % ', '.join(hires.missing(option)))
+            return 2
+        hires.write(record.blocks(), option)
+    elif option.plot:
         if not plot.write(record.blocks(), option.plot):
             return 3
     elif option.vcd:
         draw(record.blocks(), sys.stdout)
     else:
-        (write_text if option.text else write_json if option.json else write)(record)
+        (write_text if option.text else write_json if option.json else write_csv if option.csv else write)(record)
     return 0 if read.summary() and not record.breaches else 1

@@ -21,7 +21,7 @@ def time_of(value):
         found = MATCHERS[name].fullmatch(text)
         if found:
             return times.seconds(found.groupdict())
-    return float(text) if re.fullmatch(r'[+-]?\d{1,12}(?:\.\d*)?(?:e[+-]?\d{1,2})?', text, re.I) else None
+    return times.in_years(float(text)) if re.fullmatch(r'[+-]?\d{1,12}(?:\.\d*)?(?:e[+-]?\d{1,2})?', text, re.I) else None
 
 
 def octets_of(value):

@@ -4,37 +4,128 @@ are kept: below a breach from the next poll on."""
 from typing import NamedTuple
 
 import fio2070
-from fio2070.constants import TYPE_LOAD_COUNTER
+from fio2070.constants import CONTENT_IGNORED, TYPE_LOAD_COUNTER
 
-from .check import Judge
-from .message import POLL
-from .protocol import CONTENT_RULES
+from .decode import direction_of
+from .events import REMARK
+from .judge import words_of
+from .message import BLOCK, LOST, MORE, POLL, message_of
+from .protocol import CONTENT_RULES, INPUTS, RULES
+
+# What was due and what came, by rule, where the library says both.
+DUE = {'pair': 'an answer %d was due, %d came', 'number': 'block %d was asked for, %d came',
+       'advance': 'block %d was due, %d came'}
 
 
 class Breach(NamedTuple):
-    """A breach in a line: of a rule on content by an entry, with its index in the block and its input, or of one of the
-    others by the frame. `says` is what was due and what came."""
+    """A breach in a line. Of a rule on content: how many items of the block are recorded above it, its input and the index of
+    the entry that breaks the rule, where it has them. `says` is what was due and what came, or what the breach means; `due`
+    is what was due and what came, by the library."""
     rule: str
     says: str = ''
-    entry: int = -1
+    due: dict = {}
+    items: int = -1
     input: int = -1
+    entry: int = -1
 
     @property
     def is_content(self):
-        """Whether an entry breaks a rule on content."""
-        return self.input >= 0
+        """Whether a rule on content is broken."""
+        return self.items >= 0
 
     def words(self, line):
         """As `fio2070 record` says it."""
-        return 'line %d %sbreaks %s' % (line, 'input %d ' % self.input if self.is_content else '', self.rule)
+        return 'line %d %sbreaks %s' % (line, 'input %d ' % self.input if self.input >= 0 else '', self.rule)
+
+
+class Judge:
+    """The library's checker, fed with frames as the CPU's end sent and heard them."""
+
+    def __init__(self, at, limits=(), late=None):
+        self.at, self.late, self.limits, self.excused, self.polled = at, late, limits, 0, None
+        self.checker, self.is_behind_damage = fio2070.Checker(*limits), False
+
+    def lose(self):
+        """A frame was damaged here: the CPU may have heard it, so up to the next poll nothing is said against the CPU, and there
+        the rules begin anew."""
+        self.is_behind_damage = True
+
+    def place(self, read, event):
+        """Where this frame was logged: the CPU's end, the module's or the bus between."""
+        if self.at != 'auto':
+            return self.at
+        if not event.direction:
+            return 'bus'
+        is_own = event.text[:2] in ('> ', '< ')
+        return 'module' if read.reader.reversed > read.reader.agreeing and not is_own else 'cpu'
+
+    def direction(self, read, event):
+        """Whether the CPU sent a frame (`>`) or heard it (`<`)."""
+        direction = direction_of(event)
+        is_turned = self.place(read, event) == 'module' and event.direction
+        return {'>': '<', '<': '>'}[direction] if is_turned else direction
+
+    def breach(self, read, event):
+        """The breach of a frame; None where it keeps the rules."""
+        place, direction = self.place(read, event), self.direction(read, event)
+        if self.late and self.late.leaves_out(direction, event.octets, self.checker):
+            return None
+        is_poll, before = len(event.octets) == 2 and event.octets[0] == POLL, self.polled
+        was_damaged = self.is_behind_damage
+        if is_poll and was_damaged and place != 'cpu':
+            self.checker = fio2070.Checker(*self.limits)
+        hear = self.checker.sent if direction == '>' else self.checker.heard
+        found = hear(event.octets)
+        if is_poll:
+            self.polled, self.is_behind_damage = event.octets[1], False
+        if found is None:
+            return None
+        rule, words = RULES[found.rule]
+        if self.late and self.late.excuses(rule):
+            return None
+        if place != 'cpu' and (was_damaged or rule == 'advance' and self.polled == before):
+            # Whether the CPU heard the answer is not known here: asking again, or for the next block, may be right.
+            self.excused += 1
+            return None
+        if found.has_due:
+            return Breach(rule, DUE[rule] % (found.due, found.got), {'due': found.due, 'got': found.got})
+        if rule == 'limits':
+            return Breach(rule, limits_words(message_of(event.octets)))
+        return Breach(rule, words_of(event.octets) or words if rule == 'readable' else words)
+
+
+def limits_words(block):
+    """What a block does that breaks the rule on limits."""
+    absent = [part['input'] for part in block.parts if part['input'] >= INPUTS]
+    if absent:
+        return 'an entry is of input %d, above %d' % (absent[0], INPUTS - 1)
+    if block.fields['status'] & MORE:
+        return 'C says that more entries wait than a block takes, and %d entries came' % len(block.parts)
+    return 'F says that entries were pushed out, and C is not there: they are only where more wait than a block takes'
+
+
+# The remark on frames that the system dropped before they were read.
+DROPPED = 'dropped by the system'
+
+
+def is_lost(event):
+    """Whether frames were damaged or dropped on their way here."""
+    return event.kind == REMARK and event.note.startswith(('frame check', DROPPED))
 
 
 class Rules:
-    """The library's two checkers over a log. Where it `begins` in the middle of traffic, those on content wait for a poll."""
+    """The library's two checkers over a log, which may begin anywhere. Where it `begins` in the middle of traffic, those on
+    content wait for a poll; a `whole` log begins with the start of both ends. The module has the standard limits, or these: the
+    most entries of a block, and the most that wait."""
 
-    def __init__(self, at, begins=True):
-        self.judge, self.load = Judge(at), None
-        self.content = fio2070.ContentChecker() if begins else None
+    def __init__(self, at, begins=True, whole=False, limits=()):
+        self.judge, self.load = Judge(at, limits), None
+        self.content = fio2070.ContentChecker(whole) if begins else None
+
+    @property
+    def excused(self):
+        """How many frames are not judged."""
+        return self.judge.excused
 
     def lose(self):
         """A frame was damaged here: the rules on content begin again at the next poll."""
@@ -47,27 +138,47 @@ class Rules:
         found = self.judge.breach(read, event)
         if found:
             self.content = None
-            return Breach(*found[:2])
+            return found
         if self.judge.direction(read, event) == '<':
             return self.heard(event.octets)
         if self.content is None and is_poll:
             self.begin()
-        if event.octets[:1] == bytes([TYPE_LOAD_COUNTER]):
-            self.load = event.octets
+        self.note_load(event.octets)
         if self.content is not None:
             self.content.sent(event.octets)
         return None
 
+    def note_load(self, octets):
+        """Keeps a load of the counter that was sent."""
+        if octets[:1] == bytes([TYPE_LOAD_COUNTER]):
+            self.load = octets
+
     def heard(self, octets):
-        """The breach of an entry in a frame that the CPU heard."""
+        """The breach of a rule on content in a frame that the CPU heard."""
         found = self.content and self.content.heard(octets)
-        if not found:
-            return None
-        rule, words = CONTENT_RULES[found.rule]
-        return Breach(rule, 'input %d: %s' % (found.input, words), found.entry, found.input)
+        return content_breach(octets, found) if found else None
 
     def begin(self):
         """Goes on below a breach. A load of the counter that was sent above still counts."""
         self.content = fio2070.ContentChecker()
         if self.load:
             self.content.sent(self.load)
+
+
+class NineRules(Rules):
+    """The rules of transcripts alone."""
+
+    def breach(self, read, event):
+        """The breach of a frame; None where it keeps these rules."""
+        return self.judge.breach(read, event)
+
+
+def content_breach(octets, found):
+    """A breach of a rule on content in the words of its rule."""
+    rule, words = CONTENT_RULES[found.rule]
+    is_entry = found.rule <= CONTENT_IGNORED
+    # Entries are the last items of a block; a gap mark is above them.
+    entry = found.items - (octets[0] == BLOCK and octets[-5] & LOST != 0) if is_entry else -1
+    state = octets[3 + 3 * entry] >> 7 if is_entry else None
+    return Breach(rule, words.format(input=found.input, state=state), {}, found.items,
+                  -1 if found.input is None else found.input, entry)

@@ -89,8 +89,13 @@ def _chunks(descriptor, seen, idle):
 def lines_of(descriptor, seen=lambda count: None, idle=lambda: None):
     """The lines of a file descriptor, without their ends, each as soon as it is there. `seen` is called with the
     number of octets that were read, `idle` before each read."""
+    yield from lines_in(_chunks(descriptor, seen, idle))
+
+
+def lines_in(chunks):
+    """The lines of octets that come piece by piece, without their ends."""
     ends = Ends()
-    for chunk in _decoded(_chunks(descriptor, seen, idle)):
+    for chunk in _decoded(iter(chunks)):
         for line in ends.lines(chunk):
             yield _text(line)
     if ends.left:

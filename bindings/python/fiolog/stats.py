@@ -3,7 +3,7 @@
 import json
 import sys
 
-from . import log, terminal
+from . import log, many, terminal
 from .counts import Counts
 from .events import DAMAGED, FRAME
 from .message import message_of
@@ -13,7 +13,8 @@ MILLI = 1000
 
 def add_arguments(parser):
     log.add_arguments(parser)
-    parser.add_argument('--json', action='store_true', help='one object')
+    many.add_arguments(parser)
+    parser.add_argument('--json', action='store_true', help='one object; with several logs one for each, and one for all')
 
 
 def milliseconds(seconds):
@@ -47,7 +48,9 @@ def flat(one, above=''):
 
 
 def run(option):
-    """Counts the logs; status 1 where no frame is there."""
+    """Counts a log, or several side by side; status 1 if no frame is there."""
+    if len(option.files) > 1:
+        return many.run(option, counts_alone=True)
     read, counts = log.Log(option, writes=False), Counts()
     for event in read.events():
         if event.kind in (FRAME, DAMAGED):

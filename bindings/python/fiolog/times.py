@@ -6,6 +6,8 @@ import functools
 MONTHS = {name: place for place, name in enumerate(
     'jan feb mar apr may jun jul aug sep oct nov dec'.split(), 1)}
 UNITS = {'ms': 1e3, 'us': 1e6, '\u00b5s': 1e6, 'ns': 1e9}
+# The years 1 to 9999.
+_FIRST, _END = -62135596800, 253402300800
 # How many digits of an epoch stand before its decimal point: it may count in smaller units.
 EPOCH_DIGITS = 10
 
@@ -35,8 +37,17 @@ def second(text):
     return float(text.replace(',', '.').replace(':', '.'))
 
 
+def in_years(found):
+    """A time if it is within the years 1 to 9999; else None."""
+    return found if found is not None and _FIRST <= found < _END else None
+
+
 def seconds(parts):
     """The seconds of a time, from the parts that its pattern names; None where there is no such time."""
+    return in_years(_seconds(parts))
+
+
+def _seconds(parts):
     try:
         if parts.get('epoch'):
             text = parts['epoch'].replace(',', '.')

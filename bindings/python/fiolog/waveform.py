@@ -101,16 +101,22 @@ class Wave:
         yield '$end\n'
 
 
+def each_once(blocks):
+    """Yields each block, but none that is that before it again."""
+    last = None
+    for block in blocks:
+        if (block.number, block.stamp, block.entries) != last:
+            yield block
+        last = block.number, block.stamp, block.entries
+
+
 def draw(blocks, out):
     """Draws blocks, as they come, into a file that is written at their end; a block that is repeated is drawn once."""
-    last = None
     with tempfile.TemporaryFile('w+') as body:
         wave = Wave(body)
-        for block in blocks:
-            if (block.number, block.stamp, block.entries) != last:
-                wave.draw(block)
-            last = block.number, block.stamp, block.entries
-        if last:
+        for block in each_once(blocks):
+            wave.draw(block)
+        if wave.now is not None:
             wave.go_to(wave.now + 1)
         body.seek(0)
         out.writelines(wave.header())

@@ -1,0 +1,39 @@
+# Completions of bash for fiolog: its commands and their options. Written by tools/generate-completions.
+
+_fiolog() {
+    local word=${COMP_WORDS[COMP_CWORD]} command=${COMP_WORDS[1]} words=
+    case "$command ${COMP_WORDS[COMP_CWORD - 1]}" in
+    'decode --format') words='auto frames transcript log csv json' ;;
+    'decode --direction') words='sent heard' ;;
+    'decode --color') words='auto always never' ;;
+    'check --format') words='auto frames transcript log csv json' ;;
+    'check --at') words='auto cpu module bus' ;;
+    'check --rules') words='all nine' ;;
+    'stats --format') words='auto frames transcript log csv json' ;;
+    'plan --limits') words='standard largest' ;;
+    'convert --format') words='auto frames transcript log csv json' ;;
+    'convert --to') words='transcript frames pcapng vcd' ;;
+    'convert --at') words='cpu module' ;;
+    'record --format') words='auto frames transcript log csv json' ;;
+    'record --at') words='auto cpu module bus' ;;
+    'record --on') words='0 1' ;;
+    'live --at') words='auto cpu module bus' ;;
+    *)
+        case $COMP_CWORD:$word in
+        1:*) words='decode check stats plan convert record live -h --help' ;;
+        *:-*)
+            case $command in
+            decode) words='-h --help --format --pattern --sdlc --no-check -v --verbose -q --quiet --json --csv --input --type --block --status --direction --lines --color' ;;
+            check) words='-h --help --format --pattern --sdlc --no-check -v --verbose -q --quiet --at --start-at-poll --whole --limits --rules --late-answers --jobs --json' ;;
+            stats) words='-h --help --format --pattern --sdlc --no-check -v --verbose -q --quiet --jobs --json' ;;
+            plan) words='-h --help --inputs --filter --group --limits --outage --lost --every -v --verbose --json' ;;
+            convert) words='-h --help --format --pattern --sdlc --no-check -v --verbose -q --quiet --to -o --output --at --times' ;;
+            record) words='-h --help --format --pattern --sdlc --no-check -v --verbose -q --quiet --at --start-at-poll --whole --limits --text --json --csv --vcd --plot --hires --start --signal --on --channels' ;;
+            live) words='-h --help --exec --serial --udp --fifo --rate --host --transcript --pcapng --at --whole --limits --seconds -v --verbose -q --quiet' ;;
+            esac ;;
+        esac ;;
+    esac
+    COMPREPLY=($(compgen -W "$words" -- "$word"))
+}
+
+complete -o default -F _fiolog fiolog

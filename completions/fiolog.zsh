@@ -1,0 +1,165 @@
+#compdef fiolog
+# Completions of zsh for fiolog: its commands and their options. Written by tools/generate-completions.
+
+_fiolog() {
+    local -a commands=(
+        'decode:what each frame says'
+        'check:every breach of the rules, with what was due and what came'
+        'stats:how much, how often, how fast'
+        'plan:how often to poll, how long an outage may last, how late a transition can be'
+        'convert:the frames as a transcript, frames, pcapng or VCD'
+        'record:what the CPU learned, and what breaks a rule on content'
+        'live:decodes a line that talks now, and checks it by all these rules'
+    )
+    if (( CURRENT == 2 )); then
+        _describe command commands
+        _arguments '(-h --help)'{-h,--help}'[print help]'
+        return
+    fi
+    local command=$words[2]
+    shift words
+    (( CURRENT-- ))
+    case $command in
+    decode)
+        _arguments \
+            '-h[show this help message and exit]' \
+            '--help[show this help message and exit]' \
+            '--format[auto (the default), frames, transcript, log, csv or json]:name:(auto frames transcript log csv json)' \
+            '--pattern[an expression with the groups octets and perhaps time and dir]:regex:' \
+            '--sdlc[each frame has address, control and frame check]' \
+            '--no-check[with --sdlc, without the frame check]' \
+            '-v[name each line that is passed over, and why]' \
+            '--verbose[name each line that is passed over, and why]' \
+            '-q[say nothing on standard error but faults]' \
+            '--quiet[say nothing on standard error but faults]' \
+            '--json[one object a line, file, line, time (seconds or null), direction (> or <) and octets; then fault, or type, says, the numbers of that message by name, what its status bits say, and entries or items]' \
+            '--csv[a table; an entry a row]' \
+            '--input[only messages with this input, and of them its lines]:n:' \
+            '--type[only this type, 49 to 60, 177 to 188, poll, block]:n:' \
+            '--block[only polls and blocks with this number]:n:' \
+            '--status[only blocks with one of these bits, C, F, E, G]:letters:' \
+            '--direction[only what the CPU sent or heard]:direction:(sent heard)' \
+            '--lines[only these lines]:a-b:' \
+            '--color[colours (on a terminal)]:color:(auto always never)' \
+            '*:file:_files' ;;
+    check)
+        _arguments \
+            '-h[show this help message and exit]' \
+            '--help[show this help message and exit]' \
+            '--format[auto (the default), frames, transcript, log, csv or json]:name:(auto frames transcript log csv json)' \
+            '--pattern[an expression with the groups octets and perhaps time and dir]:regex:' \
+            '--sdlc[each frame has address, control and frame check]' \
+            '--no-check[with --sdlc, without the frame check]' \
+            '-v[name each line that is passed over, and why]' \
+            '--verbose[name each line that is passed over, and why]' \
+            '-q[say nothing on standard error but faults]' \
+            '--quiet[say nothing on standard error but faults]' \
+            '--at[where the log was taken; auto, at the CPU where directions say so, else on the bus]:at:(auto cpu module bus)' \
+            '--start-at-poll[leave out what comes before the first poll]' \
+            '--whole[the log begins with the start of both ends, more is found]' \
+            '--limits[of the module, the most entries of a block, and the most that wait (255 1024)]:entries::waiting:' \
+            '--rules[nine, the rules of transcripts alone]:rules:(all nine)' \
+            '--late-answers[leave out answers that came late or twice, and count them]' \
+            '--jobs[with several logs, read this many at a time (all processors)]:n:' \
+            '--json[an object for each breach, with several logs for each log; and one for the summary]' \
+            '*:file:_files' ;;
+    stats)
+        _arguments \
+            '-h[show this help message and exit]' \
+            '--help[show this help message and exit]' \
+            '--format[auto (the default), frames, transcript, log, csv or json]:name:(auto frames transcript log csv json)' \
+            '--pattern[an expression with the groups octets and perhaps time and dir]:regex:' \
+            '--sdlc[each frame has address, control and frame check]' \
+            '--no-check[with --sdlc, without the frame check]' \
+            '-v[name each line that is passed over, and why]' \
+            '--verbose[name each line that is passed over, and why]' \
+            '-q[say nothing on standard error but faults]' \
+            '--quiet[say nothing on standard error but faults]' \
+            '--jobs[with several logs, read this many at a time (all processors)]:n:' \
+            '--json[one object; with several logs one for each, and one for all]' \
+            '*:file:_files' ;;
+    plan)
+        _arguments \
+            '-h[show this help message and exit]' \
+            '--help[show this help message and exit]' \
+            '--inputs[inputs that are not ignored, 1 to 64]:n:' \
+            '--filter[the smallest filter of one of them, 0 to 255]:n:' \
+            '--group[instead of both, at most N inputs are open in a group with such filters; repeat it for each group]:n:filter:' \
+            '--limits[1,024 entries wait (standard) or 8,192]:limits:(standard largest)' \
+            '--outage[the link is down so long]:ms:' \
+            '--lost[rounds lost in a row]:n:' \
+            '--every[a poll comes so often]:ms:' \
+            '-v[also the clause that each number is from]' \
+            '--verbose[also the clause that each number is from]' \
+            '--json[a list of objects]' \
+            '*:file:_files' ;;
+    convert)
+        _arguments \
+            '-h[show this help message and exit]' \
+            '--help[show this help message and exit]' \
+            '--format[auto (the default), frames, transcript, log, csv or json]:name:(auto frames transcript log csv json)' \
+            '--pattern[an expression with the groups octets and perhaps time and dir]:regex:' \
+            '--sdlc[each frame has address, control and frame check]' \
+            '--no-check[with --sdlc, without the frame check]' \
+            '-v[name each line that is passed over, and why]' \
+            '--verbose[name each line that is passed over, and why]' \
+            '-q[say nothing on standard error but faults]' \
+            '--quiet[say nothing on standard error but faults]' \
+            '--to[]:to:(transcript frames pcapng vcd)' \
+            '-o[where to (standard output)]:file:_files' \
+            '--output[where to (standard output)]:file:_files' \
+            '--at[the end whose log it is (cpu)]:at:(cpu module)' \
+            '--times[begin lines with their time in seconds]' \
+            '*:file:_files' ;;
+    record)
+        _arguments \
+            '-h[show this help message and exit]' \
+            '--help[show this help message and exit]' \
+            '--format[auto (the default), frames, transcript, log, csv or json]:name:(auto frames transcript log csv json)' \
+            '--pattern[an expression with the groups octets and perhaps time and dir]:regex:' \
+            '--sdlc[each frame has address, control and frame check]' \
+            '--no-check[with --sdlc, without the frame check]' \
+            '-v[name each line that is passed over, and why]' \
+            '--verbose[name each line that is passed over, and why]' \
+            '-q[say nothing on standard error but faults]' \
+            '--quiet[say nothing on standard error but faults]' \
+            '--at[where the log was taken; auto, at the CPU where directions say so, else on the bus]:at:(auto cpu module bus)' \
+            '--start-at-poll[leave out what comes before the first poll]' \
+            '--whole[the log begins with the start of both ends, more is found]' \
+            '--limits[of the module, the most entries of a block, and the most that wait (255 1024)]:entries::waiting:' \
+            '--text[as fio2070 record writes it, to the first breach]' \
+            '--json[one object a line, an item, or with breaks a breach]' \
+            '--csv[a table; an item or a breach a row]' \
+            '--vcd[a VCD file; breaches on standard error]' \
+            '--plot[a picture of the inputs over time, as .png, .svg or .pdf (by matplotlib)]:file:_files' \
+            '--hires[write the transitions as a high-resolution event log (CSV)]:file:_files' \
+            '--start[when the first block was made, as 2026-03-01T07,00,00]:time:' \
+            '--signal[the signal of the events]:id:' \
+            '--on[the state of an input that is on, the profile does not say it]:on:(0 1)' \
+            '--channels[inputs and channels, as 12,5,0-7,1 (the default is 0-63,1); other inputs are left out]:map:' \
+            '*:file:_files' ;;
+    live)
+        _arguments \
+            '-h[show this help message and exit]' \
+            '--help[show this help message and exit]' \
+            '--exec[a process that writes lines > HEX and < HEX]:command:' \
+            '--serial[octet-stuffed HDLC with frame check]:device:_files' \
+            '--udp[a frame a datagram]:port:' \
+            '--fifo[a pipe or file with lines of a log]:file:_files' \
+            '--rate[of the serial port (153600)]:baud:' \
+            '--host[the address to hear datagrams at (127.0.0.1)]:host:' \
+            '--transcript[write what comes as a transcript]:file:_files' \
+            '--pcapng[write it as pcapng; - for | wireshark -k -i -]:file:_files' \
+            '--at[where it is heard]:at:(auto cpu module bus)' \
+            '--whole[the log begins with the start of both ends, more is found]' \
+            '--limits[of the module, the most entries of a block, and the most that wait (255 1024)]:entries::waiting:' \
+            '--seconds[end after so long]:n:' \
+            '-v[name each line that is passed over, and why]' \
+            '--verbose[name each line that is passed over, and why]' \
+            '-q[do not write the messages]' \
+            '--quiet[do not write the messages]' \
+            '*:file:_files' ;;
+    esac
+}
+
+_fiolog "$@"

@@ -1,0 +1,109 @@
+#!/usr/bin/env python3
+"""Many logs: `fiolog check` and `stats` of several files, and summaries in Python, which add: of parts of a log, of files side by
+side, and by Dask over 500 files. Last line: `N passed, M failed`."""
+
+import json
+import os
+import subprocess
+import sys
+import tempfile
+
+sys.dont_write_bytecode = True
+
+from support.check import Check
+from support.fiolog import ENVIRONMENT, fiolog, use_library
+from support.pages import text_of
+
+# A round each: a poll, and a block with one entry of input 12, each 10 ms; and the round with an answer that is lost.
+START = '> 33020c05030d0503\n< b300\n'
+ROUNDS = ['> 36%02x\n< b6%02x01%s%04x00%08x\n' % (number, number, ('0c', '8c')[number % 2], 10 * number + 9, 10 * number + 10)
+          for number in range(20)]
+LOST = '> 3614\n> 3614\n< b61400020000%04x\n' % 250
+DOUBLED = '> 3615\n< b615010c00d700000000d8\n> 3616\n< b616010c00d700000000d9\n'
+FILES = 500
+
+
+def counted(summary):
+    """What a summary counts, as two are compared."""
+    return summary.counts.in_short(), summary.counts.entries, dict(summary.counts.types), summary.counts.responses.at(0.5), \
+        summary.lines, dict(summary.broken)
+
+
+def check_parts(check):
+    """A log that is cut where all is answered sums to the whole; a path, a file and pieces of any length are the same log."""
+    from fiolog.summary import Summary, summary_of
+    whole = START + ''.join(ROUNDS)
+    octets = whole.encode()
+    expected = counted(summary_of([octets]))
+    check.equal('what the whole log counts', ({'frames': 42, 'polls': 20, 'repeats': 0, 'answers_lost': 0, 'marks': 0}, 20),
+                expected[:2])
+    for cut in (0, 7, 19):
+        parts = START + ''.join(ROUNDS[:cut]), ''.join(ROUNDS[cut:])
+        check.equal('a log that is cut after %d rounds' % cut, expected,
+                    counted(sum((summary_of([part.encode()]) for part in parts), Summary())))
+    check.equal('octets one by one', expected, counted(summary_of(octets[at:at + 1] for at in range(len(octets)))))
+    with tempfile.NamedTemporaryFile() as file:
+        file.write(octets)
+        file.flush()
+        check.equal('a path', expected, counted(summary_of(file.name)))
+        with open(file.name, 'rb') as opened:
+            check.equal('a file', expected, counted(summary_of(opened)))
+
+
+def write_logs(folder):
+    """Writes the logs: every seventh doubles an entry, every fifth lost an answer. Returns their paths."""
+    for number in range(FILES):
+        tail = (DOUBLED if number % 7 == 0 else '') if number % 5 else LOST
+        with open(os.path.join(folder, '%03d.log' % number), 'w', encoding='ascii') as file:
+            file.write(START + ''.join(ROUNDS) + tail)
+    return [os.path.join(folder, '%03d.log' % number) for number in range(FILES)]
+
+
+def check_files(check, paths):
+    """One table of all files, the worst first, and one row of all."""
+    doubled = [path for number, path in enumerate(paths) if number % 5 and number % 7 == 0]
+    lost = [path for number, path in enumerate(paths) if number % 5 == 0]
+    done = fiolog('check', '--json', '--jobs', '2', *paths)
+    rows = [json.loads(line) for line in done.out.splitlines()]
+    check.equal('check of all files', (1, len(doubled), len(lost), FILES),
+                (done.status, rows[-1]['summary']['breaches'], rows[-1]['summary']['answers_lost'], rows[-1]['summary']['files']))
+    check.equal('the worst first', set(doubled), {row['file'] for row in rows[:len(doubled)]})
+    check.equal('then those that lost an answer', set(lost), {row['file'] for row in rows[len(doubled):len(doubled) + len(lost)]})
+    table = fiolog('check', *paths[:14]).out.splitlines()
+    check.equal('a table', (17, '14 logs, the worst first', True), (len(table), table[0], paths[7] in table[2]))
+    done = fiolog('stats', paths[1], paths[7])
+    check.equal('stats of two files', (0, True), (done.status, 'all 2 ' in done.out))
+    done = fiolog('check', paths[1], 'no-such-file')
+    check.equal('a file that cannot be read', (3, True), (done.status, 'no-such-file: No such file' in done.err))
+
+
+def check_dask(check, folder):
+    """The snippet of docs/CAPTURES.md over all files."""
+    python = '/usr/bin/python3'
+    if subprocess.run([python, '-c', 'import dask.bag'], stderr=subprocess.DEVNULL, check=False).returncode:
+        check.skip('Dask over %d files' % FILES, 'no dask here (Debian package python3-dask)')
+        return
+    snippet = text_of('docs/CAPTURES.md').split('```python\n')[1].split('```')[0]
+    script = os.path.join(folder, 'snippet.py')
+    with open(script, 'w', encoding='ascii') as file:
+        file.write(snippet)
+    done = subprocess.run([python, script], cwd=folder, env=ENVIRONMENT, stdout=subprocess.PIPE, stderr=subprocess.PIPE, check=False,
+                          universal_newlines=True, timeout=300)
+    breaches = sum(number % 5 != 0 and number % 7 == 0 for number in range(FILES))
+    check.equal('Dask over %d files' % FILES, '%d breaches in %d files\n' % (breaches, FILES), done.stdout or done.stderr)
+
+
+def main():
+    check = Check()
+    use_library(check, 'many logs')
+    check_parts(check)
+    with tempfile.TemporaryDirectory() as folder:
+        paths = write_logs(folder)
+        check_files(check, paths)
+        if check.whole('Dask over %d files' % FILES):
+            check_dask(check, folder)
+    check.end()
+
+
+if __name__ == '__main__':
+    main()

@@ -1,0 +1,81 @@
+#!/usr/bin/env python3
+"""`fiolog check --late-answers` on runs of right ends whose answers come late and twice, whole and from any line on: it accuses
+none. Faults that are planted in an end are found. Last line: `N passed, M failed`."""
+
+import random
+import re
+import sys
+
+sys.dont_write_bytecode = True
+
+from support.check import Check
+from support.fiolog import fiolog, use_library
+
+FAULTS = ('gives a block up', 'goes on at an old block', 'asks for a block again', 'answers with another number',
+          'says F without C', 'cuts an answer', 'says G and E')
+# What the rules on content find, in those stretches in which no answer is late.
+OF_CONTENT = ('drops an entry', 'doubles an entry')
+TRIES = 16
+
+
+def breaches_of(log):
+    """The rules that `check --late-answers` says are broken in a log, and how many answers are late, as it is judged there."""
+    from fiolog.counts import Counts
+    from fiolog.late import LateRules
+
+    class Event:
+        """A frame as the reader gives it, of a log at the CPU."""
+
+        def __init__(self, direction, octets):
+            self.direction, self.octets, self.text = direction, octets, '%s %s' % (direction, octets.hex())
+
+    counts = Counts()
+    rules = LateRules('cpu', (255, 1024), counts)
+    return [found.rule for found in (rules.breach(None, Event(*line)) for line in log) if found], counts.late_answers
+
+
+def fault_of_right_runs(runs):
+    """No run is accused, nor what is left of it from a random line on."""
+    from support.late_runs import late_run
+    dice, late = random.Random(1), 0
+    for seed in range(runs):
+        log = late_run(seed)
+        for first in (0, dice.randrange(len(log)), dice.randrange(len(log))):
+            breaches, count = breaches_of(log[first:])
+            late += count
+            if breaches:
+                return 'seed %d from line %d: %s' % (seed, first + 1, breaches)
+    return None if late > runs else 'only %d answers are late' % late
+
+
+def fault_of_planted(fault, least):
+    """A planted fault is found in this many runs at least."""
+    from support.late_runs import late_run
+    found = sum(bool(breaches_of(late_run(seed, fault=fault))[0]) for seed in range(TRIES))
+    return None if found >= least else 'found in %d runs of %d' % (found, TRIES)
+
+
+def fault_of_command():
+    """The command says the same of a log: how many answers are late, and no breach where `check` has `pair`."""
+    from support.late_runs import late_run
+    log = next(log for log in map(late_run, range(100)) if breaches_of(log)[1] > 2)
+    text = ''.join('%s %s\n' % (direction, octets.hex()) for direction, octets in log)
+    plain, late = fiolog('check', text=text), fiolog('check', '--late-answers', text=text)
+    number = re.search(r'late answers (\d+)', late.out)
+    fits = plain.status == 1 and ': pair: ' in plain.out and late.status == 0 and number and int(number[1]) == breaches_of(log)[1]
+    return None if fits else (plain.out[-300:], late)
+
+
+def main():
+    check = Check(runs=(40, 400))
+    use_library(check, 'fiolog check --late-answers')
+    check.fault('right runs', fault_of_right_runs, check.given.runs)
+    for fault in FAULTS:
+        check.fault('an end that %s' % fault, fault_of_planted, fault, TRIES // 2)
+    for fault in OF_CONTENT:
+        check.fault('an end that %s' % fault, fault_of_planted, fault, 2)
+    check.fault('the command', fault_of_command)
+    check.end()
+
+
+main()
