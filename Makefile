@@ -1,21 +1,26 @@
-# Builds the program, puts it in place with its manual page and its completions for bash, zsh and fish, and makes
-# packages of it:
+# Builds the program, the libraries and the tools, puts them in place with their manual pages and documents, and makes
+# packages of them:
 #
 #     make
+#     make library
 #     make install PREFIX=/usr/local
 #     make uninstall PREFIX=/usr/local
-#     make dist
-#     make deb
+#     make release
 #
-# DESTDIR, where it is given, stands before each path, as for a package. LIB, ZSH and TOOLS are the folders of
-# libraries, of zsh's completions and of tools/ below PREFIX. DIST is the folder of the packages.
+# With the Rattle kit, `rt`, all is made from the proved sources. Without it, the libraries and tools are made from dist/
+# by a C compiler, for the machine that it compiles for, and the program is not made.
+#
+# DESTDIR, if it is given, comes before each path, as for a package. LIB, ZSH and TOOLS are the folders of libraries, of
+# zsh's completions and of tools/ below PREFIX. DIST is the folder of the packages. CFLAGS and LDFLAGS are given to the
+# compiler.
 
 PREFIX = /usr/local
 DESTDIR =
 LIB = lib
 ZSH = share/zsh/site-functions
 TOOLS = share/fio2070
-DIST = dist
+DIST = release
+CFLAGS ?= -O2
 
 root = $(DESTDIR)$(PREFIX)
 bin = $(root)/bin
@@ -23,10 +28,15 @@ man = $(root)/share/man/man1
 bash = $(root)/share/bash-completion/completions
 zsh = $(root)/$(ZSH)
 fish = $(root)/share/fish/vendor_completions.d
+documents = $(root)/share/doc/fio2070
 
-.PHONY: all test install uninstall dist deb
+kit := $(shell command -v rt)
 
-# Proves and builds the program where that is not done yet.
+.PHONY: all test install uninstall dist deb release
+# One after the other: what is installed is linked by what is installed after it.
+.NOTPARALLEL:
+
+# Proves and builds the program if that is not done yet.
 all:
 	@./fio2070 --version
 
@@ -34,164 +44,82 @@ all:
 test:
 	@./test
 
-install: all
-	install -d '$(bin)' '$(man)' '$(bash)' '$(zsh)' '$(fish)'
-	install -m 755 crates/fio2070/out/fio2070 '$(bin)/fio2070'
-	install -m 644 man/fio2070.1 '$(man)/fio2070.1'
-	install -m 644 completions/fio2070.bash '$(bash)/fio2070'
-	install -m 644 completions/fio2070.zsh '$(zsh)/_fio2070'
-	install -m 644 completions/fio2070.fish '$(fish)/fio2070.fish'
+# ---- The library for C ----
 
-uninstall:
-	rm -f '$(bin)/fio2070' '$(man)/fio2070.1' '$(bash)/fio2070' '$(zsh)/_fio2070' '$(fish)/fio2070.fish'
-
-# The library for C and its headers, and the tools, where they are there.
-
-libraries = $(wildcard libfio2070.a)
-headers = $(wildcard include/*.h include/*.hpp)
-tools = $(wildcard tools/*)
-# The Python packages load the copy beside them.
-python_library = $(wildcard libfio2070.so.1)
-
-.PHONY: install-more uninstall-more
-
-install: install-more
-uninstall: uninstall-more
-
-install-more:
-ifneq ($(libraries),)
-	install -d '$(root)/$(LIB)' '$(root)/include'
-	install -m 644 $(libraries) '$(root)/$(LIB)'
-	install -m 644 $(headers) '$(root)/include'
-endif
-ifneq ($(tools),)
-	install -d '$(root)/$(TOOLS)'
-	cp -R tools '$(root)/$(TOOLS)'
-	install -d '$(bin)' '$(man)' '$(root)/$(TOOLS)/python/fio2070' '$(root)/$(TOOLS)/python/fiolog'
-	install -m 644 bindings/python/fio2070/*.py bindings/python/fio2070/py.typed '$(root)/$(TOOLS)/python/fio2070'
-	install -m 644 bindings/python/fiolog/*.py bindings/python/fiolog/forms.json '$(root)/$(TOOLS)/python/fiolog'
-	install -d '$(root)/$(TOOLS)/rust/fio2070/src'
-	install -m 644 bindings/rust/fio2070/Cargo.* bindings/rust/fio2070/build.rs '$(root)/$(TOOLS)/rust/fio2070'
-	install -m 644 bindings/rust/fio2070/src/*.rs '$(root)/$(TOOLS)/rust/fio2070/src'
-	$(if $(python_library),install -m 644 $(python_library) '$(root)/$(TOOLS)/python/fio2070')
-	ln -sf '../$(TOOLS)/tools/fiolog' '$(bin)/fiolog'
-	install -m 644 man/fiolog.1 man/fio2070-tools.1 '$(man)'
-	@echo 'The Wireshark dissector is installed. To enable it:'
-	@echo "    mkdir -p ~/.local/lib/wireshark/plugins"
-	@echo "    ln -sf '$(PREFIX)/$(TOOLS)/tools/wireshark/fio2070.lua' ~/.local/lib/wireshark/plugins/"
-endif
-
-uninstall-more:
-	rm -f $(foreach file,$(notdir $(libraries)),'$(root)/$(LIB)/$(file)')
-	rm -f $(foreach file,$(notdir $(headers)),'$(root)/include/$(file)')
-	rm -f '$(bin)/fiolog' '$(man)/fiolog.1' '$(man)/fio2070-tools.1'
-	rm -rf '$(root)/$(TOOLS)/tools' '$(root)/$(TOOLS)/python' '$(root)/$(TOOLS)/rust'
-
-# The archive and the Debian package, with the library for C: the same files give the same octets each time.
-
-# With TARGET=aarch64 they are of the library for AArch64 alone.
-
-ifeq ($(TARGET),aarch64)
-dist deb: ./aarch64/libfio2070.a
-	@packaging/$@ '$(DIST)' aarch64
-else
-dist deb: all libfio2070.a libfio2070.so fio2070-test
-	@packaging/$@ '$(DIST)'
-endif
-
-# The library for C: `make library` makes the archive, and a shared library for languages that load one, in OUT. The
-# number in the shared library's name is that of its interface: it rises when a program has to be built anew. They are
-# installed where they were made, with what pkg-config and CMake need to find them. PCPREFIX is the prefix that
+# `make library` makes the archive, a shared library for languages that load one, and the tester, in OUT. The number in the
+# shared library's name is that of its interface: it rises when a program has to be built anew. PCPREFIX is the prefix that
 # fio2070.pc names. RTFLAGS are further words for `rt lib`, as `--jobs 1`.
 
 OUT = .
 PCPREFIX = $(PREFIX)
 RTFLAGS =
-VERSION = $(shell sed -n 's/^## \([0-9][0-9.]*\).*/\1/p' CHANGELOG.md | head -n 1)
-pkgconfig = $(root)/$(LIB)/pkgconfig
-cmake = $(root)/$(LIB)/cmake/fio2070
-soname = libfio2070.so.1
-shared = $(wildcard $(soname))
-archive = crates/fio_c/out/libfio_c.a
-crates := $(shell ./build --order fio_c)
-proved := $(shell find $(addprefix crates/,$(crates)) \
-    -name out -prune -o -type f \( -name '*.rt' -o -name '*.antt' \) -print)
+VERSION = $(shell sed -n 's/^\#\# \([0-9][0-9.]*\).*/\1/p' CHANGELOG.md | head -n 1)
+tester = $(wildcard tools/conformance/conformance*.c)
+objects = $(OUT)/out/tester
+exports = tools/conformance/exports.map
+compile = $(CC) $(CPPFLAGS) $(CFLAGS)
 
-.PHONY: library install-library uninstall-library
+# What a shared library is called, and how it is linked, on the machine that CC compiles for. That of Windows has no tester,
+# which needs POSIX.
+machine := $(shell $(CC) -dumpmachine 2>/dev/null)
+ifneq ($(findstring mingw,$(machine)),)
+soname = fio2070.dll
+link_name = $(soname)
+sharing = -shared
+all_of = -Wl,--whole-archive $(1) -Wl,--no-whole-archive
+shared_tester =
+else ifneq ($(findstring darwin,$(machine)),)
+soname = libfio2070.1.dylib
+link_name = libfio2070.dylib
+sharing = -dynamiclib -fPIC -install_name @rpath/$(soname) -Wl,-exported_symbol,_fio2070_*
+all_of = -Wl,-force_load,$(1)
+shared_tester = tools/conformance/shared.c $(objects)/tester.a
+else
+soname = libfio2070.so.1
+link_name = libfio2070.so
+sharing = -shared -fPIC -Wl,-soname,$(soname) -Wl,--version-script=$(exports)
+all_of = -Wl,--whole-archive $(1) -Wl,--no-whole-archive
+shared_tester = tools/conformance/shared.c $(objects)/tester.a
+endif
+
+.PHONY: library
 
 # `make library TARGET=aarch64` makes the archive for AArch64 under Linux, proved for that target of the kit.
 ifeq ($(TARGET),aarch64)
 library: $(OUT)/aarch64/libfio2070.a
 else
-library: $(OUT)/libfio2070.a $(OUT)/$(soname) $(OUT)/libfio2070.so $(OUT)/fio2070-test
+library: $(OUT)/libfio2070.a $(OUT)/$(soname) $(OUT)/$(link_name) $(if $(shared_tester),$(OUT)/fio2070-test)
 endif
 
-$(archive): $(proved)
-	@./build --library fio_c $(RTFLAGS)
+ifneq ($(kit),)
+include packaging/with-kit.mk
+else
+include packaging/without-kit.mk
+endif
 
-$(OUT)/libfio2070.a: $(archive)
-	mkdir -p $(OUT)
-	cp $(archive) $@
-
-# The same sources, proved for other targets of the kit: `make wasm` makes the library as a WebAssembly module, without
-# imports, with a memory of 64 bits, for the portable library and for the page.
-
-kit = $(patsubst %/,%,$(dir $(shell rt doc)))
-wasm = wasm64-unknown-unknown
-module = crates/fio_c/out/$(wasm)/fio_c.wasm
-
-.PHONY: wasm
-
-wasm: $(module)
-
-crates/fio_c/out/%/libfio_c.a: $(archive) packaging/for-target
-	packaging/for-target $* $(RTFLAGS)
-
-$(OUT)/aarch64/libfio2070.a: crates/fio_c/out/aarch64-unknown-linux-gnu/libfio_c.a
-	mkdir -p $(@D)
-	cp $< $@
-
-# Its stack is 64 KB, of which no call takes more than a sixth.
-$(module): crates/fio_c/out/$(wasm)/libfio_c.a
-	'$(kit)/bin/rattle-link' --target $(wasm) --toolchain '$(kit)/toolchain' --stack 65536 -o $@ $<
-
-# The portable library: fio2070.c and fio2070.h, two files of C99 for any processor, with the header for C++ beside them
-# (tools/portable/README.md).
-
-portable = portable
-translator = $(addprefix tools/portable/,translate instructions.py functions.py module.py accesses.py ahead.py loops.py head.c machine.c calls.c)
-
-.PHONY: portable
-
-portable: $(portable)/fio2070.c
-
-$(portable)/fio2070.c: $(module) $(headers) $(translator)
-	tools/portable/translate $(module) include/fio2070.h $(portable) \
-	    --made-from "$$(git describe --always --dirty 2>/dev/null || echo unknown)" --kit "$$(rt --version)" \
-	    --proof "$$(cat crates/fio_c/out/$(wasm)/proof 2>/dev/null || echo unknown)"
-	cp include/fio2070.hpp $(portable)
+# The tester, compiled once for the shared library and for the command.
+$(objects)/tester.a: $(tester) $(wildcard tools/conformance/*.h) $(interface)/fio2070.h
+	mkdir -p $(objects)
+	cd $(objects) && rm -f *.o && $(compile) -fPIC -I $(abspath $(interface)) -c $(abspath $(tester))
+	rm -f $@
+	$(AR) rcs $@ $(objects)/*.o
 
 # The shared library has the tester too. It exports no name but those that begin with `fio2070_`.
-tester = $(wildcard tools/conformance/conformance*.c)
-exports = tools/conformance/exports.map
-
-$(OUT)/$(soname): $(OUT)/libfio2070.a $(tester) tools/conformance/shared.c $(exports)
-	$(CC) -O2 -fPIC -I include -shared -Wl,-soname,$(soname) -Wl,--version-script=$(exports) $(tester) \
-	    tools/conformance/shared.c -Wl,--whole-archive $< -Wl,--no-whole-archive -o $@
+$(OUT)/$(soname): $(OUT)/libfio2070.a $(shared_tester) $(exports)
+	$(compile) -I $(interface) $(sharing) $(LDFLAGS) $(shared_tester) $(call all_of,$<) -o $@
 
 # The name by which a program is linked.
-$(OUT)/libfio2070.so: $(OUT)/$(soname)
+ifneq ($(link_name),$(soname))
+$(OUT)/$(link_name): $(OUT)/$(soname)
 	ln -sf $(soname) $@
+endif
 
 # The tester as a command, of modules that are asked over a wire (tools/conformance/README.md).
-command = $(wildcard fio2070-test)
-
-$(OUT)/fio2070-test: $(OUT)/libfio2070.a $(tester) tools/conformance/fio2070_test.c
-	$(CC) -O2 -I include $(tester) tools/conformance/fio2070_test.c $< -o $@
+$(OUT)/fio2070-test: $(objects)/tester.a $(OUT)/libfio2070.a tools/conformance/fio2070_test.c
+	$(compile) -I $(interface) $(LDFLAGS) tools/conformance/fio2070_test.c $(objects)/tester.a $(OUT)/libfio2070.a -o $@
 
 # The glossary of all definitions, DOC/GLOSSARY.md, and the page of the C library, made of the header by doxygen,
 # DOC/html/index.html.
-
 DOC = doc
 
 .PHONY: doc
@@ -201,22 +129,39 @@ doc:
 	tools/generate-glossary >'$(DOC)/GLOSSARY.md'
 	(cat packaging/Doxyfile; echo 'OUTPUT_DIRECTORY = "$(DOC)"') | doxygen -
 
-install: install-library
-uninstall: uninstall-library
+# ---- Installing ----
 
-install-library: install-more
+# With the kit the program is installed, and the library and the tester if they were made; without it these two are made first.
+# `fiolog` and `normalize` load the shared library, from beside the Python packages.
+headers = $(wildcard $(interface)/*.h $(interface)/*.hpp)
+tools = lossy-script transcript conformance waveform wireshark $(if $(shared),fiolog captures)
+filters = transcript lossy-script waveform/vcd wireshark/hex2pcap $(if $(shared),captures/normalize)
+tool_pages = README.md page/README.md portable/README.md $(patsubst tools/%,%,$(wildcard tools/page/*.png))
+pages = README.md LICENSE CHANGELOG.md SECURITY.md CONTRIBUTING.md
+pkgconfig = $(root)/$(LIB)/pkgconfig
+cmake = $(root)/$(LIB)/cmake/fio2070
+share = $(root)/$(TOOLS)
+
+.PHONY: install-program install-library install-tester install-tools install-documents
+
+install: install-program install-library install-tester install-tools install-documents
+
+install-library:
 ifneq ($(libraries),)
-	install -d '$(pkgconfig)'
+	install -d '$(root)/$(LIB)' '$(root)/include' '$(pkgconfig)' '$(cmake)'
+	install -m 644 $(libraries) '$(root)/$(LIB)'
+	install -m 644 $(headers) '$(root)/include'
 	sed -e 's|@PREFIX@|$(PCPREFIX)|' -e 's|@LIB@|$(LIB)|' -e 's|@VERSION@|$(VERSION)|' packaging/fio2070.pc.in \
 	    >'$(pkgconfig)/fio2070.pc'
-	install -d '$(cmake)'
 	for file in fio2070-config fio2070-config-version; do \
 	    sed -e 's|@LIB@|$(LIB)|' -e 's|@VERSION@|$(VERSION)|' "packaging/$$file.cmake.in" >'$(cmake)'/$$file.cmake; done
 endif
 ifneq ($(shared),)
 	install -m 644 $(shared) '$(root)/$(LIB)'
-	ln -sf $(soname) '$(root)/$(LIB)/libfio2070.so'
+	[ $(link_name) = $(soname) ] || ln -sf $(soname) '$(root)/$(LIB)/$(link_name)'
 endif
+
+install-tester:
 ifneq ($(command),)
 	install -d '$(bin)' '$(man)' '$(bash)' '$(zsh)' '$(fish)'
 	install -m 755 $(command) '$(bin)'
@@ -226,26 +171,50 @@ ifneq ($(command),)
 	install -m 644 completions/fio2070-test.fish '$(fish)'
 endif
 
-uninstall-library:
-	rm -f '$(pkgconfig)/fio2070.pc' '$(root)/$(LIB)/libfio2070.so' '$(root)/$(LIB)/$(soname)' '$(bin)/fio2070-test'
-	rm -f '$(cmake)'/fio2070-config.cmake '$(cmake)'/fio2070-config-version.cmake
-	rm -f '$(man)/fio2070-test.1' '$(bash)/fio2070-test' '$(zsh)/_fio2070-test' '$(fish)/fio2070-test.fish'
+install-tools:
+	install -d '$(bin)' '$(man)' '$(share)/tools/page' '$(share)/tools/portable' '$(share)/rust/fio2070/src' \
+	    '$(share)/rust/fio2070/c'
+	cp -R $(addprefix tools/,$(tools)) '$(share)/tools'
+	for file in $(tool_pages); do install -m 644 "tools/$$file" '$(share)/tools'/"$$file" || exit 1; done
+	install -m 644 bindings/rust/fio2070/Cargo.* bindings/rust/fio2070/build.rs '$(share)/rust/fio2070'
+	install -m 644 bindings/rust/fio2070/src/*.rs '$(share)/rust/fio2070/src'
+	install -m 644 dist/fio2070.c dist/fio2070.h '$(share)/rust/fio2070/c'
+	install -m 644 dist/fio2070.html '$(share)'
+	install -d '$(share)/hdlc'
+	install -m 644 examples/hdlc/hdlc.* '$(share)/hdlc'
+	for file in $(filters); do ln -sf "../$(TOOLS)/tools/$$file" '$(bin)'/fio2070-"$${file##*/}" || exit 1; done
+	install -m 644 man/fio2070-tools.1 '$(man)'
+ifneq ($(shared),)
+	install -d '$(share)/python/fio2070' '$(share)/python/fiolog' '$(bash)' '$(zsh)' '$(fish)'
+	install -m 644 bindings/python/fio2070/*.py bindings/python/fio2070/py.typed $(shared) '$(share)/python/fio2070'
+	install -m 644 bindings/python/fiolog/*.py bindings/python/fiolog/forms.json '$(share)/python/fiolog'
+	ln -sf '../$(TOOLS)/tools/fiolog' '$(bin)/fiolog'
+	install -m 644 man/fiolog.1 '$(man)'
+	install -m 644 completions/fiolog.bash '$(bash)/fiolog'
+	install -m 644 completions/fiolog.zsh '$(zsh)/_fiolog'
+	install -m 644 completions/fiolog.fish '$(fish)'
+else
+	@echo 'fiolog is not installed, since it loads $(soname): run `make library` first.'
+endif
+	@echo 'The Wireshark dissector is installed. To enable it:'
+	@echo "    mkdir -p ~/.local/lib/wireshark/plugins"
+	@echo "    ln -sf '$(PREFIX)/$(TOOLS)/tools/wireshark/fio2070.lua' ~/.local/lib/wireshark/plugins/"
 
-# The page: one file that a browser opens offline, with the library in it (tools/page/README.md). Where `wasm-opt` of the
-# package binaryen is there, it also lowers the library to memory of 32 bits, for browsers that have no other.
+# The links between the pages are whole.
+install-documents:
+	install -d '$(documents)/docs/pictures' '$(documents)/examples/captures' '$(documents)/examples/c'
+	install -m 644 $(pages) '$(documents)'
+	install -m 644 docs/*.md '$(documents)/docs'
+	install -m 644 docs/pictures/* '$(documents)/docs/pictures'
+	(cd examples && find . -name out -prune -o -type f -print) | while read -r file; do \
+	    install -D -m 644 "examples/$$file" '$(documents)/examples'/"$$file" || exit 1; done
+	[ ! -d '$(share)/tools' ] || ln -sfn '../../$(notdir $(TOOLS))/tools' '$(documents)/tools'
 
-page = fio2070.html
-lowered = $(if $(shell command -v wasm-opt),crates/fio_c/out/$(wasm)/lowered.wasm)
-page_sources = $(wildcard tools/page/join tools/page/*.html tools/page/*/*.* examples/*.* examples/captures/*) \
-    bindings/python/fiolog/forms.json
-
-.PHONY: page
-
-page: $(page)
-
-crates/fio_c/out/$(wasm)/lowered.wasm: $(module)
-	wasm-opt --enable-memory64 --enable-bulk-memory --enable-mutable-globals --enable-sign-ext \
-	    --memory64-lowering -O2 $< -o $@
-
-$(page): $(module) $(lowered) $(page_sources)
-	tools/page/join $(module) $@ $(addprefix --lowered ,$(lowered))
+names = fio2070 fio2070-test fiolog
+uninstall:
+	rm -f $(foreach name,$(names) $(addprefix fio2070-,normalize vcd hex2pcap transcript lossy-script),'$(bin)/$(name)') \
+	    $(foreach name,$(names) fio2070-tools,'$(man)/$(name).1') \
+	    $(foreach name,$(names),'$(bash)/$(name)' '$(zsh)/_$(name)' '$(fish)/$(name).fish') \
+	    $(foreach name,libfio2070.a $(soname) $(link_name) pkgconfig/fio2070.pc,'$(root)/$(LIB)/$(name)') \
+	    $(foreach name,fio2070.h fio2070.hpp,'$(root)/include/$(name)')
+	rm -rf '$(cmake)' '$(share)/tools' '$(share)/python' '$(share)/rust' '$(share)/hdlc' '$(share)/fio2070.html' '$(documents)'

@@ -50,8 +50,14 @@ def full_block(number):
 
 
 def whole_block(number, count):
-    """A block of so many entries, after which none waits."""
-    return block_answer(number, dense_entries(number, count), 0, count * (number + 1) // INPUTS + 1)
+    """A block of so many entries, after which none waits: the inputs change in turn at each scan, and the last scan is whole."""
+    scans = -(-count // INPUTS)
+    entries = []
+    for place in range(count):
+        named, scan = place % INPUTS, place // INPUTS
+        earlier = number * -(-(count - named) // INPUTS) + scan
+        entries.append(entry(named, earlier % 2, number * scans + scan + 1))
+    return block_answer(number, entries, 0, number * scans + scans)
 
 
 def varied_block(chance, number):

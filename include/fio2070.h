@@ -42,11 +42,11 @@
  * archives, defines FIO2070_PORTABLE. */
 #ifndef FIO2070_PORTABLE
 #if defined(_WIN32)
-#error "libfio2070.a has the calling convention of Linux: no program for Windows can call it."
+#error "libfio2070.a is made for Linux. For Windows compile dist/fio2070.c, and include dist/fio2070.h in place of this."
 #elif !(defined(__x86_64__) || defined(__aarch64__))
-#error "libfio2070.a is made for x86-64 and for AArch64, and not for the processor of this compiler."
+#error "libfio2070.a is for x86-64 and AArch64. Compile dist/fio2070.c, and include dist/fio2070.h in place of this."
 #elif SIZE_MAX != 0xffffffffffffffff
-#error "libfio2070.a has 64-bit pointers, and this compiler has shorter ones."
+#error "libfio2070.a has 64-bit pointers. Compile dist/fio2070.c, and include dist/fio2070.h in place of this."
 #endif
 #endif
 
@@ -87,6 +87,9 @@ uint32_t fio2070_version(void);
 
 /** The count that says that there is nothing such: more than any room. */
 #define FIO2070_NO_MESSAGE SIZE_MAX
+
+/** The input of a breach of a rule on content that has none. */
+enum { FIO2070_NO_INPUT = 255 };
 
 /** The most that there may be. */
 enum {
@@ -474,6 +477,25 @@ enum fio2070_rule {
     FIO2070_RULE_REFUSAL = 9
 };
 
+/** The limits of a module (own profile; TEES 2009 has 1,024 and 255). */
+struct fio2070_limits {
+    /** The most entries that wait for a poll, 1 to 8,192. */
+    uint16_t waiting;
+    /** The most entries of a block, 1 to 255. */
+    uint8_t per_block;
+    /** Not read. */
+    uint8_t reserved;
+};
+
+/** What a call that starts a module, or a checker of one with these limits, returns. */
+enum fio2070_start_kind {
+    FIO2070_STARTED = 0,
+    FIO2070_REFUSED = 1 /**< the limits are out of their ranges, and nothing changed */
+};
+
+/** Those of TEES 2009: struct fio2070_limits limits = FIO2070_STANDARD_LIMITS; */
+#define FIO2070_STANDARD_LIMITS {FIO2070_STANDARD_WAITING, FIO2070_MOST_ENTRIES, 0}
+
 /** A checker of what the CPU's end sends and hears. Its fields are the library's own. */
 struct fio2070_checker {
     /** 1 where a command is directly above. */
@@ -494,8 +516,12 @@ struct fio2070_checker {
     uint8_t more;
     /** 1 below a breach, until the next poll. */
     uint8_t skips;
+    /** The most entries of a block of the module. */
+    uint8_t per_block;
+    /** The most entries that wait there. */
+    uint16_t waiting;
     /** 0 in each octet that the library writes. */
-    uint8_t reserved[7];
+    uint8_t reserved[4];
 };
 
 /** The first rule that a frame breaks, and what was due. Without a breach each field is 0. */
@@ -519,6 +545,10 @@ size_t fio2070_rule_text(uint8_t rule, char *text, size_t room);
  * command or never; a module that was not restarted, with the standard limits; and a CPU's end that heard each block with
  * room for it. Then no frame breaks one. */
 void fio2070_checker_start(struct fio2070_checker *checker);
+/** As `fio2070_checker_start`, for a module with these limits: those that `fio2070_sized_module_start` was given. Returns
+ * FIO2070_STARTED; where a limit is out of its range, as there, it returns FIO2070_REFUSED, and nothing changes. */
+FIO2070_MUST_USE
+uint8_t fio2070_checker_start_within(struct fio2070_checker *checker, struct fio2070_limits limits);
 /** Takes a frame that the CPU's end sent: writes its breach, and returns the breach's rule. Below a breach the checker goes
  * on as one that starts at the next poll, which is not the frame with the breach: until then no frame has a breach, even if
  * it is unreadable. */
@@ -532,51 +562,95 @@ uint8_t fio2070_checker_heard(struct fio2070_checker *checker, const uint8_t *oc
 
 /* ---- The rules on content ---- */
 
-/** What an entry of a block may break, in the order in which the rules are tried (own profile; docs/FORMATS.md). They
- * judge a transcript that keeps the rules above. */
+/** What the record of a CPU's end, or an answer that it heard, may break (own profile; docs/FORMATS.md). The rules judge a
+ * transcript that keeps the rules above. A clear block is a block answer with neither C nor E. An input is watched from an
+ * entry on if a clear block is above that entry, and no configuration that ignores the input was sent since that block; a
+ * gap mark ends it. */
 enum fio2070_content_rule {
     FIO2070_CONTENT_NONE = 0, /**< no rule is broken */
-    /** An entry that has a wide time before that of the entry above it: two are swapped, or the module
-     *  restarted. */
+    /** An entry is later than the entry above it, or has its time and a higher input. Judged if a clear
+     *  block is above the upper entry, and no load of the counter is sent above. */
     FIO2070_CONTENT_ORDER = 1,
-    /** An entry that has the state of the latest entry of its input: one is lost, doubled or turned. */
-    FIO2070_CONTENT_ALTERNATE = 2,
-    /** An entry that has the other state than the latest entry of its input, but is nearer to it than the
-     *  filter for the change. */
-    FIO2070_CONTENT_APART = 3
+    /** An entry is later than the stamp of the latest block without C, which had all entries up to that
+     *  stamp. Judged if that block or one above it is clear, and no load of the counter is sent above. */
+    FIO2070_CONTENT_FRESH = 2,
+    /** The entries of an input have the states 0 and 1 in turn. Judged if the input is watched from the
+     *  earlier entry on. */
+    FIO2070_CONTENT_ALTERNATE = 3,
+    /** An entry of an input follows the one before no sooner than the filter for its change lets it.
+     *  Judged if a clear block is above the earlier entry, and no load of the counter is sent above. The
+     *  filter is the least that can be in force: at first 1; an item that is sent can lower it; a clear
+     *  block sets it to the last item of the input, if its answer says done. */
+    FIO2070_CONTENT_APART = 4,
+    /** An input that is ignored has no entry. Judged if above some clear block the last item of the input
+     *  ignores it, and its answer says done, and no item that is sent below opens the input. */
+    FIO2070_CONTENT_IGNORED = 5,
+    /** An answer 181 has the states of the record at its stamp. Judged if the input is watched and no load
+     *  of the counter is sent above: at the first entry later than the stamp of the latest 181, or the end
+     *  of the first block without C whose stamp is not before it. */
+    FIO2070_CONTENT_STATE = 6,
+    /** The stamp of a 177, 180 or 181, or of a block without E, is not before the latest one above. Judged
+     *  if no load of the counter is sent above. */
+    FIO2070_CONTENT_CLOCK = 7,
+    /** An answer 178 has no S: a load of the counter is never refused. */
+    FIO2070_CONTENT_DONE = 8,
+    /** An answer 179 has no S, if its configuration names no input above 63. */
+    FIO2070_CONTENT_ACCEPTED = 9,
+    /** An answer 177 has none of the flags that its command clears. */
+    FIO2070_CONTENT_CLEARED = 10,
+    /** An answer 186 has Y, if another 186 is above. */
+    FIO2070_CONTENT_WATCHDOG = 11
 };
 
 /** What the rules on content keep of the frames above. The fields are the library's own. */
 struct fio2070_content_checker {
     struct {
-        uint32_t times[128];
-        uint32_t before;
-        uint8_t states[128];
-        uint8_t quiet[128];
-        uint8_t named[128];
-        uint8_t leading[128];
-        uint8_t trailing[128];
-        uint8_t has_before;
-        uint8_t asking;
-        uint8_t asked_quiet;
-        uint8_t clear_quiet;
+        struct {
+            uint64_t named;
+            uint64_t sent;
+            uint64_t ignoring;
+            uint64_t taken;
+            uint64_t settled;
+            uint64_t hidden;
+            uint64_t shut;
+            uint64_t levels;
+            uint64_t watched;
+            uint64_t timed;
+            uint32_t times[64];
+            uint8_t leading[64];
+            uint8_t trailing[64];
+            uint8_t least_leading[64];
+            uint8_t least_trailing[64];
+        } inputs;
+        uint64_t seen_levels;
+        uint32_t clock;
+        uint32_t floor;
+        uint32_t seen;
         uint8_t loaded;
-        uint8_t accepted;
-        uint8_t reserved[2];
+        uint8_t watchdog_set;
+        uint8_t clearing;
+        uint8_t absent_named;
+        uint8_t has_clock;
+        uint8_t clear;
+        uint8_t floor_kind;
+        uint8_t floor_input;
+        uint8_t has_seen;
+        uint8_t reserved[3];
     } above;
     uint8_t has_number;
     uint8_t number;
-    uint8_t reserved[2];
+    uint8_t reserved[6];
 };
 
-/** The first entry of a block that breaks a rule on content. Without one each field is 0. */
+/** The first rule on content that a frame breaks. Without a breach each field is 0. */
 struct fio2070_content_breach {
-    /** 0 none; 1 order; 2 alternate; 3 apart. */
+    /** 0 for none, else the number of the rule: one of `FIO2070_CONTENT_ORDER` and those after it. */
     uint8_t rule;
-    /** The index of the entry in its block, from 0. */
-    uint8_t entry;
-    /** The input that the entry names. */
+    /** The input of the entry that breaks it, or that whose state is another; 255 for an answer. */
     uint8_t input;
+    /** How many items of the frame's block are recorded above the breach, a gap mark with them: for an
+     *  answer none, at the end of a block all. */
+    uint16_t items;
 };
 
 /** Writes the name of a rule on content, such as "order"; FIO2070_CONTENT_NONE and what is no rule have the empty text.
@@ -584,15 +658,23 @@ struct fio2070_content_breach {
 FIO2070_MUST_USE
 size_t fio2070_content_rule_text(uint8_t rule, char *text, size_t room);
 
-/** Starts above the first frame. Beside what `fio2070_checker_start` assumes, the rules assume that the frames begin with
- * the start of both ends; that an entry waits for fewer than 65,536 scans; and that fewer than 2^31 scans lie between an
- * entry and the next. */
+/** Starts above the first frame of a log, which may begin anywhere, whatever both ends did above. Start again after a gap in
+ * the log, a damaged frame or a restart. The rules assume what `fio2070_checker_start` does, and of the link:
+ *  - no load of the counter that was sent above the log takes effect in it (order, fresh, apart, state, clock);
+ *  - an entry waits for fewer than 65,536 scans (order, fresh, apart, state);
+ *  - there are fewer than 2^31 scans between an entry or a block without C and the next entry (order, fresh), between a 181
+ *    and the entry or block to which it is compared (state), and between successive stamps (clock);
+ *  - there are fewer than 2^32 scans between successive entries of an input (apart).
+ * docs/PROMISES.md says which rules are proved to accuse no such link. */
 void fio2070_content_start(struct fio2070_content_checker *content);
-/** Takes a frame that the CPU's end sent: no entry is in it. */
+/** As `fio2070_content_start`, for a log that begins with the start of both ends: it knows how the module begins, and finds
+ * more. In any other log it can accuse a right link. */
+void fio2070_content_start_begun(struct fio2070_content_checker *content);
+/** Takes a frame that the CPU's end sent, which breaks no rule on content. */
 void fio2070_content_sent(struct fio2070_content_checker *content, const uint8_t *octets, size_t length);
-/** Takes a frame that the CPU's end heard: writes the first entry of its block that breaks a rule on content, and returns
- * the number of the rule, 0 if none does. All entries of the block are taken, below a breach too. Blocks are judged
- * that a poller takes whose first number is that of the first poll sent, each once. After a frame that breaks a rule of
+/** Takes a frame that the CPU's end heard: writes the first rule on content that it breaks, and returns the number of the
+ * rule, 0 if it breaks none. All of the frame is taken, below a breach too. Of the block answers those are judged that a
+ * poller takes whose first number is that of the first poll sent, each once. After a frame that breaks a rule of
  * `fio2070_checker` the result is not promised. */
 FIO2070_MUST_USE
 uint8_t fio2070_content_heard(struct fio2070_content_checker *content, const uint8_t *octets, size_t length,
@@ -680,25 +762,6 @@ struct fio2070_error_counts {
     /** In transmitting. */
     uint8_t transmit;
 };
-
-/** The limits of a module (own profile; TEES 2009 has 1,024 and 255). */
-struct fio2070_limits {
-    /** The most entries that wait for a poll, 1 to 8,192. */
-    uint16_t waiting;
-    /** The most entries of a block, 1 to 255. */
-    uint8_t per_block;
-    /** Not read. */
-    uint8_t reserved;
-};
-
-/** What a call that starts a module returns. */
-enum fio2070_start_kind {
-    FIO2070_STARTED = 0,
-    FIO2070_REFUSED = 1 /**< the limits are out of their ranges, and nothing changed */
-};
-
-/** Those of TEES 2009: struct fio2070_limits limits = FIO2070_STANDARD_LIMITS; */
-#define FIO2070_STANDARD_LIMITS {FIO2070_STANDARD_WAITING, FIO2070_MOST_ENTRIES, 0}
 
 /** Room for an entry that waits. */
 struct fio2070_slot {
@@ -916,7 +979,9 @@ FIO2070_SAME(checker, sizeof(struct fio2070_checker) == 16 &&
              offsetof(struct fio2070_checker, advanced) == 6 &&
              offsetof(struct fio2070_checker, more) == 7 &&
              offsetof(struct fio2070_checker, skips) == 8 &&
-             offsetof(struct fio2070_checker, reserved) == 9);
+             offsetof(struct fio2070_checker, per_block) == 9 &&
+             offsetof(struct fio2070_checker, waiting) == 10 &&
+             offsetof(struct fio2070_checker, reserved) == 12);
 
 FIO2070_SAME(breach, sizeof(struct fio2070_breach) == 4 &&
              offsetof(struct fio2070_breach, has_due) == 1 &&
@@ -939,9 +1004,9 @@ FIO2070_SAME(configuration_item, sizeof(struct fio2070_configuration_item) == 4 
              offsetof(struct fio2070_configuration_item, leading) == 2 &&
              offsetof(struct fio2070_configuration_item, trailing) == 3);
 
-FIO2070_SAME(content_breach, sizeof(struct fio2070_content_breach) == 3 &&
-             offsetof(struct fio2070_content_breach, entry) == 1 &&
-             offsetof(struct fio2070_content_breach, input) == 2);
+FIO2070_SAME(content_breach, sizeof(struct fio2070_content_breach) == 4 &&
+             offsetof(struct fio2070_content_breach, input) == 1 &&
+             offsetof(struct fio2070_content_breach, items) == 2);
 
 FIO2070_SAME(fault, sizeof(struct fio2070_fault) == 16 &&
              offsetof(struct fio2070_fault, code) == 1 &&
@@ -981,7 +1046,7 @@ FIO2070_SAME(heard, sizeof(struct fio2070_heard) == 32 &&
              offsetof(struct fio2070_heard, reserved) == 11 &&
              offsetof(struct fio2070_heard, fault) == 16);
 
-FIO2070_SAME(content_checker, sizeof(struct fio2070_content_checker) == 1168);
+FIO2070_SAME(content_checker, sizeof(struct fio2070_content_checker) == 632);
 
 FIO2070_SAME(counter, sizeof(struct fio2070_counter) == 12);
 

@@ -364,6 +364,12 @@ private:
 class Checker {
 public:
     Checker() { ::fio2070_checker_start(&checker_); }
+    /// A checker of a module with these limits. None where one is out of its range.
+    static std::optional<Checker> within(std::uint8_t per_block, std::uint16_t waiting) {
+        std::optional<Checker> checker{Checker()};
+        if (::fio2070_checker_start_within(&checker->checker_, {waiting, per_block, 0}) != FIO2070_STARTED) checker.reset();
+        return checker;
+    }
     /// The breach of a frame: its rule is 0 where the frame keeps the rules.
     ::fio2070_breach sent(Octets octets) {
         ::fio2070_breach breach;
@@ -380,13 +386,19 @@ private:
     ::fio2070_checker checker_{};
 };
 
-/// A checker of the rules on content: it judges the entries of each block that a poller takes whose first number is that
-/// of the first poll sent.
+/// A checker of the rules on content: it judges answers, and the entries of each block that a poller takes whose first
+/// number is that of the first poll sent. The log may begin anywhere.
 class ContentChecker {
 public:
     ContentChecker() { ::fio2070_content_start(&content_); }
+    /// A checker of a log that begins with the start of both ends, which finds more.
+    static ContentChecker begun() {
+        ContentChecker content;
+        ::fio2070_content_start_begun(&content.content_);
+        return content;
+    }
     void sent(Octets octets) { ::fio2070_content_sent(&content_, octets.data(), octets.size()); }
-    /// The first entry of a block that breaks a rule: its rule is 0 where none does.
+    /// The first rule that a frame breaks: 0 if it breaks none.
     ::fio2070_content_breach heard(Octets octets) {
         ::fio2070_content_breach breach;
         breach.rule = ::fio2070_content_heard(&content_, octets.data(), octets.size(), &breach);
@@ -508,7 +520,7 @@ inline bool operator==(const fio2070_breach &one, const fio2070_breach &other) {
 }
 inline bool operator!=(const fio2070_breach &one, const fio2070_breach &other) { return !(one == other); }
 inline bool operator==(const fio2070_content_breach &one, const fio2070_content_breach &other) {
-    return one.rule == other.rule && one.entry == other.entry && one.input == other.input;
+    return one.rule == other.rule && one.input == other.input && one.items == other.items;
 }
 inline bool operator!=(const fio2070_content_breach &one, const fio2070_content_breach &other) { return !(one == other); }
 // Of commands and answers without what follows their fields: items, entries and bodies.

@@ -36,7 +36,7 @@ stage() {
     umask 022
     env -u MAKEFLAGS -u MAKELEVEL -u MFLAGS make -s install DESTDIR="$folder" "$@" >/dev/null ||
         fail 'make install failed'
-    find "$folder" -path '*/bin/fio2070*' -exec strip --strip-unneeded '{}' ';' \
+    find "$folder" -type f -path '*/bin/fio2070*' -exec strip --strip-unneeded '{}' ';' \
         -o -type f -name '*.so*' -exec strip --strip-unneeded '{}' ';' \
         -o -name '*.a' -exec strip --strip-debug --enable-deterministic-archives '{}' ';' || fail 'strip failed'
     chmod -R u=rwX,go=rX "$folder"
@@ -48,20 +48,21 @@ stage_library() {
     folder=$1 archive=$2
     shift 2
     umask 022
-    env -u MAKEFLAGS -u MAKELEVEL -u MFLAGS make -s install-library DESTDIR="$folder" libraries="$archive" shared= command= \
-        tools= "$@" >/dev/null || fail 'make install-library failed'
+    env -u MAKEFLAGS -u MAKELEVEL -u MFLAGS make -s install-library DESTDIR="$folder" libraries="$archive" shared= "$@" \
+        >/dev/null || fail 'make install-library failed'
     chmod -R u=rwX,go=rX "$folder"
 }
 
-# stage_documents FOLDER: puts the documents and the examples into a folder, with the links between them whole.
+# stage_documents FOLDER SETTING..: puts the documents and the examples into a folder, by `make install-documents` with these
+# settings, and the glossary with them.
 stage_documents() {
-    install -d "$1/docs" "$1/examples"
-    install -m 644 README.md "$1"
-    install -m 644 docs/*.md "$1/docs"
-    tools/generate-glossary >"$1/docs/GLOSSARY.md"
-    (cd examples && find . -type f) | while read -r file; do
-        install -D -m 644 "examples/$file" "$1/examples/$file"
-    done
+    folder=$1
+    shift
+    umask 022
+    env -u MAKEFLAGS -u MAKELEVEL -u MFLAGS make -s install-documents DESTDIR="$folder" "$@" >/dev/null ||
+        fail 'make install-documents failed'
+    for documents in "$folder"/*/share/doc/fio2070; do tools/generate-glossary >"$documents/docs/GLOSSARY.md"; done
+    chmod -R u=rwX,go=rX "$folder"
 }
 
 # set_times FOLDER: gives all files and folders the time of the package.

@@ -196,7 +196,9 @@ else
 fi
 first 'make library' run_make library OUT="$room"
 holds 'the library needs no other' alone "$archive"
-if has_command objdump && [ "$(uname -m)" = x86_64 ]; then
+if ! has_command rt; then
+    skip 'the stack of each call' 'it is that of the archive that the Rattle kit makes'
+elif has_command objdump && [ "$(uname -m)" = x86_64 ]; then
     holds 'the stack of each call' stacks
 else
     skip 'the stack of each call' 'no objdump here (Debian package binutils)'

@@ -17,17 +17,17 @@ import time
 sys.dont_write_bytecode = True
 
 from support.check import Check
-from support.tables import TOP
+from support.tables import HAS_KIT, TOP
 
 # How each shell is started without the user's own settings, and what it reads the completions by; {} is the folder
 # into which the program was installed.
 SHELLS = {
     'bash': (['bash', '--norc', '--noprofile', '-i'],
-             '. {}/share/bash-completion/completions/fio2070'),
+             'for file in {}/share/bash-completion/completions/*; do . "$file"; done'),
     'zsh': (['zsh', '-f', '-i'],
             'fpath=({}/share/zsh/site-functions $fpath); autoload -U compinit; compinit -u -D'),
     'fish': (['fish', '--no-config', '-i'],
-             'source {}/share/fish/vendor_completions.d/fio2070.fish'),
+             'for file in {}/share/fish/vendor_completions.d/*; source $file; end'),
 }
 
 # Lines as they are typed, and what the completed command prints. The folder has the files captured.frames and
@@ -39,6 +39,10 @@ LINES = [
     ('fio2070 sim\t< heal\t', 'counter 0'),
     ('fio2070 check --h\t', 'Usage: fio2070 check'),
     ('fio2070 --ver\t', 'fio2070 1.'),
+    ('fiolog deco\t-q capt\t', '> poll block 5'),
+    ('fiolog convert --to fra\tcapt\t', '3605'),
+    ('fiolog pla\t--inp\t64 --fil\t5', 'inputs'),
+    ('fio2070-test --self mod\t2000', 'no difference'),
 ]
 
 SECONDS = 20
@@ -98,6 +102,8 @@ def try_shell(check, name, prefix, folder):
     try:
         shell.run(setting.format(prefix), 1)
         for number, (line, expected) in enumerate(LINES, 2):
+            if line.startswith('fio2070 ') and not HAS_KIT:
+                continue
             row = '%s completes %r' % (name, line)
             if check.wants(row):
                 printed = shell.run(line, number)

@@ -24,6 +24,7 @@ from support.sessions import SESSION, timed
 from support.tables import TOP
 
 EXAMPLES = os.path.join(TOP, 'examples')
+BIT = re.compile(r'^ +[A-Z]: ')
 LINE = re.compile(r'^\d+: +(?:\S+ \S+ |\d+\.\d+ )?[<>] ')
 LOG = LOGGERS['ISO times'](timed(SESSION))
 
@@ -33,7 +34,7 @@ def check_decode(check):
     for name in sorted(glob.glob(os.path.join(EXAMPLES, '*.frames'))):
         with open(name[:-len('frames')] + 'shown', encoding='ascii') as file:
             expected = [line for line in file.read().splitlines() if not line.startswith('line ')]
-        found = [LINE.sub('', line) for line in fiolog('decode', name).out.splitlines()]
+        found = [LINE.sub('', line) for line in fiolog('decode', name).out.splitlines() if not BIT.match(line)]
         faults = [line for line in found if re.match(r'(?:unknown|wrong length|too long)', line)]
         check.equal('decode of ' + os.path.basename(name), expected, [line for line in found if line not in faults])
     rows = [json.loads(line) for line in fiolog('decode', '--json', text=LOG).out.splitlines()]
@@ -54,6 +55,50 @@ def check_decode(check):
         check.equal('decode ' + ' '.join(words), lines, [row['line'] for row in rows])
     check.holds('colours where they are asked for', '\x1b[' in fiolog('decode', '--color', 'always', text=LOG).out)
     check.holds('no colours in a pipe', '\x1b[' not in fiolog('decode', text=LOG).out)
+
+
+def check_shown(check):
+    """What is shown beside the words of `show`: the bits of a status, the clock of the log."""
+    sets, says = ('3131', 'b1a1000000000005', 'ba01', 'b60500060000000a'), {
+        'P': 'the module was reset', 'R': 'status flag', 'K': 'status flag', 'E': 'the same block number was asked for again',
+        'F': 'entries between the block before and this one were pushed out', 'Y': 'the watchdog had been set before'}
+    rows = [json.loads(line) for line in fiolog('decode', '--json', '--format', 'frames', text='\n'.join(sets)).out.splitlines()]
+    letters = ('KRW', 'PKW', 'Y', 'FE')
+    check.equal('the letters of bits', letters, tuple(''.join(row['bits']) for row in rows))
+    check.equal('what bits say', [], [(letter, words) for row in rows for letter, words in row['bits'].items()
+                                      if says.get(letter, 'status flag') != words])
+    out = fiolog('decode', '--format', 'frames', text=sets[3]).out
+    check.equal('the bits of a block', ['  F: ' + says['F'], '  E: ' + says['E']], out.splitlines()[1:])
+    out = fiolog('decode', text='08:15:02.25 TX 36 05\n08:15:02.26 RX b6 05 00 00 00 00 00 0a\n').out
+    check.equal('the clock of the log', ['08:15:02.25', '08:15:02.26'], re.findall(r'\d\d:\d\d:\S+', out))
+    late = fiolog('decode', '--json', text='{"ts": 1e17, "data": "b60500000000000a"}\n{"ts": 9, "data": "b60600000000000a"}\n')
+    check.equal('a time beyond the year 9999 is none', (0, [None, 9]),
+                (late.status, [json.loads(line)['time'] for line in late.out.splitlines()]))
+
+
+class Frame:
+    """A frame as the reader gives it, of a log on the bus."""
+
+    def __init__(self, octets):
+        self.octets, self.direction, self.text = bytes.fromhex(octets), '', ''
+
+
+def check_judged(check):
+    """What `check` says of a breach of limits, the nine rules alone, and what is not judged below a frame that was lost."""
+    block = '> 3605\n< b605%s\n'
+    for name, octets, words in [('an input', '014500010000000001', 'an entry is of input 69, above 63'),
+                                ('C', '010c00010800000001', 'C says that more entries wait than a block takes, and 1 entries came'),
+                                ('F', '00040000000a', 'F says that entries were pushed out, and C is not there')]:
+        done = fiolog('check', '-q', text=block % octets)
+        check.holds('a breach of limits by ' + name, 'line 2: limits: ' + words in done.out, done.out)
+    name = os.path.join(EXAMPLES, 'doubled-entry.transcript')
+    check.equal('--rules nine', (1, 0), (fiolog('check', '-q', name).status, fiolog('check', '-q', '--rules', 'nine', name).status))
+    from fiolog.rules import Rules
+    rules = Rules('bus')
+    above = [rules.breach(None, Frame(octets)) for octets in ('3605', 'b60500000000000a', '3606')]
+    rules.lose()    # the answer 6 and the poll 7 were lost here
+    below = [rules.breach(None, Frame(octets)) for octets in ('b60700000000001e', '3607', 'b60700020000001e', '3608')]
+    check.equal('no right link is accused where frames were lost', [None] * 7, above + below)
 
 
 def check_words(check):
@@ -92,6 +137,10 @@ def check_numbers(check):
     rounds = fiolog('plan', '--inputs', '64', '--filter', '5', '--outage', '80').out
     check.equal('a round every 12 ms with 5 of each 100 lost, none later than 75', ['12', '75'],
                 re.findall(r'5 of each 100 rounds lost +(\d+) ms', rounds))
+    differing = json.loads(fiolog('plan', '--json', '--group', '60:20', '--group', '4:1').out)
+    check.equal('60 filters of 20 and 4 of 1', [33, 255, 32, 510, 65], [int(str(one['number']).split()[0]) for one in differing])
+    for words in (['--group', '60'], ['--group', '60:20', '--group', '5:1'], ['--group', '8:5', '--every', '5'], ['--inputs', '8'], []):
+        check.equal('plan ' + ' '.join(words), 2, fiolog('plan', *words).status)
     check.holds('6 rounds after the longest outage', re.search(r'nothing between the rounds +6 rounds', rounds), rounds)
 
 
@@ -107,17 +156,22 @@ def check_convert(check):
     check.holds('VCD', shown.startswith('$version') and shown.count('$var wire 1 i') == 3, shown)
     done = fiolog('record', text=LOG)
     record = done.out.splitlines()
-    check.equal('the record, of which the entries of a block are too near', (36, ['line 11 input 12 breaks apart'], 1),
+    check.equal('the record, of which entries are too near, and a stamp goes back',
+                (36, ['line 11 input 12 breaks apart', 'line 13 breaks clock'], 1),
                 (sum('state' in line for line in record), [line for line in record if 'breaks' in line], done.status))
     check.equal('the first line of the record', '7:     2026-11-22 07:15:02.065 input 12 state 1 stamp 999 wide 999',
                 re.sub(r'02\.\d+', '02.065', record[0]))
 
 
 def check_check(check):
-    """`check` finds first what the program finds, and goes on: past noise, past damage, in logs of the other end."""
+    """`check` finds first what the program finds, by `check` or else by `record`, and goes on: past noise, past damage, in logs
+    of the other end."""
     for name in sorted(glob.glob(os.path.join(EXAMPLES, '*.transcript'))):
-        with open(name[:-len('transcript')] + 'verdict', encoding='ascii') as file:
-            verdict = re.match(r'line (\d+) breaks (\w+)', file.read())
+        texts = ''
+        for path in sorted(glob.glob(name[:-len('transcript')] + '[rv]e*'), reverse=True):
+            with open(path, encoding='ascii') as file:
+                texts += file.read()
+        verdict = re.search(r'^line (\d+) (?:input \d+ )?breaks (\w+)', texts, re.M)
         done = fiolog('check', '-q', name)
         found = re.match(r'line (\d+): (\w+): ', done.out)
         check.equal('check of ' + os.path.basename(name), (verdict and verdict.groups(), 1 if verdict else 0),
@@ -135,6 +189,11 @@ def check_check(check):
                 (''.join(re.findall(r'line .*', done.out)), done.status, 'not judged' in done.err))
     middle = '< b6050000000003e8\n> 3606\n< b6060000000003e9\n'
     check.equal('--start-at-poll', 0, fiolog('check', '--start-at-poll', text=middle).status)
+    # F without C: a module of which no more may wait than a block takes can say that it lost entries.
+    lost = '> 3605\n< b605010c000a040000000b\n'
+    check.equal('the standard limits', ['limits'], re.findall(r'^line 2: (\w+)', fiolog('check', text=lost).out, re.M))
+    for words, status in ((('255', '64'), 0), (('255', '1024'), 1), (('0', '64'), 2), (('255', '8193'), 2)):
+        check.equal('--limits ' + ' '.join(words), status, fiolog('check', '--limits', *words, text=lost).status)
     check.equal('no frame', 1, fiolog('check', text='').status)
 
 
@@ -191,7 +250,8 @@ def check_terminal(check, folder):
 LANES = """
 from fiolog import log, plot, record
 from types import SimpleNamespace as Names
-given = Names(files=['-'], quiet=True, format='auto', pattern=None, sdlc=False, verbose=False, at='auto', start_at_poll=False)
+given = Names(files=['-'], quiet=True, format='auto', pattern=None, sdlc=False, verbose=False, at='auto', start_at_poll=False, whole=False,
+              limits=(255, 1024))
 lanes = plot.Lanes()
 for block in record.Record(log.Log(given), given).blocks():
     lanes.add(block)
@@ -222,7 +282,7 @@ def check_plot(check, folder):
                               stderr=subprocess.PIPE, env=ENVIRONMENT, universal_newlines=True)
         with open(path, 'rb') as file:
             octets = file.read()
-        check.equal('a picture as .' + ending, (1, 'fiolog: line 11 input 12 breaks apart\n', True),
+        check.equal('a picture as .' + ending, (1, 'fiolog: line 11 input 12 breaks apart\nfiolog: line 13 breaks clock\n', True),
                     (done.returncode, done.stdout + done.stderr, octets.startswith(begins)))
     check.equal('the inputs of a picture', {'12', '13', '14'}, set(re.findall(r'<!-- input (\d+) -->', open(
         os.path.join(folder, 'picture.svg'), encoding='utf-8').read())))
@@ -318,7 +378,7 @@ def check_closed(check):
 def main():
     check = Check()
     use_library(check, 'all commands of fiolog')
-    for part in (check_decode, check_words, check_numbers, check_convert, check_check, check_faulty_words, check_closed):
+    for part in (check_decode, check_shown, check_judged, check_words, check_numbers, check_convert, check_check, check_faulty_words, check_closed):
         part(check)
     with tempfile.TemporaryDirectory() as folder:
         check_hostile(check, folder)

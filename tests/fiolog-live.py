@@ -29,7 +29,7 @@ LOG = LOGGERS['ISO times'](timed(SESSION))
 # An entry of input 12 twice.
 DOUBLED = ['33020c05030d0503', 'b300', '3600', 'b600000000000000', '3601', 'b601010c000a000000000b', '3602',
            'b602010c00140000000015']
-REMARK = 'line 8: alternate: input 12: '
+REMARK = 'line 8: alternate: input 12 went to 0 twice'
 
 
 def numbers_of(text):
@@ -96,21 +96,30 @@ def fault_of_doubled():
     return None if fits else (out, status)
 
 
+def wait_for(port):
+    """Waits until a socket for datagrams is bound to this port (Linux: /proc/net/udp has its ports in hexadecimal)."""
+    for _ in range(200):
+        with open('/proc/net/udp', encoding='ascii') as table:
+            if ':%04X ' % port in table.read():
+                return
+        time.sleep(0.1)
+
+
 def fault_of_datagrams():
-    """Datagrams, one of them no message."""
+    """Datagrams, one of them no message, and one without octets, which is none."""
     from support.talking import rounds
     probe = socket.socket(socket.AF_INET, socket.SOCK_DGRAM)
     probe.bind(('127.0.0.1', 0))
     port = probe.getsockname()[1]
     probe.close()
     command = started('--udp', str(port), '--seconds', '5')
-    time.sleep(2)
-    frames = [octets for _, octets in rounds(10)] + [b'\x30']
+    wait_for(port)
+    frames = [b''] + [octets for _, octets in rounds(10)] + [b'\x30']
     with socket.socket(socket.AF_INET, socket.SOCK_DGRAM) as sender:
         for octets in frames:
             sender.sendto(octets, ('127.0.0.1', port))
     out = command.communicate(timeout=30)[0].decode()
-    return None if numbers_of(out)['frames'] == len(frames) and 'unknown type 48' in out else out
+    return None if numbers_of(out)['frames'] == len(frames) - 1 and 'unknown type 48' in out else out
 
 
 def heard(folder, text, *words):
@@ -143,10 +152,10 @@ def check_content(check, folder):
     """The examples whose record breaks a rule on content are accused of it, and no other is."""
     for path in sorted(glob.glob(os.path.join(EXAMPLES, '*.record'))):
         with open(path, encoding='ascii') as file:
-            expected = re.findall(r'^line (\d+) input (\d+) breaks (\w+)$', file.read(), re.M)
+            expected = re.findall(r'^line (\d+) (?:input (\d+) )?breaks (\w+)$', file.read(), re.M)
         with open(path[:-len('record')] + 'transcript', encoding='ascii') as file:
             out, _, status = heard(folder, file.read(), '--quiet')
-        found = re.findall(r'^line (\d+): (\w+): input (\d+): ', out, re.M)
+        found = re.findall(r'^line (\d+): (\w+): (?:input (\d+) )?', out, re.M)
         numbers = numbers_of(out)
         check.equal('live on ' + os.path.basename(path), ([(line, rule, number) for line, number, rule in expected], 0, len(expected),
                                                           int(bool(expected))),

@@ -3,6 +3,7 @@
 lossy runs with an entry dropped, doubled, turned or swapped; each breach in the table, as JSON, VCD and picture; and what
 goes on below a breach, in the middle of traffic, and in logs of the bus and of the module. Last line: `N passed, M failed`."""
 
+import csv
 import glob
 import json
 import os
@@ -19,9 +20,11 @@ from support.fiolog import ENVIRONMENT, fiolog, use_library
 from support.tables import TOP, output_of
 
 EXAMPLES = os.path.join(TOP, 'examples')
-# The entries that each broken example accuses: line, input, rule and index in the block.
-BROKEN = {'doubled-entry': (10, 12, 'alternate', 0), 'lost-entry': (11, 12, 'alternate', 0), 'near-entries': (7, 12, 'apart', 1),
-          'swapped-entries': (7, 12, 'order', 1), 'turned-entry': (9, 12, 'alternate', 0)}
+# What each broken example accuses: line, rule, and if it has them input and index in the block.
+BROKEN = {'clock-back': (5, 'clock'), 'doubled-entry': (10, 'fresh', 12, 0), 'flag-left': (3, 'cleared'),
+          'ignored-input': (7, 'ignored', 12, 0), 'lost-entry': (11, 'alternate', 12, 0), 'near-entries': (7, 'apart', 12, 1),
+          'other-states': (13, 'state', 12), 'refused-configuration': (3, 'accepted'), 'refused-load': (3, 'done'),
+          'swapped-entries': (7, 'order', 12, 1), 'turned-entry': (9, 'alternate', 12, 0), 'watchdog-forgotten': (5, 'watchdog')}
 SEEDS = 9
 
 
@@ -43,17 +46,18 @@ def check_examples(check):
     for path in sorted(glob.glob(os.path.join(EXAMPLES, '*.transcript'))):
         name = os.path.splitext(os.path.basename(path))[0]
         same_text(check, name, transcript(name))
-    for name, (line, number, rule, entry) in BROKEN.items():
-        path, words = os.path.join(EXAMPLES, name + '.transcript'), 'line %d input %d breaks %s' % (line, number, rule)
+    for name, (line, rule, *where) in BROKEN.items():
+        path = os.path.join(EXAMPLES, name + '.transcript')
+        words = 'line %d %sbreaks %s' % (line, 'input %d ' % where[0] if where else '', rule)
         done = fiolog('record', '-q', path)
         check.equal('the table of %s' % name, (1, [words]), (done.status, [one for one in done.out.splitlines() if 'breaks' in one]))
         entries = sum(octets[2] for octets in blocks_of(transcript(name)))
         check.equal('all items of %s' % name, entries, len(re.findall(r'^\d+: +input', done.out, re.M)))
         rows = [json.loads(one) for one in fiolog('record', '-q', '--json', path).out.splitlines()]
-        check.equal('the object of %s' % name, [{'line': line, 'time': None, 'input': number, 'entry': entry, 'breaks': rule}],
+        check.equal('the object of %s' % name, [{'line': line, 'time': None, **dict(zip(('input', 'entry'), where)), 'breaks': rule}],
                     [one for one in rows if 'breaks' in one])
         done = fiolog('record', '-q', '--vcd', path)
-        check.equal('the VCD of %s' % name, (1, 1, 'fiolog: %s\n' % words),
+        check.equal('the VCD of %s' % name, (1, int(len(where) == 2), 'fiolog: %s\n' % words),
                     (done.status, done.out.count('\n1b\n'), done.err))
     check.equal('a record without a breach', (0, False),
                 (fiolog('record', '-q', os.path.join(EXAMPLES, 'good.transcript')).status,
@@ -128,16 +132,24 @@ def breaches(*words, text):
 
 def check_course(check):
     """What goes on, and what is not judged."""
-    check.equal('one more breach in each block', (['line 8 input 12 breaks alternate', 'line 10 input 12 breaks alternate'], 1),
+    check.equal('one more breach in each block', (['line 8 input 12 breaks alternate', 'line 10 input 12 breaks fresh'], 1),
                 breaches(text=START + FIRST + AGAIN + AGAIN.replace('3602', '3603').replace('b602', 'b603')))
     later = SKIP + '> 360b\n< b60b010c00280000000029\n> 360c\n< b60c010c003c000000003d\n'
     check.equal('below a breach of the rules of `check` from the next poll on',
                 (['line 7 breaks advance', 'line 14 input 12 breaks alternate'], 1), breaches(text=START + FIRST + later))
     load = '> 3200000000\n< b200\n'
     back = '> 360b\n< b60b010c00280000000029\n> 360c\n< b60c018c00010000000002\n'
-    check.equal('a time that goes back', ['line 7 breaks advance', 'line 14 input 12 breaks order'], breaches(text=START + FIRST + SKIP + back)[0])
+    check.equal('a time that goes back', ['line 7 breaks advance', 'line 14 breaks clock'], breaches(text=START + FIRST + SKIP + back)[0])
     check.equal('a load above the breach lifts it', ['line 9 breaks advance'], breaches(text=START + FIRST + load + SKIP + back)[0])
-    check.equal('order', (['line 8 input 13 breaks order'], 1), breaches(text=START + FIRST + EARLIER))
+    check.equal('an entry that comes late', (['line 8 input 13 breaks fresh'], 1), breaches(text=START + FIRST + EARLIER))
+    # An input is ignored until it is configured, which only a log says that begins with both ends.
+    check.equal('a log that begins later', ([], 0), breaches(text=FIRST))
+    check.equal('--whole', (['line 4 input 12 breaks ignored'], 1), breaches('--whole', text=FIRST))
+    check.equal('--whole of a right log', ([], 0), breaches('--whole', text=START + FIRST))
+    done = fiolog('check', '-q', text=START + FIRST + AGAIN)
+    check.equal('`check` says what a breach means', (
+        1, 'line 8: alternate: input 12 went to 0 twice: a change between was lost, or this one doubled'),
+                (done.status, done.out.splitlines()[0]))
     middle = '< b6050000000003e8\n' + FIRST
     check.equal('in the middle of traffic', (['line 1 breaks pair'], 1), breaches(text=middle))
     check.equal('--start-at-poll', ([], 0), breaches('--start-at-poll', text=middle))
@@ -155,7 +167,8 @@ CROSSES = '''
 import sys
 from types import SimpleNamespace as Names
 from fiolog import log, plot, record
-given = Names(files=['-'], quiet=True, format='auto', pattern=None, sdlc=False, verbose=False, at='auto', start_at_poll=False)
+given = Names(files=['-'], quiet=True, format='auto', pattern=None, sdlc=False, verbose=False, at='auto', start_at_poll=False, whole=False,
+              limits=(255, 1024))
 lanes = plot.Lanes()
 for block in record.Record(log.Log(given), given).blocks():
     lanes.add(block)
@@ -170,12 +183,40 @@ def check_picture(check):
     check.equal('the crosses of a picture', ('[(12, 20, 0)]\n', 'fiolog: line 8 input 12 breaks alternate\n'), (done.stdout, done.stderr))
 
 
+# Two blocks, the first made when the counter was 100; the second says that entries were pushed out (F), and then the counter is
+# back at 7. Input 3 has entries too.
+HIRES = '> 3600\n< b600010c005a0000000064\n> 3601\n< b601020300788c00820c0000008c\n> 3602\n< b602010c00050000000007\n'
+EVENTS = [['2026-03-01 06:59:59.990', '7', '82', '5'], ['2026-03-01 07:00:00.030', '7', '81', '5']]
+
+
+def check_events(check, folder):
+    """High-resolution events: each transition of an input with a channel, at its time; what is missing is said."""
+    name = os.path.join(folder, 'events.csv')
+    given = ('--hires', name, '--start', '2026-03-01T07:00:00', '--signal', '7', '--on', '0', '--channels', '12:5')
+    done = fiolog('record', '-q', *given, text=HIRES)
+    with open(name, newline='') as file:
+        head, *rows = csv.reader(file)
+    check.equal('the columns of events', ['TimeStamp', 'DeviceId', 'EventId', 'Parameter'], head)
+    check.equal('events', EVENTS, rows[:2])
+    check.equal('what is missing is said', (3, True, True, True),
+                (len(rows), 'the counter went back' in done.err, 'gap mark: transitions are missing before 2026-03-01 07:00:00.020'
+                 in done.err, 'inputs 3' in done.err))
+    check.equal('options that events need', (2, True),
+                (fiolog('record', '--hires', name, text=HIRES).status,
+                 '--start, --signal, --on' in fiolog('record', '--hires', name, text=HIRES).err))
+    check.equal('a map that is none', 2, fiolog('record', '--channels', '64:1', text=HIRES).status)
+    table = list(csv.DictReader(fiolog('record', '-q', '--csv', text=HIRES).out.splitlines()))
+    check.equal('record --csv', [('12', '0', '90', ''), ('', '', '', 'gap'), ('3', '0', '120', ''), ('12', '1', '130', ''), ('12', '0', '5', '')],
+                [(row['input'], row['state'], row['wide'], row['mark']) for row in table if row['mark'] in ('', 'gap')])
+
+
 def main():
     check = Check()
     use_library(check, 'fiolog record')
     for part in (check_examples, check_course, check_picture):
         part(check)
     with tempfile.TemporaryDirectory() as folder:
+        check_events(check, folder)
         check_runs(check, folder)
     check.end()
 

@@ -22,9 +22,9 @@ from support.damage import DAMAGED
 from support.loggers import LOGGERS
 from support.sessions import SESSION, timed
 from support.strangers import PASSED, READ
-from support.tables import TOP, output_of
+from support.tables import HAS_KIT, TOP, output_of
 
-PAGE = os.path.join(TOP, 'fio2070.html')
+PAGE = os.path.join(TOP, 'fio2070.html' if HAS_KIT else 'dist/fio2070.html')
 PICTURES = os.path.join(TOP, 'tools', 'page')
 MOST_OCTETS = 400_000
 MANY = 100_000

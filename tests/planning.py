@@ -177,6 +177,50 @@ def check_configured_search(check):
                         logged_in(opened, filter_length, scans), most_reported(inputs, filter_length, opened, scans))
 
 
+def logged_in_groups(groups, scans):
+    """How many transitions the densest traffic of inputs in groups, each with its filter, has in so many scans."""
+    return sum(logged_in(count, length, scans) for count, length in groups)
+
+
+def most_planned(inputs, groups, scans):
+    """The most that so many scans can report, by a search of all that inputs and configurations can do, where at each scan
+    each open input is in one of the groups, no more of each than planned, with the filter of its group. A configuration
+    begins a run anew, also one that moves an input from one group to another."""
+    lengths = [length for _, length in groups]
+    every = [(group, 0) for group in range(len(groups))] + [(None, 0)]
+
+    def is_planned(state):
+        return all(sum(group == number for group, _ in state) <= count for number, (count, _) in enumerate(groups))
+
+    ready = [(group, lengths[group] - 1) for group in range(len(groups))] + [(None, 0)]
+    reached = {tuple(sorted(state, key=str)): 0 for state in itertools.product(ready, repeat=inputs) if is_planned(state)}
+    for _ in range(scans):
+        configured = {}
+        for state, count in reached.items():
+            for after in itertools.product(*([one] + every for one in state)):
+                if is_planned(after):
+                    after = tuple(sorted(after, key=str))
+                    configured[after] = max(count, configured.get(after, 0))
+        reached = {}
+        for state, count in configured.items():
+            choices = [((group, age, 0),) if group is None
+                       else ((group, min(age + 1, lengths[group] - 1), 0),) + ((group, 0, 1),) * (age == lengths[group] - 1)
+                       for group, age in state]
+            for after in itertools.product(*choices):
+                found = tuple(sorted((one[:2] for one in after), key=str))
+                reached[found] = max(count + sum(one[2] for one in after), reached.get(found, 0))
+    return max(reached.values())
+
+
+def check_planned_search(check):
+    """Configurations that keep to a plan make no more transitions than its inputs would without: so many scans report at most
+    one of each input that may be open, for each filter of its group that begins in them."""
+    for inputs, groups in ((3, ((1, 1), (1, 3))), (3, ((1, 2), (1, 3))), (4, ((2, 2), (1, 3))), (4, ((1, 1), (2, 4)))):
+        for scans in range(7):
+            check.equal('the most that %d scans report of %d inputs in groups of %s' % (scans, inputs, groups),
+                        logged_in_groups(groups, scans), most_planned(inputs, groups, scans))
+
+
 def lossy_run(inputs, filter_length, every, is_lost, seed):
     """The most that wait and how long the record lacks one at most, in the densest traffic with a round begun so often, of
     which these are lost: the poll or, as the seed has it, the answer."""
@@ -399,6 +443,7 @@ def main():
     check_bounds(check)
     check_search(check)
     check_configured_search(check)
+    check_planned_search(check)
     check_polling(check)
     check_room(check)
     check_restart(check)

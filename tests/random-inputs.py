@@ -15,18 +15,17 @@ sys.dont_write_bytecode = True
 
 from support.check import Check
 from support.messages import LENGTHS
-from support.tables import MOST_WAITING, TOP, program
+from support.tables import HAS_KIT, MOST_WAITING, program, program_of, TOP
 
-TOOLS = ('show', 'simulate', 'check', 'record')
+TOOLS = ('show', 'simulate', 'check', 'record') if HAS_KIT else ('show', 'check', 'record')
 SECONDS = 10
 
 
-
-def rules():
-    """The rules of transcripts, as docs/FORMATS.md names them."""
+def rules(head, words=''):
+    """The rules in a table of docs/FORMATS.md with this head, of which the rows have these words."""
     with open(os.path.join(TOP, 'docs', 'FORMATS.md'), encoding='utf-8') as file:
-        table = file.read().partition('| RULE | Broken by a line that |\n|---|---|\n')[2].partition('\n\n')[0]
-    return re.findall(r'^\| `(\w+)` \|', table, re.M)
+        table = file.read().partition('| RULE | %s |\n' % head)[2].partition('\n\n')[0]
+    return re.findall(r'^\| `(\w+)` \|.*%s' % words, table, re.M)
 
 
 FAULT = r'(?:empty|too long got \d+|unknown type \d+|wrong length needed \d+ got \d+)'
@@ -47,8 +46,11 @@ REFUSED_EVENT = re.compile(r'(\d+) refused (?:not sent \d+|out of order \d+ afte
 ITEM = re.compile(r'gap|input \d+ state [01] stamp \d+ wide \d+')
 ENDS = [re.compile(word + r' \d+') for word in ('counter', 'number', 'waiting', 'record')]
 VERDICT = re.compile(r'good \d+ frames')
-BROKEN = re.compile(r'line \d+ breaks (?:%s)|line \d+: bad line' % '|'.join(rules()))
-BROKEN_ENTRY = re.compile(r'line \d+ input \d+ breaks (?:order|alternate|apart)')
+BROKEN = re.compile(r'line \d+ breaks (?:%s)|line \d+: bad line' % '|'.join(rules('Broken by a line that')))
+CONTENT = 'In a right link | A breach, in words'
+OF_INPUTS = rules(CONTENT, 'input I')
+BROKEN_CONTENT = re.compile(r'line \d+ input \d+ breaks (?:%s)|line \d+ breaks (?:%s)' % (
+    '|'.join(OF_INPUTS), '|'.join(one for one in rules(CONTENT) if one not in OF_INPUTS)))
 
 
 def lines_that_say(text):
@@ -104,12 +106,12 @@ def is_check(text, lines, status):
 
 
 def is_record(_, lines, status):
-    """A line of `check`; or the record, and the line for an entry that breaks a rule on content where there is one."""
+    """A line of `check`; or the record, and the line for the breach of a rule on content if there is one."""
     if len(lines) == 1 and BROKEN.fullmatch(lines[0]):
         return status == 1
     items = lines[1:-1] if status else lines[1:]
     return (len(lines) > status and lines[0] == 'record %d' % len(items) and all(ITEM.fullmatch(line) for line in items)
-            and (status == 0 or BROKEN_ENTRY.fullmatch(lines[-1]) is not None))
+            and (status == 0 or BROKEN_CONTENT.fullmatch(lines[-1]) is not None))
 
 
 FORMS = {'show': is_show, 'simulate': is_simulate, 'check': is_check, 'record': is_record}
@@ -255,7 +257,7 @@ def run(case):
     """How the run of a case ends, and what is wrong with it, or None."""
     _, tool, text = case
     try:
-        done = subprocess.run([program(), tool], input=text, stdout=subprocess.PIPE, stderr=subprocess.PIPE,
+        done = subprocess.run([program_of(tool), tool], input=text, stdout=subprocess.PIPE, stderr=subprocess.PIPE,
                               timeout=SECONDS)
     except subprocess.TimeoutExpired:
         return None, 'no end within %d seconds' % SECONDS
@@ -267,7 +269,7 @@ def run(case):
 def main():
     check = Check(seed=2070, count=(500, 6000))
     seed, count = check.given.seed, check.given.count
-    # Has the program built where it is not.
+    # Has the program built if it is not.
     program()
     inputs = Inputs(seed)
     drawn = [(tool, place, inputs.input(tool)) for place in range(count) for tool in TOOLS]

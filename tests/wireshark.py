@@ -19,7 +19,7 @@ sys.dont_write_bytecode = True
 from support.check import Check
 from support.dissection import ENTRY, ITEM, fault_of_frame, fault_of_links, shown, spelled_element, values
 from support.frames import example_transcripts, frame_check, random_frames, random_transcripts, table_frames
-from support.tables import TOP, output_of
+from support.tables import HAS_KIT, TOP, output_of
 from support.tshark import BARE, DISSECTOR, SDLC, WAYS, Tshark
 from support.wrong_dissectors import WRONG_DISSECTORS
 
@@ -274,7 +274,8 @@ def comparisons(check, cases):
             yield 'hex2pcap of ' + name, over(fault_of_hex2pcap, name)
     yield 'hex2pcap with times', over(fault_of_times)
     yield 'hex2pcap of other texts', over(fault_of_others)
-    yield 'a simulated run', over(fault_of_simulated_run)
+    if HAS_KIT:
+        yield 'a simulated run', over(fault_of_simulated_run)
     yield 'filters', over(fault_of_filters)
     by_name = short_comparisons(cases)
     for wrong in WRONG_DISSECTORS if check.whole('wrong dissectors') else ():

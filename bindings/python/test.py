@@ -4,6 +4,7 @@ import ctypes
 import doctest
 import os
 import pickle
+import random
 import re
 import unittest
 
@@ -47,15 +48,64 @@ class Rules(unittest.TestCase):
         self.assertEqual(breach, (2, False, 0, 0))
         self.assertIs(breach.has_due, False)
 
+    def test_limits(self):
+        # F without C: where no more may wait than a block takes, a block that takes all can still say that entries are lost.
+        lost = encode.block_answer(5, [Entry(12, 0, 10)], fio2070.constants.BIT_LOST, 11)
+        for limits, rule in (((255, 1024), 7), ((255, 255), None), ((1, 1), None)):
+            checker = fio2070.Checker(*limits)
+            checker.sent(encode.poll(5))
+            found = checker.heard(lost)
+            self.assertEqual(found and found.rule, rule, limits)
+        # C: exactly as many as a block takes.
+        for entries, rule in ((1, None), (2, 7)):
+            checker = fio2070.Checker(1, 8)
+            checker.sent(encode.poll(5))
+            found = checker.heard(encode.block_answer(5, [Entry(12, 0, 10)] * entries, fio2070.constants.BIT_MORE, 11))
+            self.assertEqual(found and found.rule, rule)
+        with self.assertRaises(ValueError):
+            fio2070.Checker(0)
+
+    def test_right_modules(self):
+        # Modules with rings and blocks of their own, which overflow now and then: no checker with their limits accuses one.
+        draw = random.Random(7)
+        for per_block, waiting in ((255, 64), (64, 64), (8, 64), (1, 1), (3, 2), (255, 1024)):
+            module, poller = fio2070.Module(2, per_block, waiting), fio2070.Poller(0)
+            checker, standard = fio2070.Checker(per_block, waiting), fio2070.Checker()
+            module.receive(encode.configure_inputs([ConfigurationItem(number, False, 1, 1) for number in range(4)]))
+            levels, accused = 2**64 - 1, 0
+            for _ in range(400):
+                for _ in range(draw.choice((0, 1, 3, 40))):
+                    levels ^= draw.randrange(16)
+                    module.scan(levels)
+                poll = poller.poll()
+                answer = module.receive(poll)
+                self.assertIsNone(checker.sent(poll), (per_block, waiting))
+                accused += standard.sent(poll) is not None
+                if draw.random() < 0.8:
+                    self.assertIsNone(checker.heard(answer), (per_block, waiting))
+                    accused += standard.heard(answer) is not None
+                    poller.hear(answer)
+            self.assertEqual(accused == 0, (per_block, waiting) == (255, 1024))
+
     def test_an_entry_that_comes_twice(self):
-        content, again = fio2070.ContentChecker(), encode.block_answer(2, [Entry(13, 0, 11), Entry(12, 0, 12)], 0, 21)
+        content, again = fio2070.ContentChecker(), encode.block_answer(2, [Entry(13, 0, 12), Entry(12, 0, 13)], 0, 21)
         content.sent(encode.poll(0))
         self.assertIsNone(content.heard(encode.block_answer(0, [], 0, 0)))
         content.sent(encode.poll(1))
         self.assertIsNone(content.heard(encode.block_answer(1, [Entry(12, 0, 10)], 0, 11)))
         content.sent(encode.poll(2))
-        self.assertEqual(content.heard(again), (fio2070.constants.CONTENT_ALTERNATE, 1, 12))
+        self.assertEqual(content.heard(again), (fio2070.constants.CONTENT_ALTERNATE, 12, 1))
         self.assertIsNone(content.heard(again))
+
+    def test_an_answer_that_breaks_a_rule_on_content(self):
+        self.assertEqual(fio2070.ContentChecker().heard(b'\xb2\1'), (fio2070.constants.CONTENT_DONE, None, 0))
+
+    def test_a_log_that_begins_with_both_ends(self):
+        # Inputs are ignored until they are configured, which only such a log says.
+        for begun, breach in ((False, None), (True, (fio2070.constants.CONTENT_IGNORED, 12, 0))):
+            content = fio2070.ContentChecker(begun=begun)
+            content.sent(encode.poll(0))
+            self.assertEqual(content.heard(encode.block_answer(0, [Entry(12, 0, 10)], 0, 11)), breach)
 
 
 class Messages(unittest.TestCase):
@@ -103,7 +153,7 @@ class Messages(unittest.TestCase):
 
     def test_words(self):
         self.assertEqual([fio2070.rule_text(rule) for rule in (0, 1, 9, 10)], ['', 'readable', 'refusal', ''])
-        self.assertEqual([fio2070.content_rule_text(rule) for rule in (0, 1, 3, 4)], ['', 'order', 'apart', ''])
+        self.assertEqual([fio2070.content_rule_text(rule) for rule in (0, 1, 11, 12)], ['', 'order', 'watchdog', ''])
         for octets, text in [(BLOCK, 'block entries 1 status 00'), (b'\xb3\0', 'other 179'), (BLOCK[:1] + b'\7' + BLOCK[2:], 'stale 7'),
                              (b'', 'unreadable empty'), (BLOCK[:-1], 'unreadable wrong length needed 11 got 10')]:
             self.assertEqual(fio2070.Poller(5).hear(octets).text, text)

@@ -3,6 +3,10 @@
  * an answer that comes twice only once. Each exchange has a deadline, which frames of no use do not move: a
  * line that is never silent does not hold the CPU.
  *
+ * What a CPU keeps over a restart is `poller.number`, written with the record in one step. With it the next
+ * `fio2070_poller_start` loses nothing and takes nothing twice. Without it the CPU waits first until no frame sent
+ * before can arrive any more (docs/EMBEDDING.md).
+ *
  * Here the module is the library's own, at the other end of a pair of sockets; every third command
  * is lost, every fifth answer is lost, and every seventh comes twice. Time is counted in the module's
  * milliseconds, so each run prints the same: the record as a report of `fio2070 simulate` has it. With the

@@ -2,6 +2,7 @@
 
 import functools
 import os
+import shutil
 import subprocess
 
 TOP = os.path.dirname(os.path.dirname(os.path.dirname(os.path.realpath(__file__))))
@@ -18,16 +19,26 @@ def lines_that_fit(line, above=''):
     return (MOST_OCTETS - len(above)) // len(line)
 
 
+# Whether the Rattle kit is here. Without it a program of dist/ takes the place of the proved one, without `simulate`.
+HAS_KIT = shutil.which('rt') is not None
+
+
 @functools.cache
 def program():
-    """The path of the program, which the script `fio2070` proves and builds first, where it is not yet."""
+    """The path of the program, which the script `fio2070` proves and builds first, or without the kit compiles."""
     subprocess.run([os.path.join(TOP, 'fio2070'), '--version'], stdout=subprocess.DEVNULL, check=True)
-    return os.path.join(TOP, 'crates', 'fio2070', 'out', 'fio2070')
+    return os.path.join(TOP, *(['crates', 'fio2070', 'out', 'fio2070'] if HAS_KIT else ['out', 'fio2070']))
+
+
+def program_of(tool):
+    """The path of the program, or of the one that FIO2070_PROGRAM names, which has no `simulate`."""
+    named = os.environ.get('FIO2070_PROGRAM')
+    return named if named and tool != 'simulate' else program()
 
 
 def output_of(tool, text):
     """What the program writes for an input, and its exit status."""
-    done = subprocess.run([program(), tool], input=text.encode('latin-1'),
+    done = subprocess.run([program_of(tool), tool], input=text.encode('latin-1'),
                           stdout=subprocess.PIPE, timeout=900)
     return done.stdout.decode('latin-1'), done.returncode
 

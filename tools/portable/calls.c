@@ -59,7 +59,7 @@ static void put64(uint8_t *p, uint64_t v) { put32(p, (uint32_t)v); put32(p + 4, 
 
 /* What the library alone writes is the same octets everywhere; see fio2070.h. */
 #define SAME(name, is, expected) typedef char name[(is) == (expected) ? 1 : -1]
-SAME(size_of_content_checker, sizeof(struct fio2070_content_checker), 1168);
+SAME(size_of_content_checker, sizeof(struct fio2070_content_checker), 632);
 SAME(size_of_counter, sizeof(struct fio2070_counter), 12);
 SAME(size_of_filters, sizeof(struct fio2070_filters), 216);
 SAME(size_of_sized_module, sizeof(struct fio2070_sized_module), 1056);
@@ -368,6 +368,18 @@ OVER(counter, now, 0, uint32_t, return, (const struct fio2070_counter *counter),
 
 /* Where fio2070_checker_start is declared: */
 OVER(checker, start, 1, void, , (struct fio2070_checker * checker), it)
+
+uint8_t fio2070_checker_start_within(struct fio2070_checker *checker, struct fio2070_limits limits) {
+    uint8_t octets[4] = {0};
+    MACHINE(fio2070_checker_start_within);
+    put16(octets, limits.waiting);
+    octets[2] = limits.per_block;
+    {
+        uint64_t a = WRITES(checker, sizeof *checker), b = READS(octets, 4);
+        return (uint8_t)call_fio2070_checker_start_within(&machine, a, b);
+    }
+}
+
 OVER(checker, sent, 1, uint8_t, return (uint8_t),
      (struct fio2070_checker * checker, const uint8_t *octets, size_t length, struct fio2070_breach *breach), it,
      READS(octets, length), length, WRITES(breach, sizeof *breach))
@@ -377,11 +389,21 @@ OVER(checker, heard, 1, uint8_t, return (uint8_t),
 /* So far. */
 
 OVER(content, start, 1, void, , (struct fio2070_content_checker * content), it)
+OVER(content, start_begun, 1, void, , (struct fio2070_content_checker * content), it)
 OVER(content, sent, 1, void, , (struct fio2070_content_checker * content, const uint8_t *octets, size_t length), it,
      READS(octets, length), length)
-OVER(content, heard, 1, uint8_t, return (uint8_t),
-     (struct fio2070_content_checker * content, const uint8_t *octets, size_t length, struct fio2070_content_breach *breach),
-     it, READS(octets, length), length, WRITES(breach, sizeof *breach))
+
+uint8_t fio2070_content_heard(struct fio2070_content_checker *content, const uint8_t *octets, size_t length,
+                              struct fio2070_content_breach *breach) {
+    uint8_t rule;
+    MACHINE(fio2070_content_heard);
+    {
+        uint64_t a = WRITES(content, sizeof *content), b = READS(octets, length), c = WRITES(breach, sizeof *breach);
+        rule = (uint8_t)call_fio2070_content_heard(&machine, a, b, length, c);
+    }
+    breach->items = get16((const uint8_t *)&breach->items);
+    return rule;
+}
 
 OVER(filters, start, 1, void, , (struct fio2070_filters * filters), it)
 OVER(filters, scan, 1, uint64_t, return, (struct fio2070_filters * filters, uint64_t raw), it, raw)

@@ -15,7 +15,11 @@
 #define LOOKED_UP __attribute__((noinline))
 #else
 #define HOT static inline
+#if defined(_MSC_VER)
+#define COLD __declspec(noreturn)
+#else
 #define COLD
+#endif
 #define COLD_PLACE
 #define LOOKED_UP
 #endif

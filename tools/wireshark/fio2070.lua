@@ -93,6 +93,42 @@ local octets_of = {
   ["watchdog.status"] = 1,
 }
 
+-- The bits of a field: letter, mask, meaning.
+local bits_of = {
+  ["clear"] = {
+    { "P", 128, "the module was reset" },
+    { "E", 64, "status flag" },
+    { "K", 32, "status flag" },
+    { "R", 16, "status flag" },
+    { "T", 8, "status flag" },
+    { "M", 4, "status flag" },
+    { "L", 2, "status flag" },
+    { "W", 1, "status flag" },
+  },
+  ["flags"] = {
+    { "P", 128, "the module was reset" },
+    { "E", 64, "status flag" },
+    { "K", 32, "status flag" },
+    { "R", 16, "status flag" },
+    { "T", 8, "status flag" },
+    { "M", 4, "status flag" },
+    { "L", 2, "status flag" },
+    { "W", 1, "status flag" },
+  },
+  ["status"] = {
+    { "S", 1, "error" },
+  },
+  ["block.flags"] = {
+    { "C", 8, "more entries waited than a block takes" },
+    { "F", 4, "entries between the block before and this one were pushed out" },
+    { "E", 2, "the same block number was asked for again" },
+    { "G", 1, "the number is not the one before plus one" },
+  },
+  ["watchdog.status"] = {
+    { "Y", 1, "the watchdog had been set before" },
+  },
+}
+
 ---------------------------------------------------------------- end of what is written
 
 ---------------------------------------------------------------- fields, experts
@@ -143,20 +179,22 @@ local function number(name, label)
   end }
 end
 
--- One octet of flags, written in hexadecimal. A bit is { letter, mask, meaning };
--- a bit that gives an expert info when it is one is { .., name, severity }.
-local function flags(name, label, bits)
-  local made = declare("uint8", name, label, base.HEX)
+-- One octet of flags, written in hexadecimal. A bit that gives an expert info
+-- when it is one has its name and severity in `infos`, by the bit's letter.
+local function flags(name, label, infos)
+  local bits, made = bits_of[name], declare("uint8", name, label, base.HEX)
   local flag = {}
   for k, bit in ipairs(bits) do
+    local info = infos[bit[1]]
     flag[k] = declare("bool", name .. "." .. bit[1]:lower(), bit[1] .. ", " .. bit[3], 8, nil, bit[2])
-    if bit[4] then declare_notice(bit[4], "SEQUENCE", bit[5], bit[1] .. ": " .. bit[3]) end
+    if info then declare_notice(info[1], "SEQUENCE", info[2], bit[1] .. ": " .. bit[3]) end
   end
   parts[name] = { size = always(octets_of[name]), read = function(range, tree)
     local value, branch = range:uint(), tree:add(made, range)
     for k, bit in ipairs(bits) do
       local leaf = branch:add(flag[k], range)
-      if bit[4] and math.floor(value / bit[2]) % 2 == 1 then leaf:add_proto_expert_info(notice[bit[4]]) end
+      local info = infos[bit[1]]
+      if info and math.floor(value / bit[2]) % 2 == 1 then leaf:add_proto_expert_info(notice[info[1]]) end
     end
     return ("%02x"):format(value)
   end }
@@ -235,34 +273,24 @@ end
 -- The parts of a message stand in the order in which they stand in the frame,
 -- with the words of the text between them.
 
-local function module_flags(name, label, ...)
-  flags(name, label, {
-    { "P", 128, "the module was reset", ... }, { "E", 64, "status flag" }, { "K", 32, "status flag" }, { "R", 16, "status flag" },
-    { "T", 8, "status flag" }, { "M", 4, "status flag" }, { "L", 2, "status flag" }, { "W", 1, "status flag" },
-  })
-end
-
-module_flags("clear", "Flags to clear")
-module_flags("flags", "Flags that remain", "reset", "NOTE")
+flags("clear", "Flags to clear", {})
+flags("flags", "Flags that remain", { P = { "reset", "NOTE" } })
 number("errors.receive", "Errors in receiving")
 number("errors.transmit", "Errors in transmitting")
 number("load", "Number to load into the counter")
-flags("status", "Status", { { "S", 1, "error", "refused", "WARN" } })
+flags("status", "Status", { S = { "refused", "WARN" } })
 list("items", "Items", read_item)
 number("block.number", "Block number")
 list("block.entries", "Entries", read_entry)
 flags("block.flags", "Status", {
-  { "C", 8, "more entries waited than a block takes", "more", "NOTE" },
-  { "F", 4, "entries between the block before and this one were pushed out", "lost", "WARN" },
-  { "E", 2, "the same block number was asked for again", "again", "NOTE" },
-  { "G", 1, "the number is not the one before plus one", "out_of_sequence", "WARN" },
+  C = { "more", "NOTE" }, F = { "lost", "WARN" }, E = { "again", "NOTE" }, G = { "out_of_sequence", "WARN" },
 })
 number("stamp", "Stamp")
 octets("inputs", "Inputs, input 0 in the lowest bit of the first octet")
 octets("outputs.data", "Data octets")
 octets("outputs.control", "Control octets")
 number("watchdog.timeout", "Timeout in milliseconds")
-flags("watchdog.status", "Status", { { "Y", 1, "the watchdog had been set before" } })
+flags("watchdog.status", "Status", {})
 octets("body", "Body")
 
 local messages = {}     -- by type: words and parts, in the order of the frame

@@ -181,11 +181,15 @@ class Poller:
 
 
 class Checker:
-    """A checker of what the CPU's end sends and hears. Below a breach it goes on as one that starts at the next poll."""
+    """A checker of what the CPU's end sends and hears, of a module with these limits. Below a breach it goes on as one that
+    starts at the next poll."""
 
-    def __init__(self) -> None:
+    def __init__(self, per_block: int = c.MOST_ENTRIES, waiting: int = c.STANDARD_WAITING) -> None:
+        """The module's blocks have at most `per_block` entries, 1 to 255; `waiting` is 1 to 8,192."""
         self._checker, self._breach = c.CChecker(), c.CBreach()
-        c.library.fio2070_checker_start(self._checker)
+        if not (1 <= per_block <= 255 and 1 <= waiting <= c.MOST_WAITING):
+            raise ValueError('per_block is 1 to 255, waiting 1 to 8,192')
+        c.library.fio2070_checker_start_within(self._checker, c.CLimits(waiting, per_block, 0))
 
     def __repr__(self) -> str:
         kept = self._checker
@@ -207,12 +211,14 @@ class Checker:
 
 
 class ContentChecker:
-    """A checker of the rules on content: it judges the entries of each block that a poller takes whose first number is
-    that of the first poll sent."""
+    """A checker of the rules on content: it judges answers, and the entries of each block that a poller takes whose first
+    number is that of the first poll sent. The log may begin anywhere; with `begun` it begins with the start of both ends,
+    and more is found."""
 
-    def __init__(self) -> None:
+    def __init__(self, begun: bool = False) -> None:
         self._content, self._breach = c.CContentChecker(), c.CContentBreach()
-        c.library.fio2070_content_start(self._content)
+        start = c.library.fio2070_content_start_begun if begun else c.library.fio2070_content_start
+        start(self._content)
 
     def __repr__(self) -> str:
         return _shown(self)
@@ -223,11 +229,11 @@ class ContentChecker:
         c.library.fio2070_content_sent(self._content, octets, len(octets))
 
     def heard(self, octets: Octets) -> Optional[ContentBreach]:
-        """The first entry of a block that breaks a rule, in a frame that the CPU heard; None where none does. All its
-        entries are taken."""
-        octets = bytes(octets)
-        rule = c.library.fio2070_content_heard(self._content, octets, len(octets), self._breach)
-        return ContentBreach(rule, self._breach.entry, self._breach.input) if rule else None
+        """The first rule that a frame breaks which the CPU heard; None where it breaks none. All of the frame is taken."""
+        octets, found = bytes(octets), self._breach
+        rule = c.library.fio2070_content_heard(self._content, octets, len(octets), found)
+        named = None if found.input == constants.NO_INPUT else found.input
+        return ContentBreach(rule, named, found.items) if rule else None
 
 
 class Counter:

@@ -2,6 +2,7 @@
 
 import ctypes
 import os
+import sys
 from ctypes import POINTER, c_char_p, c_size_t, c_uint8, c_uint16, c_uint32, c_uint64
 from typing import Any
 
@@ -15,13 +16,21 @@ from .constants import NO_MESSAGE as NO_MESSAGE
 from .constants import STANDARD_WAITING as STANDARD_WAITING
 
 
+_NAME = {'win32': 'fio2070.dll', 'darwin': 'libfio2070.1.dylib'}.get(sys.platform, 'libfio2070.so.1')
+
+
 def _load() -> ctypes.CDLL:
     """The library that FIO2070_LIBRARY names, or the one beside this file, or at the top of the repository that this
-    file is in, or the installed one."""
+    file is in, or the installed one. An OSError says in one line what to do without one."""
     here = os.path.dirname(os.path.abspath(__file__))
-    places = [os.path.join(here, 'libfio2070.so.1'), os.path.join(here, '..', '..', '..', 'libfio2070.so.1')]
+    places = [os.path.join(here, _NAME), os.path.join(here, '..', '..', '..', _NAME)]
     named = [os.environ['FIO2070_LIBRARY']] if os.environ.get('FIO2070_LIBRARY') else []
-    return ctypes.CDLL((named + list(filter(os.path.exists, places)) + ['libfio2070.so.1'])[0])
+    found = (named + list(filter(os.path.exists, places)) + [_NAME])[0]
+    try:
+        return ctypes.CDLL(found)
+    except OSError as fault:
+        raise OSError('the shared library cannot be loaded: run `make library` at the top of the repository, which needs a C '
+                      'compiler alone, or set FIO2070_LIBRARY to its path (%s)' % fault) from None
 
 
 class CFault(ctypes.Structure):
@@ -74,7 +83,7 @@ class CCounter(ctypes.Structure):
 class CChecker(ctypes.Structure):
     _fields_ = [('has_awaited', c_uint8), ('awaited', c_uint8), ('absent_named', c_uint8), ('has_polled', c_uint8),
                 ('polled', c_uint8), ('answered', c_uint8), ('advanced', c_uint8), ('more', c_uint8),
-                ('skips', c_uint8), ('reserved', c_uint8 * 7)]
+                ('skips', c_uint8), ('per_block', c_uint8), ('waiting', c_uint16), ('reserved', c_uint8 * 4)]
 
 
 class CBreach(ctypes.Structure):
@@ -82,12 +91,12 @@ class CBreach(ctypes.Structure):
 
 
 class CContentBreach(ctypes.Structure):
-    _fields_ = [('rule', c_uint8), ('entry', c_uint8), ('input', c_uint8)]
+    _fields_ = [('rule', c_uint8), ('input', c_uint8), ('items', c_uint16)]
 
 
 class CContentChecker(ctypes.Structure):
     """The octets of struct fio2070_content_checker."""
-    _fields_ = [('words', c_uint64 * 146)]
+    _fields_ = [('words', c_uint64 * 79)]
 
 
 class CFilters(ctypes.Structure):
@@ -136,6 +145,7 @@ _declare('fio2070_read_identification', CFault, c_char_p, c_size_t, POINTER(c_ui
 _declare('fio2070_decode_answer', CFault, c_char_p, c_size_t, POINTER(CAnswer))
 _declare('fio2070_block_entries', c_size_t, c_char_p, c_size_t, POINTER(CEntry), c_size_t)
 _declare('fio2070_checker_start', None, POINTER(CChecker))
+_declare('fio2070_checker_start_within', c_uint8, POINTER(CChecker), CLimits)
 _declare('fio2070_checker_sent', c_uint8, POINTER(CChecker), c_char_p, c_size_t, POINTER(CBreach))
 _declare('fio2070_checker_heard', c_uint8, POINTER(CChecker), c_char_p, c_size_t, POINTER(CBreach))
 _declare('fio2070_encode_status', c_size_t, c_uint8, POINTER(c_uint8), c_size_t)
@@ -151,6 +161,7 @@ _declare('fio2070_encode_other_command', c_size_t, c_uint8, c_char_p, c_size_t, 
 _declare('fio2070_decode_command', CFault, c_char_p, c_size_t, POINTER(CCommand))
 _declare('fio2070_command_items', c_size_t, c_char_p, c_size_t, POINTER(CItem), c_size_t)
 _declare('fio2070_content_start', None, POINTER(CContentChecker))
+_declare('fio2070_content_start_begun', None, POINTER(CContentChecker))
 _declare('fio2070_content_sent', None, POINTER(CContentChecker), c_char_p, c_size_t)
 _declare('fio2070_content_heard', c_uint8, POINTER(CContentChecker), c_char_p, c_size_t, POINTER(CContentBreach))
 _declare('fio2070_counter_start', None, POINTER(CCounter))

@@ -1,6 +1,6 @@
 """Messages and their parts. A field that a type does not have is 0 or empty."""
 
-from typing import List, NamedTuple, Tuple, Type
+from typing import List, NamedTuple, Optional, Tuple, Type
 
 
 class Fault(ValueError):
@@ -48,10 +48,12 @@ class Breach(NamedTuple):
 
 
 class ContentBreach(NamedTuple):
-    """An entry that breaks a rule on content: 1 order, 2 alternate, 3 apart; its index in its block, and its input."""
+    """The first rule on content that a frame breaks, one of `constants.CONTENT_ORDER` and those after it; the input of the
+    entry that breaks it, or that whose state is another, None for an answer; and how many items of the frame's block are
+    recorded above the breach."""
     rule: int
-    entry: int
-    input: int
+    input: Optional[int]
+    items: int
 
 
 class Command(NamedTuple):

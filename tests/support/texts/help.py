@@ -113,11 +113,12 @@ def check_scripts(check, text):
 def check_rules(check, text):
     """The rules on content, and in the manual page, which `check --help` names for them, the rules of a transcript."""
     rules = {tool: table(section('docs/FORMATS.md', '## `fio2070 %s`' % tool), '| RULE |') for tool in ('check', 'record')}
-    same_items(check, 'the rules in record --help', rules['record'], items(text, 'the first of:\n', '[a-z]+'))
-    for tool, above in (('check', 'In this order'), ('record', 'the first rule that it breaks:')):
-        part = text_of('man/fio2070.1').partition('.SS %s\n' % tool)[2].partition(above)[2].partition('.PP')[0]
+    same_items(check, 'the rules in record --help', rules['record'], items(text, 'and one of:\n', '[a-z]+'))
+    for tool in ('check', 'record'):
+        part = text_of('man/fio2070.1').partition('.SS %s\n' % tool)[2].partition('In this order')[2].partition('.PP')[0]
+        found = re.findall(r'^\.B (\w+)\n((?:[^.].*\n)+)', part.partition('\n.S')[0] + '\n', re.M)
         same_items(check, 'the rules of %s in the manual page' % tool, rules[tool],
-                   dict(re.findall(r'^\.B (\w+)\nif it ((?:[^.].*\n)+)', part.partition('\n.S')[0] + '\n', re.M)))
+                   {name: ' '.join(words.split()).partition(' Judged if')[0] for name, words in found})
 
 
 def rows(check):

@@ -17,6 +17,7 @@ PLACES = [
     ('bindings/rust/fio2070/Cargo.toml', 'name = "fio2070"\nversion = "%s"\n'),
     ('crates/fio_tool/src/command_line.rt', 'VERSION: &str = "%s";\n'),
     ('docs/FORMATS.md', '\nfio2070 %s\n'),
+    ('packaging/CMakeLists.txt', 'project(fio2070 VERSION %s '),
     ('man/fio2070-test.1', '"fio2070 %s"'),
     ('man/fio2070-tools.1', '"fio2070 %s"'),
     ('man/fio2070.1', '"fio2070 %s"'),
@@ -29,7 +30,7 @@ NUMBERS = [
     ('include/fio2070.h', '\n#define FIO2070_VERSION %(number)d\n'),
 ]
 
-NO_SOURCES = {'.git', 'doc', 'out', 'dist', 'target', '__pycache__'}
+NO_SOURCES = {'.git', 'doc', 'out', 'dist', 'release', 'target', '__pycache__'}
 
 
 def files():

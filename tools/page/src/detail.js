@@ -1,5 +1,6 @@
 // One message whole: its words and octets, with what belongs together marked under the pointer and under the keys.
 
+import { BITS } from './bits.js';
 import { element } from './dom.js';
 import { fieldsOf, wordsIn } from './fields.js';
 import { hexText } from './hex.js';
@@ -67,7 +68,16 @@ export function detailOf(log, place, textOf) {
   const grid = element('div', { class: 'grid', role: 'group', 'aria-label': 'Octets', onkeydown: (event) => step(event, octetSpans) },
     ...octetSpans.flatMap((it) => [it, '\u200b']));
   const content = log.contents.get(place);
-  return element('div', {}, head, way, reason, linesWith(lines, wordSpans, content ? content.entry + 1 : -1), grid);
+  return element('div', {}, head, way, reason, ...(isMessage ? bitsOf(octets[0], lines[0]) : []), linesWith(lines, wordSpans, content && content.entry >= 0 ? content.entry + 1 : -1), grid);
+}
+
+// What the bits that are 1 say, of the flags or the status that the first line has.
+function bitsOf(code, line) {
+  const found = BITS[code];
+  if (!found) return [];
+  const words = line.split(' ');
+  const value = parseInt(words[words.indexOf(found.word) + 1], 16);
+  return found.bits.filter(([, bit]) => (value & bit) !== 0).map(([letter, , says]) => element('p', { class: 'soft' }, `${letter}: ${says}`));
 }
 
 // The keys left and right go from octet to octet.

@@ -74,10 +74,10 @@ export class InputsView {
     this.draw();
   }
 
-  // How many entries break a rule on content, and the first.
+  // How many messages break a rule on content, and the first.
   brokenWords() {
     const { contents } = this.log, first = contents.keys().next();
-    return first.done ? '' : ` Blocks with an entry that breaks a rule on content: ${contents.size}; the first: ${contentLine(this.log, first.value)}.`;
+    return first.done ? '' : ` Messages that break a rule on content: ${contents.size}; the first: ${contentLine(this.log, first.value)}.`;
   }
 
   draw() {

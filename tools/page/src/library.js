@@ -249,13 +249,13 @@ class ContentChecker {
     this.library.calls.fio2070_content_sent(this.at, BigInt(address), BigInt(length));
   }
 
-  // The first entry of a block that the CPU heard which breaks a rule: the rule's number, its index and its input. Null where
-  // none does.
+  // The first rule that a frame breaks which the CPU heard: its number, its input, and how many items of the block are above
+  // the breach. Null where it breaks none.
   heard(address, length) {
     const { library } = this;
     const rule = library.calls.fio2070_content_heard(this.at, BigInt(address), BigInt(length), BigInt(library.result));
     if (rule === 0) return null;
     const { all } = library.machine, at = library.result, place = AT.contentBreach;
-    return { rule, entry: all[at + place.entry], input: all[at + place.input] };
+    return { rule, input: all[at + place.input], items: all[at + place.items] | all[at + place.items + 1] << 8 };
   }
 }

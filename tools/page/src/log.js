@@ -1,11 +1,14 @@
 // A log that is open: its messages in the machine's memory, each decoded and judged once by the proved library, and
 // counts of what was found.
 
-import { CONTENT_RULES, RULES } from './constants.js';
+import { CONTENT_BREACHES, CONTENT_RULES, RULES } from './constants.js';
 import { BLOCK, LOAD, POLL, STATUS_BITS } from './library.js';
 import { DIRECTION } from './messagelist.js';
 import { wordsOf } from './words.js';
 import { recordOf } from './record.js';
+
+// The last rule on content that an entry breaks.
+const LAST_OF_ENTRIES = CONTENT_RULES.indexOf('ignored');
 
 export const ENDS = { cpu: 'cpu', module: 'module', none: 'none' };
 
@@ -105,7 +108,11 @@ export class Log {
   // Why a message breaks a rule, in words; empty where it breaks none.
   reason(place) {
     const breach = this.breaches.get(place), content = this.contents.get(place);
-    if (content) return `${CONTENT_RULES[content.rule]}: input ${content.input}`;
+    if (content) {
+      const state = content.entry < 0 ? '' : this.octets(place)[3 + 3 * content.entry] >> 7;
+      return `${CONTENT_RULES[content.rule]}: `
+        + CONTENT_BREACHES[content.rule].replace('{input}', content.input).replace('{state}', state);
+    }
     if (!breach) return '';
     const due = breach.hasDue ? `: ${breach.due} was due, ${breach.got} came` : '';
     return RULES[breach.rule] + due;
@@ -139,8 +146,8 @@ export class Log {
   }
 }
 
-// Judges the entries by the rules on content, where those of `check` are kept: below a breach from the next poll on. A load of
-// the counter that was sent above still counts then.
+// Judges by the rules on content, where those of `check` are kept: below a breach from the next poll on. A load of the counter
+// that was sent above still counts then.
 class Contents {
   constructor(log) {
     Object.assign(this, { log, checker: log.contentChecker, isOpen: true, load: -1 });
@@ -171,7 +178,10 @@ class Contents {
 
   hear(place) {
     const { log } = this, found = this.checker.heard(log.address(place), log.lengths[place]);
-    if (found) log.contents.set(place, found);
+    if (!found) return;
+    // Entries are the last items of a block; a gap mark is above them. An answer and the end of a block have none.
+    const gaps = log.status[place] & STATUS_BITS.lost ? 1 : 0;
+    log.contents.set(place, { ...found, entry: found.rule <= LAST_OF_ENTRIES ? found.items - gaps : -1 });
   }
 }
 

@@ -6,6 +6,8 @@ import { BLOCK, HEARD, POLL } from './library.js';
 import { itemText } from './script.js';
 
 const WRAP = 2 ** 32;
+// The input of a breach that has none.
+const NO_INPUT = 255;
 
 class Record {
   constructor() {
@@ -76,7 +78,7 @@ export function recordOf(log) {
       const heard = poller.hear(log.address(place), log.lengths[place]);
       if (heard.kind !== HEARD.taken) continue;
       const content = log.contents.get(place);
-      if (content) record.broken.push(record.times.length + content.entry);
+      if (content && content.entry >= 0) record.broken.push(record.times.length + content.entry);
       record.add(poller, heard, place, log.stamps[place]);
       continue;
     }
@@ -89,27 +91,28 @@ export function recordOf(log) {
   return record;
 }
 
-// The lines that `fio2070 record` writes of a log: the record, to the first entry that breaks a rule on content, where the
-// log keeps the rules of `check`, else the line of `check`. Null where the rules are not judged.
+// The lines that `fio2070 record` writes of a log: the record, to the first breach of a rule on content, where the log keeps
+// the rules of `check`, else the line of `check`. Null where the rules are not judged.
 export function recordLines(log) {
   if (!log.isJudged) return null;
   if (!log.verdict.startsWith('good ')) return [log.verdict];
   const { poller } = log, lines = [];
   const first = log.codes.indexOf(POLL);
   if (first >= 0) poller.number = log.blocks[first];
-  for (let place = first + 1; first >= 0 && place < log.count; place++) {
-    if (log.codes[place] !== BLOCK) continue;
-    const heard = poller.hear(log.address(place), log.lengths[place]), content = log.contents.get(place);
-    const items = Array.from({ length: heard.items }, (_, index) => itemText(poller.recordItem(index)));
-    // Entries are the last items of a block; a gap mark is above them.
-    lines.push(...items.slice(0, content ? heard.items - heard.entries + content.entry : heard.items));
+  for (let place = 0; place < log.count; place++) {
+    const content = log.contents.get(place);
+    if (first >= 0 && place > first && log.codes[place] === BLOCK) {
+      const heard = poller.hear(log.address(place), log.lengths[place]);
+      const items = Array.from({ length: heard.items }, (_, index) => itemText(poller.recordItem(index)));
+      lines.push(...items.slice(0, content ? content.items : heard.items));
+    }
     if (content) return [`record ${lines.length}`, ...lines, contentLine(log, place)];
   }
   return [`record ${lines.length}`, ...lines];
 }
 
-// What `fio2070 record` says of an entry that breaks a rule.
+// What `fio2070 record` says of a breach of a rule on content.
 export function contentLine(log, place) {
   const { rule, input } = log.contents.get(place);
-  return `line ${log.lines[place]} input ${input} breaks ${CONTENT_RULES[rule]}`;
+  return `line ${log.lines[place]} ${input === NO_INPUT ? '' : `input ${input} `}breaks ${CONTENT_RULES[rule]}`;
 }

@@ -9,6 +9,7 @@ pub const STANDARD_WAITING: usize = 1_024;
 pub const MOST_WAITING: usize = 8_192;
 pub const LONGEST_TEXT: usize = 62;
 pub const NO_MESSAGE: usize = usize::MAX;
+pub const NO_INPUT: u8 = 255;
 
 // Types of commands; that of an answer is TYPE_ANSWER more.
 pub const TYPE_STATUS: u8 = 49;
@@ -72,5 +73,13 @@ pub const RULE_REFUSAL: u8 = 9;
 // Rules on content.
 pub const CONTENT_NONE: u8 = 0;
 pub const CONTENT_ORDER: u8 = 1;
-pub const CONTENT_ALTERNATE: u8 = 2;
-pub const CONTENT_APART: u8 = 3;
+pub const CONTENT_FRESH: u8 = 2;
+pub const CONTENT_ALTERNATE: u8 = 3;
+pub const CONTENT_APART: u8 = 4;
+pub const CONTENT_IGNORED: u8 = 5;
+pub const CONTENT_STATE: u8 = 6;
+pub const CONTENT_CLOCK: u8 = 7;
+pub const CONTENT_DONE: u8 = 8;
+pub const CONTENT_ACCEPTED: u8 = 9;
+pub const CONTENT_CLEARED: u8 = 10;
+pub const CONTENT_WATCHDOG: u8 = 11;

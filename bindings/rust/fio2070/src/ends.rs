@@ -126,11 +126,26 @@ impl Default for Checker {
 }
 
 impl Checker {
-    /// Above the first frame.
+    /// Above the first frame, of a module with the limits of TEES 2009.
     pub fn new() -> Checker {
         let mut checker = RawChecker::default();
         unsafe { raw::fio2070_checker_start(&mut checker) };
         Checker(checker)
+    }
+
+    /// As `new`, of a module whose blocks have at most `per_block` entries, 1 to 255, and of which `waiting` may wait,
+    /// 1 to 8,192. `None` where one is out of its range.
+    pub fn within(per_block: u8, waiting: u16) -> Option<Checker> {
+        let limits = RawLimits {
+            waiting,
+            per_block,
+            reserved: 0,
+        };
+        let mut checker = RawChecker::default();
+        match unsafe { raw::fio2070_checker_start_within(&mut checker, limits) } {
+            0 => Some(Checker(checker)),
+            _ => None,
+        }
     }
 
     /// The breach of a frame that the CPU sent.
@@ -154,8 +169,8 @@ impl Checker {
     }
 }
 
-/// A checker of the rules on content, which judges the entries of each block that a poller takes whose
-/// first number is that of the first poll sent.
+/// A checker of the rules on content, which judges answers, and the entries of each block that a poller takes
+/// whose first number is that of the first poll sent.
 #[derive(Clone)]
 pub struct ContentChecker(RawContentChecker);
 
@@ -166,10 +181,17 @@ impl Default for ContentChecker {
 }
 
 impl ContentChecker {
-    /// Above the first frame.
+    /// Above the first frame of a log, which may begin anywhere.
     pub fn new() -> ContentChecker {
         let mut content = RawContentChecker::default();
         unsafe { raw::fio2070_content_start(&mut content) };
+        ContentChecker(content)
+    }
+
+    /// Above the first frame of a log that begins with the start of both ends: it finds more.
+    pub fn begun() -> ContentChecker {
+        let mut content = RawContentChecker::default();
+        unsafe { raw::fio2070_content_start_begun(&mut content) };
         ContentChecker(content)
     }
 
@@ -178,8 +200,7 @@ impl ContentChecker {
         unsafe { raw::fio2070_content_sent(&mut self.0, octets.as_ptr(), octets.len()) }
     }
 
-    /// The first entry of a block that breaks a rule, in a frame that the CPU heard. All its entries are
-    /// taken.
+    /// The first rule that a frame breaks which the CPU heard. All of the frame is taken.
     pub fn heard(&mut self, octets: &[u8]) -> Option<ContentBreach> {
         let mut breach = ContentBreach::default();
         let rule = unsafe {

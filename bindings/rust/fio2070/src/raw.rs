@@ -148,17 +148,19 @@ pub(crate) struct RawChecker {
     pub advanced: u8,
     pub more: u8,
     pub skips: u8,
-    pub reserved: [u8; 7],
+    pub per_block: u8,
+    pub waiting: u16,
+    pub reserved: [u8; 4],
 }
 
-/// The first entry of a block that breaks a rule on content: the rule, from 1, the index of the entry in its block, and its
-/// input.
+/// The first rule on content that a frame breaks: its number, from 1; the input of the entry that breaks it, or that whose
+/// state is another, `NO_INPUT` for an answer; and how many items of the frame's block are recorded above the breach.
 #[derive(Clone, Copy, Debug, Default, PartialEq, Eq)]
 #[repr(C)]
 pub struct ContentBreach {
     pub rule: u8,
-    pub entry: u8,
     pub input: u8,
+    pub items: u16,
 }
 
 /// The limits of a module: the most entries that wait, 1 to 8,192, and the most of a block, 1 to 255.
@@ -186,7 +188,7 @@ macro_rules! opaque {
 }
 
 opaque! {
-    RawContentChecker: 146,
+    RawContentChecker: 79,
     RawFilters: 27,
     RawSizedModule: 132,
 }
@@ -267,6 +269,7 @@ extern "C" {
         entries_count: usize,
     ) -> usize;
     pub(crate) fn fio2070_checker_start(checker: &mut RawChecker);
+    pub(crate) fn fio2070_checker_start_within(checker: &mut RawChecker, limits: RawLimits) -> u8;
     pub(crate) fn fio2070_checker_sent(
         checker: &mut RawChecker,
         octets: *const u8,
@@ -317,6 +320,7 @@ extern "C" {
         items_count: usize,
     ) -> usize;
     pub(crate) fn fio2070_content_start(content: &mut RawContentChecker);
+    pub(crate) fn fio2070_content_start_begun(content: &mut RawContentChecker);
     pub(crate) fn fio2070_content_sent(
         content: &mut RawContentChecker,
         octets: *const u8,

@@ -225,7 +225,11 @@ fn codes_have_words() {
         content_rule_text(constants::CONTENT_APART, &mut out),
         Ok("apart")
     );
-    assert_eq!(content_rule_text(4, &mut out), Ok(""));
+    assert_eq!(
+        content_rule_text(constants::CONTENT_WATCHDOG, &mut out),
+        Ok("watchdog")
+    );
+    assert_eq!(content_rule_text(12, &mut out), Ok(""));
     let taken = Heard::Taken {
         number: 5,
         stamp: 0,
@@ -436,8 +440,36 @@ fn an_entry_that_comes_twice_breaks_a_rule_on_content() {
     content.sent(&[54, 1]);
     assert_eq!(content.heard(&[182, 1, 1, 12, 0, 10, 0, 0, 0, 0, 11]), None);
     content.sent(&[54, 2]);
-    let second = [182, 2, 2, 13, 0, 11, 12, 0, 12, 0, 0, 0, 0, 21];
+    let second = [182, 2, 2, 13, 0, 12, 12, 0, 13, 0, 0, 0, 0, 21];
     let breach = content.heard(&second).unwrap();
-    assert_eq!((breach.rule, breach.entry, breach.input), (2, 1, 12));
+    assert_eq!((breach.rule, breach.input, breach.items), (3, 12, 1));
     assert_eq!(content.heard(&second), None);
+}
+
+/// F without C: where no more may wait than a block takes, a block that takes all can say that entries are lost.
+#[test]
+fn a_checker_has_the_limits_of_the_module() {
+    let lost = [182, 5, 1, 12, 0, 10, 4, 0, 0, 0, 11];
+    for (per_block, waiting, rule) in [(255, 1024, Some(7)), (255, 255, None), (1, 1, None)] {
+        let mut checker = Checker::within(per_block, waiting).unwrap();
+        assert_eq!(checker.sent(&[54, 5]), None);
+        assert_eq!(checker.heard(&lost).map(|breach| breach.rule), rule);
+    }
+    assert!(Checker::within(0, 1).is_none() && Checker::within(1, 0).is_none());
+}
+
+/// A load of the counter is never refused; and an input is ignored until it is configured, which only a log says that
+/// begins with both ends.
+#[test]
+fn an_answer_breaks_a_rule_on_content_and_a_start_counts() {
+    let (mut later, mut begun) = (ContentChecker::new(), ContentChecker::begun());
+    let breach = later.heard(&[178, 1]).unwrap();
+    assert_eq!((breach.rule, breach.items), (constants::CONTENT_DONE, 0));
+    assert_eq!(breach.input, constants::NO_INPUT);
+    let block = [182, 0, 1, 12, 0, 10, 0, 0, 0, 0, 11];
+    later.sent(&[54, 0]);
+    assert_eq!(later.heard(&block), None);
+    begun.sent(&[54, 0]);
+    let breach = begun.heard(&block).unwrap();
+    assert_eq!((breach.rule, breach.input), (constants::CONTENT_IGNORED, 12));
 }

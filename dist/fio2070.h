@@ -1,0 +1,1062 @@
+/* The field I/O transition link of the Model 2070: the header of fio2070.c.
+ *
+ * Sources: 01e7d3c5130c59da797977db0a30779d839f2654b692bb43ee9a73c310eff2fc (SHA-256; packaging/release-files --sources)
+ * Kit: rattle-kit-13b logic dac8208d650f15bf
+ * Proof: logic=proved functions=125 target=wasm64-unknown-unknown sum=dac8208d650f15bf native=nat,char,string
+ * Made by `make release-files`: do not edit.
+ *
+ * Proved is the module of which fio2070.c was made, for wasm64: each call does what fio2070.h says for all octets,
+ * lengths and contents of its structs. Trusted are the kit's logic and the statements of its libraries; trusted, and
+ * tested, are its compiler for wasm64, the translator with the machine and the calls that it adds (tools/portable),
+ * and the compiler of your processor.
+ *
+ * To report a fault: SECURITY.md of the repository. Send the lines above, and octets, text or program that show it.
+ */
+/** @file
+ * Messages between the CPU of a Model 2070 controller and its field I/O module, and both ends of the link.
+ *
+ * The code behind these calls is proved: each does what its description says for all octets, all
+ * lengths and all contents of its structs. docs/C-LIBRARY.md says what that covers. These calls
+ * allocate nothing, keep no static data, start no thread, and call memcpy, memmove and memset
+ * alone.
+ *
+ * What the caller owes, and nothing checks:
+ *  - A pointer points to as many objects as its length says, aligned as C asks of their type. Where that
+ *    length is 0 it may be null (tested, not proved); any other pointer is not null.
+ *  - What an argument with const points to is initialised. What a call writes need not be.
+ *  - During a call no one else writes what an argument points to, and no one else reads what an
+ *    argument without const points to. Such an argument overlaps no other. So threads may call at once, each with its
+ *    own structs. A firmware that scans in a timer interrupt makes each other call on the module, getters too, with
+ *    that interrupt held off.
+ *  - The structs filters, counter, checker, content_checker, module and sized_module are written by the calls of
+ *    this header alone, _start first, and so are the slots of a sized_module. Before _start they may hold any octets;
+ *    _start sets each of those of a struct. They may be copied and moved by memcpy.
+ *
+ * Sources: TEES 2009 is Caltrans TEES 2009. "Own profile" is a choice of this project where TEES
+ * leaves one: 64 inputs, 64 outputs, and what docs/PROTOCOL.md marks so.
+ *
+ * Results are of two kinds:
+ *  - A code: 0 is success or "none". Its constants are those of an enum with a name, so that a compiler tells of a
+ *    `switch ((enum fio2070_rule)breach.rule)` which forgets one.
+ *  - A count, of a call that writes octets, entries, items or text into an array of `room`: how many there are to
+ *    write. Where that is more than `room`, nothing was written and nothing changed; a call with room 0 only tells the
+ *    count. FIO2070_NO_MESSAGE, more than any room, says that there is nothing such: an encoder whose fields no message
+ *    has, or octets that do not carry what is asked for. So `count > room` is the one test for failure, and 0 is a
+ *    success with nothing to write.
+ * A text ends in a zero octet, which its count leaves out, as snprintf does: it was written if its count is less than
+ * `room`. No message has more than FIO2070_LONGEST_FRAME octets.
+ */
+#ifndef FIO2070_H
+#define FIO2070_H
+
+/* This is the header of the portable library, fio2070.c. */
+#define FIO2070_PORTABLE 1
+
+#include <stddef.h>
+#include <stdint.h>
+
+/* Whether a library for this compiler exists. A program that uses the library as portable C, and not one of its
+ * archives, defines FIO2070_PORTABLE. */
+#ifndef FIO2070_PORTABLE
+#if defined(_WIN32)
+#error "libfio2070.a is made for Linux. For Windows compile dist/fio2070.c, and include dist/fio2070.h in place of this."
+#elif !(defined(__x86_64__) || defined(__aarch64__))
+#error "libfio2070.a is for x86-64 and AArch64. Compile dist/fio2070.c, and include dist/fio2070.h in place of this."
+#elif SIZE_MAX != 0xffffffffffffffff
+#error "libfio2070.a has 64-bit pointers. Compile dist/fio2070.c, and include dist/fio2070.h in place of this."
+#endif
+#endif
+
+/** In front of the calls whose result says that something failed: gcc and clang warn if it is dropped. */
+#if defined(__GNUC__)
+#define FIO2070_MUST_USE __attribute__((warn_unused_result))
+#else
+#define FIO2070_MUST_USE
+#endif
+
+#ifdef __cplusplus
+extern "C" {
+#endif
+
+/** The version of this header: 10,000 for each major version, 100 for each minor one, 1 for each patch. */
+#define FIO2070_VERSION 10000
+
+/** Returns that number of the library that is linked. */
+uint32_t fio2070_version(void);
+
+/** The count that says that there is nothing such: more than any room. */
+#define FIO2070_NO_MESSAGE SIZE_MAX
+
+/** The input of a breach of a rule on content that has none. */
+enum { FIO2070_NO_INPUT = 255 };
+
+/** The most that there may be. */
+enum {
+    FIO2070_LONGEST_FRAME = 773,     /**< octets of a frame (own profile) */
+    FIO2070_MOST_ENTRIES = 255,      /**< entries of a block, and items of a configuration (TEES 2009) */
+    FIO2070_MOST_RECORD_ITEMS = 256, /**< what one block adds to a record: a gap mark and its entries */
+    FIO2070_STANDARD_WAITING = 1024, /**< entries that wait in a module (TEES 2009) */
+    FIO2070_MOST_WAITING = 8192,     /**< the largest limit of these (own profile) */
+    FIO2070_LONGEST_TEXT = 62        /**< octets of a text, with its zero octet: not of fio2070_show */
+};
+
+/** The types of commands (TEES 2009). */
+enum fio2070_type {
+    FIO2070_TYPE_STATUS = 49,
+    FIO2070_TYPE_LOAD_COUNTER = 50,
+    FIO2070_TYPE_CONFIGURE_INPUTS = 51,
+    FIO2070_TYPE_RAW_INPUTS = 52,
+    FIO2070_TYPE_FILTERED_INPUTS = 53,
+    FIO2070_TYPE_POLL = 54,
+    FIO2070_TYPE_SET_OUTPUTS = 55,
+    FIO2070_TYPE_TRACK_INPUTS = 56,
+    FIO2070_TYPE_COMPLEX_OUTPUTS = 57,
+    FIO2070_TYPE_WATCHDOG = 58,
+    FIO2070_TYPE_CONTROLLER_ID = 59,
+    FIO2070_TYPE_IDENTIFY = 60
+};
+
+/** The type of an answer less that of its command: `(enum fio2070_type)(answer.code - FIO2070_TYPE_ANSWER)`. */
+enum { FIO2070_TYPE_ANSWER = 128 };
+
+/** Bits of statuses: their meaning is that of TEES 2009, their places are own profile. Other bits are
+ * kept as they come. */
+enum {
+    FIO2070_BIT_ERROR = 1,           /**< S of answers 178 and 179: error; clear: done */
+    FIO2070_BIT_SET_BEFORE = 1,      /**< Y of answer 186: the watchdog had been set before */
+    FIO2070_BIT_MORE = 8,            /**< C of answer 182: more entries waited than the block takes */
+    FIO2070_BIT_LOST = 4,            /**< F of answer 182: entries directly before the block were pushed out */
+    FIO2070_BIT_AGAIN = 2,           /**< E of answer 182: the same block number was asked for again */
+    FIO2070_BIT_OUT_OF_SEQUENCE = 1, /**< G of answer 182: the number is not the one before plus one */
+    FIO2070_BIT_WAS_RESET = 128      /**< P of the flags: the module was reset (own profile) */
+};
+
+/* ---- Faults ---- */
+
+/** Why octets are no message: the first of these that applies (own profile). */
+enum fio2070_fault_kind {
+    FIO2070_FAULT_NONE = 0,         /**< the octets are a message */
+    FIO2070_FAULT_EMPTY = 1,        /**< there is no octet */
+    FIO2070_FAULT_TOO_LONG = 2,     /**< more than 773 octets: `got` */
+    FIO2070_FAULT_UNKNOWN_TYPE = 3, /**< no message that the call reads has the type `code` */
+    FIO2070_FAULT_WRONG_LENGTH = 4  /**< a message of this type and count has `needed` octets, not `got` */
+};
+
+/** Why octets are no message. Numbers that a kind does not have are 0. */
+struct fio2070_fault {
+    /** 0 none; 1 there is no octet; 2 more than 773 octets, `got` says how many; 3 no message of this call
+     *  has the type `code`; 4 a message of this type and count has another length, `needed` and `got` say
+     *  which. */
+    uint8_t kind;
+    /** The first octet, for kind 3. */
+    uint8_t code;
+    /** How many octets are needed, for kind 4: at most 773. */
+    uint16_t needed;
+    /** 0 in each octet that the library writes. */
+    uint8_t reserved[4];
+    /** How many octets there are, for kinds 2 and 4. */
+    uint64_t got;
+};
+
+/** Writes the words of a fault as `fio2070 show` does, such as "wrong length needed 14 got 11", with no line end.
+ * They are those of its kind, with the numbers that the kind has; FIO2070_FAULT_NONE and what is no kind have the empty
+ * text. FIO2070_LONGEST_TEXT octets of room are enough. */
+FIO2070_MUST_USE
+size_t fio2070_fault_text(const struct fio2070_fault *fault, char *text, size_t room);
+
+/* ---- Reading block answers in place (TEES 2009, answer 182) ---- */
+
+/** A block answer without its entries. */
+struct fio2070_block_header {
+    /** The block number. */
+    uint8_t number;
+    /** The status, with C, F, E and G in bits 3 to 0 (places own profile), and other bits as they come. */
+    uint8_t status;
+    /** How many entries the block has, from 0 to 255. */
+    uint8_t count;
+    /** 0 where the library writes it. */
+    uint8_t reserved;
+    /** The module's millisecond counter when the block was made. */
+    uint32_t stamp;
+};
+
+/** A transition: a change of the filtered state of an input. */
+struct fio2070_entry {
+    /** The input that changed, from 0 to 127. */
+    uint8_t input;
+    /** The filtered state after the transition, 0 or 1. Calls that are given an entry take any number but
+     *  0 as 1. */
+    uint8_t state;
+    /** The low 16 bits of the module's millisecond counter at the transition. */
+    uint16_t stamp;
+};
+
+/** Reads a block answer without its entries. After a fault `header` is unchanged. Any other answer is
+ * an unknown type here. */
+FIO2070_MUST_USE
+struct fio2070_fault fio2070_read_block(const uint8_t *octets, size_t length, struct fio2070_block_header *header);
+
+/** Copies the entries of a block answer to the front of `entries`, and returns how many they are, 0 to 255:
+ * FIO2070_NO_MESSAGE where the octets are no block answer. The rest of `entries` is unchanged. */
+FIO2070_MUST_USE
+size_t fio2070_block_entries(const uint8_t *octets, size_t length, struct fio2070_entry *entries, size_t room);
+
+/** The time in milliseconds, modulo 2^32, of an entry with this stamp in an answer with the stamp
+ * `answer_stamp`: the number with these low 16 bits at or before answer_stamp and fewer than 65,536
+ * steps back (own profile). */
+uint32_t fio2070_widen(uint32_t answer_stamp, uint16_t stamp);
+
+/* ---- Reading any message ---- */
+
+/** A command: the fields of its type; the others are 0. */
+struct fio2070_command {
+    /** The type: 49 to 60 (TEES 2009). */
+    uint8_t code;
+    /** Type 49: the flags to clear. */
+    uint8_t clear;
+    /** Type 54: the block number. */
+    uint8_t block;
+    /** Type 58: the timeout in milliseconds, as it is sent. */
+    uint8_t timeout;
+    /** Type 51: how many items there are. `fio2070_command_items` copies them. */
+    uint8_t count;
+    /** 0 where the library writes it. */
+    uint8_t reserved;
+    /** Types 56, 57 and 59: how many octets follow the type. They are not read further. */
+    uint16_t body;
+    /** Type 50: the number to load, in milliseconds. */
+    uint32_t load;
+    /** Type 55: the data octets. */
+    uint8_t levels[8];
+    /** Type 55: the control octets. */
+    uint8_t controls[8];
+};
+
+/** How one input is read (TEES 2009, an item of command 51). */
+struct fio2070_configuration_item {
+    /** The input, from 0 to 127. The module has the inputs 0 to 63. */
+    uint8_t input;
+    /** 1 where the input's transitions are left out of the blocks, else 0. Calls that are given an item
+     *  take any number but 0 as 1. */
+    uint8_t ignore;
+    /** The leading filter: so many samples of 0 in a row change the state from 1 to 0; 0 acts as 1. */
+    uint8_t leading;
+    /** The trailing filter: so many samples of 1 in a row change the state from 0 to 1; 0 acts as 1. */
+    uint8_t trailing;
+};
+
+/** An answer: the fields of its type; the others are 0. */
+struct fio2070_answer {
+    /** The type: 177 to 188 (TEES 2009). */
+    uint8_t code;
+    /** Type 177: the flags that are left. */
+    uint8_t flags;
+    /** Type 177: how many errors in receiving were counted. */
+    uint8_t receive_errors;
+    /** Type 177: how many errors in transmitting were counted. */
+    uint8_t transmit_errors;
+    /** Types 178, 179, 182 and 186: the status. */
+    uint8_t status;
+    /** Type 182: the block number. */
+    uint8_t block;
+    /** Type 182: how many entries there are. `fio2070_block_entries` copies them. */
+    uint8_t count;
+    /** 0 in each octet that the library writes. */
+    uint8_t reserved[3];
+    /** Types 183, 184, 185, 187 and 188: how many octets follow the type. They are not read further. */
+    uint16_t body;
+    /** Types 177, 180, 181 and 182: the millisecond counter. */
+    uint32_t stamp;
+    /** Types 180 and 181: bit i is input i. */
+    uint64_t inputs;
+};
+
+/** Reads any command. After a fault `command` is unchanged. */
+FIO2070_MUST_USE
+struct fio2070_fault fio2070_decode_command(const uint8_t *octets, size_t length, struct fio2070_command *command);
+
+/** Copies the items of a configuration (command 51) to the front of `items`, and returns how many they are, 0 to
+ * 255: FIO2070_NO_MESSAGE where the octets are no configuration. The rest of `items` is unchanged. */
+FIO2070_MUST_USE
+size_t fio2070_command_items(const uint8_t *octets, size_t length, struct fio2070_configuration_item *items,
+                             size_t room);
+
+/** Reads any answer. After a fault `answer` is unchanged. */
+FIO2070_MUST_USE
+struct fio2070_fault fio2070_decode_answer(const uint8_t *octets, size_t length, struct fio2070_answer *answer);
+
+/** Reads the module's millisecond counter in its answer to command 55: answer 183, in the own profile the octet 0 and the
+ * stamp, 6 octets in all. The octet before the stamp, octets[1], is not looked at. After a fault `stamp` is unchanged. Any
+ * other answer is an unknown type here. */
+FIO2070_MUST_USE
+struct fio2070_fault fio2070_read_outputs_answer(const uint8_t *octets, size_t length, uint32_t *stamp);
+
+/** Reads which module answered command 60: answer 188, in the own profile one octet, 2 octets in all. After a fault `id` is
+ * unchanged. Any other answer is an unknown type here. */
+FIO2070_MUST_USE
+struct fio2070_fault fio2070_read_identification(const uint8_t *octets, size_t length, uint8_t *id);
+
+/** Writes the text that `fio2070 show` writes of a frame, with a line feed behind each line: the lines of the message,
+ * of an answer where the first octet is 128 or more, else of a command; where it is none the words of the fault. */
+FIO2070_MUST_USE
+size_t fio2070_show(const uint8_t *octets, size_t length, char *text, size_t room);
+
+/* ---- Writing commands (TEES 2009) ---- */
+
+/** 49, request module status: clears the flags whose bits are one. 2 octets. */
+FIO2070_MUST_USE
+size_t fio2070_encode_status(uint8_t clear, uint8_t *out, size_t room);
+/** 50, millisecond counter management: the number that the next line sync loads. 5 octets. */
+FIO2070_MUST_USE
+size_t fio2070_encode_load_counter(uint32_t load, uint8_t *out, size_t room);
+/** 51, configure inputs. 2 + 3 * count octets. FIO2070_NO_MESSAGE where there are more than 255 items, and where one
+ * names an input above 127. */
+FIO2070_MUST_USE
+size_t fio2070_encode_configure_inputs(const struct fio2070_configuration_item *items, size_t count, uint8_t *out,
+                                       size_t room);
+/** 52, poll raw input data. 1 octet. */
+FIO2070_MUST_USE
+size_t fio2070_encode_raw_inputs(uint8_t *out, size_t room);
+/** 53, poll filtered input data. 1 octet. */
+FIO2070_MUST_USE
+size_t fio2070_encode_filtered_inputs(uint8_t *out, size_t room);
+/** 54, poll input transition buffer: the block with this number. 2 octets. */
+FIO2070_MUST_USE
+size_t fio2070_encode_poll(uint8_t block, uint8_t *out, size_t room);
+/** 55, set outputs. 17 octets (eight for each half are own profile). */
+FIO2070_MUST_USE
+size_t fio2070_encode_set_outputs(const uint8_t levels[8], const uint8_t controls[8], uint8_t *out, size_t room);
+/** 58, configure watchdog: the timeout in milliseconds, 0 to 255. The module takes less than 10 as 10
+ * and more than 100 as 100. 2 octets. */
+FIO2070_MUST_USE
+size_t fio2070_encode_watchdog(uint8_t timeout, uint8_t *out, size_t room);
+/** 60, module identification. 1 octet. */
+FIO2070_MUST_USE
+size_t fio2070_encode_identify(uint8_t *out, size_t room);
+/** 56, 57 or 59, with the octets after the type. 1 + length octets. FIO2070_NO_MESSAGE for any other type, and for
+ * more than 772 octets. */
+FIO2070_MUST_USE
+size_t fio2070_encode_other_command(uint8_t code, const uint8_t *body, size_t length, uint8_t *out, size_t room);
+
+/* ---- Writing answers (TEES 2009) ---- */
+
+/** 177: the flags that are left, the error counts and the millisecond counter. 8 octets. */
+FIO2070_MUST_USE
+size_t fio2070_encode_status_answer(uint8_t flags, uint8_t receive_errors, uint8_t transmit_errors, uint32_t stamp,
+                                    uint8_t *out, size_t room);
+/** 178, to a load of the counter. 2 octets. */
+FIO2070_MUST_USE
+size_t fio2070_encode_load_counter_answer(uint8_t status, uint8_t *out, size_t room);
+/** 179, to a configuration. 2 octets. */
+FIO2070_MUST_USE
+size_t fio2070_encode_configure_inputs_answer(uint8_t status, uint8_t *out, size_t room);
+/** 180: the levels of the inputs at the last scan; bit i is input i. 13 octets. */
+FIO2070_MUST_USE
+size_t fio2070_encode_raw_inputs_answer(uint64_t inputs, uint32_t stamp, uint8_t *out, size_t room);
+/** 181: the filtered states; bit i is input i. 13 octets. */
+FIO2070_MUST_USE
+size_t fio2070_encode_filtered_inputs_answer(uint64_t inputs, uint32_t stamp, uint8_t *out, size_t room);
+/** 182, a block. 8 + 3 * count octets. FIO2070_NO_MESSAGE where there are more than 255 entries, and where one names
+ * an input above 127. */
+FIO2070_MUST_USE
+size_t fio2070_encode_block_answer(uint8_t block, const struct fio2070_entry *entries, size_t count, uint8_t status,
+                                   uint32_t stamp, uint8_t *out, size_t room);
+/** 186, to a watchdog command. 2 octets. */
+FIO2070_MUST_USE
+size_t fio2070_encode_watchdog_answer(uint8_t status, uint8_t *out, size_t room);
+/** 183, 184, 185, 187 or 188, with the octets after the type. 1 + length octets. FIO2070_NO_MESSAGE for any other
+ * type, and for more than 772 octets. */
+FIO2070_MUST_USE
+size_t fio2070_encode_other_answer(uint8_t code, const uint8_t *body, size_t length, uint8_t *out, size_t room);
+
+/* ---- The CPU's end (own profile) ---- */
+
+/** The CPU's end. The caller keeps the record. */
+struct fio2070_poller {
+    /** The block number of the next poll. */
+    uint8_t number;
+};
+
+/** An item of the record: an entry with its time, or a gap mark. */
+struct fio2070_record_item {
+    /** 1 for a gap mark, where entries are missing, and the other fields are 0; 0 for an entry. */
+    uint8_t gap;
+    /** The input that changed, from 0 to 127. */
+    uint8_t input;
+    /** The filtered state after the transition, 0 or 1. */
+    uint8_t state;
+    /** 0 in each octet that the library writes. */
+    uint8_t reserved[3];
+    /** The low 16 bits of the module's millisecond counter at the transition. */
+    uint16_t stamp;
+    /** The time in milliseconds, in 32 bits, as `fio2070_widen` has it (own profile). */
+    uint32_t wide;
+};
+
+/** What octets were: the first of these that applies, but _TAKEN is 0. */
+enum fio2070_heard_kind {
+    FIO2070_HEARD_TAKEN = 0,      /**< a block with the present number, taken whole: `entries`, `status`, `items` */
+    FIO2070_HEARD_UNREADABLE = 1, /**< no answer: `fault` */
+    FIO2070_HEARD_OTHER = 2,      /**< an answer of another type: `code` */
+    FIO2070_HEARD_STALE = 3,      /**< a block with another number: `number` */
+    FIO2070_HEARD_NO_ROOM = 4     /**< a block with the present number that needs room for `items` */
+};
+
+/** What a poller heard. Numbers that a kind does not have are 0. */
+struct fio2070_heard {
+    /** 0 a block that was taken, with `entries` and `status`; 1 no answer, with `fault`; 2 another answer,
+     *  with its type `code`; 3 a stale block; 4 a block with no room for its `items`. */
+    uint8_t kind;
+    /** The type of another answer. */
+    uint8_t code;
+    /** The number of a block, for kinds 0, 3 and 4. */
+    uint8_t number;
+    /** The status of a block that was taken, with C, F, E and G in bits 3 to 0. */
+    uint8_t status;
+    /** The module's millisecond counter when a block was made, for kinds 0, 3 and 4. */
+    uint32_t stamp;
+    /** How many items were written, or would have been with room for them: at most 256. */
+    uint16_t items;
+    /** How many entries a block has that was taken. */
+    uint8_t entries;
+    /** 0 in each octet that the library writes. */
+    uint8_t reserved[5];
+    /** Why the octets are no answer. */
+    struct fio2070_fault fault;
+};
+
+/** Starts a poller whose first poll asks for the block with this number (own profile). A CPU that goes on with the number
+ * that it kept loses nothing and records nothing twice. One that starts anew with the number of the module's last poll
+ * gets that poll's block again, with E, and records it a second time. */
+void fio2070_poller_start(struct fio2070_poller *poller, uint8_t number);
+/** Writes a poll with the present number. 2 octets. */
+FIO2070_MUST_USE
+size_t fio2070_poller_poll(const struct fio2070_poller *poller, uint8_t *out, size_t room);
+
+/** Hears the octets of a frame. A block answer with the present number is taken whole: what it adds to
+ * the record is written to the front of `items`, a gap mark if F is set and then its entries in order,
+ * and the number rises by one modulo 256. In all other cases nothing changes; a block with no room
+ * can be heard again with more. 256 items are always enough. Of any block the number and the stamp are said. */
+FIO2070_MUST_USE
+struct fio2070_heard fio2070_poller_hear(struct fio2070_poller *poller, const uint8_t *octets, size_t length,
+                                         struct fio2070_record_item *items, size_t room);
+
+/** Writes what was heard in the words of `fio2070 simulate`, with no line end: "block entries 3 status 00", "stale 4",
+ * "other 177", or "unreadable " and the words of the fault; "no room needed 3" for FIO2070_HEARD_NO_ROOM. What is no kind
+ * has the empty text. FIO2070_LONGEST_TEXT octets of room are enough. */
+FIO2070_MUST_USE
+size_t fio2070_heard_text(const struct fio2070_heard *heard, char *text, size_t room);
+
+/* ---- The rules of a transcript ---- */
+
+/** The rules, in the order in which they are tried (own profile; docs/FORMATS.md). */
+enum fio2070_rule {
+    FIO2070_RULE_NONE = 0, /**< no rule is broken */
+    /** A line that spells no message of its direction. */
+    FIO2070_RULE_READABLE = 1,
+    /** A line that is an answer, but not directly below a command whose type is 128 less. */
+    FIO2070_RULE_PAIR = 2,
+    /** A line that is a block answer with another number than the poll directly above. */
+    FIO2070_RULE_NUMBER = 3,
+    /** A line that is a poll, not the first, with another number than the one due: that of the poll
+     *  before, plus one modulo 256 if a block answer is directly below that poll. */
+    FIO2070_RULE_ADVANCE = 4,
+    /** A line that is a block answer with E, though the poll directly above has another number than the
+     *  poll before that. */
+    FIO2070_RULE_SAME = 5,
+    /** A line that is a block answer with G and E, or with G and a block answer before it. */
+    FIO2070_RULE_SEQUENCE = 6,
+    /** A line that is a block answer with F and without C, or with C and a count other than 255, or with
+     *  an input above 63. */
+    FIO2070_RULE_LIMITS = 7,
+    /** A line that is a block answer without entries, and the block answer before it has C. */
+    FIO2070_RULE_REST = 8,
+    /** A line that is an answer 179 that says done (bit 0 is 0) to a configuration 51 that names an input
+     *  above 63. */
+    FIO2070_RULE_REFUSAL = 9
+};
+
+/** The limits of a module (own profile; TEES 2009 has 1,024 and 255). */
+struct fio2070_limits {
+    /** The most entries that wait for a poll, 1 to 8,192. */
+    uint16_t waiting;
+    /** The most entries of a block, 1 to 255. */
+    uint8_t per_block;
+    /** Not read. */
+    uint8_t reserved;
+};
+
+/** What a call that starts a module, or a checker of one with these limits, returns. */
+enum fio2070_start_kind {
+    FIO2070_STARTED = 0,
+    FIO2070_REFUSED = 1 /**< the limits are out of their ranges, and nothing changed */
+};
+
+/** Those of TEES 2009: struct fio2070_limits limits = FIO2070_STANDARD_LIMITS; */
+#define FIO2070_STANDARD_LIMITS {FIO2070_STANDARD_WAITING, FIO2070_MOST_ENTRIES, 0}
+
+/** A checker of what the CPU's end sends and hears. Its fields are the library's own. */
+struct fio2070_checker {
+    /** 1 where a command is directly above. */
+    uint8_t has_awaited;
+    /** The type of the answer to it. */
+    uint8_t awaited;
+    /** 1 where it names an input above 63. */
+    uint8_t absent_named;
+    /** 1 where a poll is above. */
+    uint8_t has_polled;
+    /** The number of the latest poll. */
+    uint8_t polled;
+    /** 1 where the latest poll or block answer is a block answer. */
+    uint8_t answered;
+    /** 1 where the latest poll has another number than the poll before it. */
+    uint8_t advanced;
+    /** 0 where no block answer is above, 1 where the latest has no C, 2 where it has. */
+    uint8_t more;
+    /** 1 below a breach, until the next poll. */
+    uint8_t skips;
+    /** The most entries of a block of the module. */
+    uint8_t per_block;
+    /** The most entries that wait there. */
+    uint16_t waiting;
+    /** 0 in each octet that the library writes. */
+    uint8_t reserved[4];
+};
+
+/** The first rule that a frame breaks, and what was due. Without a breach each field is 0. */
+struct fio2070_breach {
+    /** 0 for none, else the number of the rule: one of `FIO2070_RULE_READABLE` and those after it. */
+    uint8_t rule;
+    /** 1 where `due` and `got` are set: for advance and number, and for pair below a command. */
+    uint8_t has_due;
+    /** The number of the poll or the block answer, or the type of the answer, that was due. */
+    uint8_t due;
+    /** The one that the frame has. */
+    uint8_t got;
+};
+
+/** Writes the name of a rule, such as "advance"; FIO2070_RULE_NONE and what is no rule have the empty text.
+ * FIO2070_LONGEST_TEXT octets of room are enough. */
+FIO2070_MUST_USE
+size_t fio2070_rule_text(uint8_t rule, char *text, size_t room);
+
+/** Starts above the first frame. The rules assume a bus that repeats no frame, and delivers an answer before the CPU's next
+ * command or never; a module that was not restarted, with the standard limits; and a CPU's end that heard each block with
+ * room for it. Then no frame breaks one. */
+void fio2070_checker_start(struct fio2070_checker *checker);
+/** As `fio2070_checker_start`, for a module with these limits: those that `fio2070_sized_module_start` was given. Returns
+ * FIO2070_STARTED; where a limit is out of its range, as there, it returns FIO2070_REFUSED, and nothing changes. */
+FIO2070_MUST_USE
+uint8_t fio2070_checker_start_within(struct fio2070_checker *checker, struct fio2070_limits limits);
+/** Takes a frame that the CPU's end sent: writes its breach, and returns the breach's rule. Below a breach the checker goes
+ * on as one that starts at the next poll, which is not the frame with the breach: until then no frame has a breach, even if
+ * it is unreadable. */
+FIO2070_MUST_USE
+uint8_t fio2070_checker_sent(struct fio2070_checker *checker, const uint8_t *octets, size_t length,
+                             struct fio2070_breach *breach);
+/** Takes a frame that the CPU's end heard; breaches are as for `fio2070_checker_sent`. */
+FIO2070_MUST_USE
+uint8_t fio2070_checker_heard(struct fio2070_checker *checker, const uint8_t *octets, size_t length,
+                              struct fio2070_breach *breach);
+
+/* ---- The rules on content ---- */
+
+/** What the record of a CPU's end, or an answer that it heard, may break (own profile; docs/FORMATS.md). The rules judge a
+ * transcript that keeps the rules above. A clear block is a block answer with neither C nor E. An input is watched from an
+ * entry on if a clear block is above that entry, and no configuration that ignores the input was sent since that block; a
+ * gap mark ends it. */
+enum fio2070_content_rule {
+    FIO2070_CONTENT_NONE = 0, /**< no rule is broken */
+    /** An entry is later than the entry above it, or has its time and a higher input. Judged if a clear
+     *  block is above the upper entry, and no load of the counter is sent above. */
+    FIO2070_CONTENT_ORDER = 1,
+    /** An entry is later than the stamp of the latest block without C, which had all entries up to that
+     *  stamp. Judged if that block or one above it is clear, and no load of the counter is sent above. */
+    FIO2070_CONTENT_FRESH = 2,
+    /** The entries of an input have the states 0 and 1 in turn. Judged if the input is watched from the
+     *  earlier entry on. */
+    FIO2070_CONTENT_ALTERNATE = 3,
+    /** An entry of an input follows the one before no sooner than the filter for its change lets it.
+     *  Judged if a clear block is above the earlier entry, and no load of the counter is sent above. The
+     *  filter is the least that can be in force: at first 1; an item that is sent can lower it; a clear
+     *  block sets it to the last item of the input, if its answer says done. */
+    FIO2070_CONTENT_APART = 4,
+    /** An input that is ignored has no entry. Judged if above some clear block the last item of the input
+     *  ignores it, and its answer says done, and no item that is sent below opens the input. */
+    FIO2070_CONTENT_IGNORED = 5,
+    /** An answer 181 has the states of the record at its stamp. Judged if the input is watched and no load
+     *  of the counter is sent above: at the first entry later than the stamp of the latest 181, or the end
+     *  of the first block without C whose stamp is not before it. */
+    FIO2070_CONTENT_STATE = 6,
+    /** The stamp of a 177, 180 or 181, or of a block without E, is not before the latest one above. Judged
+     *  if no load of the counter is sent above. */
+    FIO2070_CONTENT_CLOCK = 7,
+    /** An answer 178 has no S: a load of the counter is never refused. */
+    FIO2070_CONTENT_DONE = 8,
+    /** An answer 179 has no S, if its configuration names no input above 63. */
+    FIO2070_CONTENT_ACCEPTED = 9,
+    /** An answer 177 has none of the flags that its command clears. */
+    FIO2070_CONTENT_CLEARED = 10,
+    /** An answer 186 has Y, if another 186 is above. */
+    FIO2070_CONTENT_WATCHDOG = 11
+};
+
+/** What the rules on content keep of the frames above. The fields are the library's own. */
+struct fio2070_content_checker {
+    struct {
+        struct {
+            uint64_t named;
+            uint64_t sent;
+            uint64_t ignoring;
+            uint64_t taken;
+            uint64_t settled;
+            uint64_t hidden;
+            uint64_t shut;
+            uint64_t levels;
+            uint64_t watched;
+            uint64_t timed;
+            uint32_t times[64];
+            uint8_t leading[64];
+            uint8_t trailing[64];
+            uint8_t least_leading[64];
+            uint8_t least_trailing[64];
+        } inputs;
+        uint64_t seen_levels;
+        uint32_t clock;
+        uint32_t floor;
+        uint32_t seen;
+        uint8_t loaded;
+        uint8_t watchdog_set;
+        uint8_t clearing;
+        uint8_t absent_named;
+        uint8_t has_clock;
+        uint8_t clear;
+        uint8_t floor_kind;
+        uint8_t floor_input;
+        uint8_t has_seen;
+        uint8_t reserved[3];
+    } above;
+    uint8_t has_number;
+    uint8_t number;
+    uint8_t reserved[6];
+};
+
+/** The first rule on content that a frame breaks. Without a breach each field is 0. */
+struct fio2070_content_breach {
+    /** 0 for none, else the number of the rule: one of `FIO2070_CONTENT_ORDER` and those after it. */
+    uint8_t rule;
+    /** The input of the entry that breaks it, or that whose state is another; 255 for an answer. */
+    uint8_t input;
+    /** How many items of the frame's block are recorded above the breach, a gap mark with them: for an
+     *  answer none, at the end of a block all. */
+    uint16_t items;
+};
+
+/** Writes the name of a rule on content, such as "order"; FIO2070_CONTENT_NONE and what is no rule have the empty text.
+ * FIO2070_LONGEST_TEXT octets of room are enough. */
+FIO2070_MUST_USE
+size_t fio2070_content_rule_text(uint8_t rule, char *text, size_t room);
+
+/** Starts above the first frame of a log, which may begin anywhere, whatever both ends did above. Start again after a gap in
+ * the log, a damaged frame or a restart. The rules assume what `fio2070_checker_start` does, and of the link:
+ *  - no load of the counter that was sent above the log takes effect in it (order, fresh, apart, state, clock);
+ *  - an entry waits for fewer than 65,536 scans (order, fresh, apart, state);
+ *  - there are fewer than 2^31 scans between an entry or a block without C and the next entry (order, fresh), between a 181
+ *    and the entry or block to which it is compared (state), and between successive stamps (clock);
+ *  - there are fewer than 2^32 scans between successive entries of an input (apart).
+ * docs/PROMISES.md says which rules are proved to accuse no such link. */
+void fio2070_content_start(struct fio2070_content_checker *content);
+/** As `fio2070_content_start`, for a log that begins with the start of both ends: it knows how the module begins, and finds
+ * more. In any other log it can accuse a right link. */
+void fio2070_content_start_begun(struct fio2070_content_checker *content);
+/** Takes a frame that the CPU's end sent, which breaks no rule on content. */
+void fio2070_content_sent(struct fio2070_content_checker *content, const uint8_t *octets, size_t length);
+/** Takes a frame that the CPU's end heard: writes the first rule on content that it breaks, and returns the number of the
+ * rule, 0 if it breaks none. All of the frame is taken, below a breach too. Of the block answers those are judged that a
+ * poller takes whose first number is that of the first poll sent, each once. After a frame that breaks a rule of
+ * `fio2070_checker` the result is not promised. */
+FIO2070_MUST_USE
+uint8_t fio2070_content_heard(struct fio2070_content_checker *content, const uint8_t *octets, size_t length,
+                              struct fio2070_content_breach *breach);
+
+/* ---- Parts of a module ---- */
+
+/** The millisecond counter. Its fields are the library's own. */
+struct fio2070_counter {
+    uint32_t value;
+    uint32_t load;
+    uint8_t is_asked;
+    uint8_t reserved[3];
+};
+
+/** At 0 (own profile), with no load asked for. */
+void fio2070_counter_start(struct fio2070_counter *counter);
+/** One step, from 4,294,967,295 to 0. Each scan of a module does it before it samples (own profile). */
+void fio2070_counter_tick(struct fio2070_counter *counter);
+/** The next line sync loads this number (TEES 2009), and none that was asked for before (own profile). */
+void fio2070_counter_ask_load(struct fio2070_counter *counter, uint32_t number);
+/** LINESYNC goes from 0 to 1: a load that was asked for happens now (TEES 2009). */
+void fio2070_counter_line_sync(struct fio2070_counter *counter);
+/** The milliseconds counted, modulo 2^32. */
+uint32_t fio2070_counter_now(const struct fio2070_counter *counter);
+
+/** The filters of the 64 inputs. Bit i of a word is input i. The fields are the library's own. */
+struct fio2070_filters {
+    uint8_t run_lengths[64];
+    uint8_t leading[64];
+    uint8_t trailing[64];
+    uint64_t ignored;
+    uint64_t filtered;
+    uint64_t raw;
+};
+
+/** What became of a configuration. */
+enum fio2070_configured_kind {
+    FIO2070_CONFIGURED_APPLIED = 0,
+    FIO2070_CONFIGURED_ABSENT_INPUT = 1,   /**< the item at `place` is the first that names an input above 63 */
+    FIO2070_CONFIGURED_TOO_MANY_ITEMS = 2  /**< more than 255 */
+};
+
+/** What became of a configuration, and where. Of more than 255 items, one of which names an input above 63, it is kind 2. */
+struct fio2070_configured {
+    /** 0 applied; 1 an item names an input above 63; 2 more than 255 items. */
+    uint8_t kind;
+    /** 0 in each octet that the library writes. */
+    uint8_t reserved[7];
+    /** The place of the first item that names an input above 63, counted from 0, for kind 1. */
+    uint64_t place;
+};
+
+/** Each input is ignored, both its filters are 5, and its raw level and filtered state are 1 (own
+ * profile). */
+void fio2070_filters_start(struct fio2070_filters *filters);
+/** Applies the items in their order; where one names an input above 63, or there are more than 255,
+ * none, and nothing changes (own profile). An applied item starts the samples of its input anew from
+ * the present filtered state. */
+FIO2070_MUST_USE
+struct fio2070_configured fio2070_filters_configure(struct fio2070_filters *filters,
+                                                    const struct fio2070_configuration_item *items, size_t count);
+/** Takes a sample of each input. The result has a one for each input that is not ignored and whose
+ * filtered state changed (TEES 2009). */
+uint64_t fio2070_filters_scan(struct fio2070_filters *filters, uint64_t raw);
+/** The filtered states, also of ignored inputs. */
+uint64_t fio2070_filters_filtered(const struct fio2070_filters *filters);
+/** The levels of the last scan, all 1 before any (own profile). */
+uint64_t fio2070_filters_raw(const struct fio2070_filters *filters);
+
+/* ---- The module (TEES 2009, in the own profile of 64 inputs and 64 outputs) ---- */
+
+/** The data and control octets of command 55. */
+struct fio2070_outputs {
+    /** The eight data octets. */
+    uint8_t levels[8];
+    /** The eight control octets. */
+    uint8_t controls[8];
+};
+
+/** How many errors the firmware counted, as the answer 177 has them. */
+struct fio2070_error_counts {
+    /** In receiving. */
+    uint8_t receive;
+    /** In transmitting. */
+    uint8_t transmit;
+};
+
+/** Room for an entry that waits. */
+struct fio2070_slot {
+    uint8_t octets[3];
+};
+
+/** An array of such room. FIO2070_RING makes it of an array, and of nothing else. */
+struct fio2070_ring {
+    struct fio2070_slot *slots; /**< may be null where there are none */
+    size_t capacity;            /**< how many there are */
+};
+
+/** The ring that an array of slots is: struct fio2070_slot slots[64]; .. FIO2070_RING(slots). A pointer is an error when
+ * the program is compiled: by C++, by gcc and clang, and by each compiler of C11. */
+#if defined(__cplusplus)
+extern "C++" {
+template <size_t count>
+static inline struct fio2070_ring fio2070_ring_of(struct fio2070_slot (&slots)[count]) {
+    struct fio2070_ring ring = {slots, count};
+    return ring;
+}
+}
+#define FIO2070_RING(array) fio2070_ring_of(array)
+#else
+#define FIO2070_SLOTS(array) (sizeof(array) / sizeof(struct fio2070_slot))
+#if defined(__GNUC__)
+#define FIO2070_IS_ARRAY(array) sizeof(char[__builtin_types_compatible_p(__typeof__(array), struct fio2070_slot[]) ? 1 : -1])
+#elif defined(__STDC_VERSION__) && __STDC_VERSION__ >= 201112L
+#define FIO2070_IS_ARRAY(array) _Generic(&(array), struct fio2070_slot (*)[FIO2070_SLOTS(array)]: 1)
+#else
+#define FIO2070_IS_ARRAY(array) 1
+#endif
+#define FIO2070_RING(array) ((struct fio2070_ring){(array), FIO2070_SLOTS(array) * FIO2070_IS_ARRAY(array)})
+#endif
+
+/** A module whose waiting entries are in slots of the caller. _scan and _receive are given these as `ring`, always the same
+ * ones, or others with their octets; they use as many as the limit says, and leave further ones unchanged. With fewer each
+ * call is safe, but which and how many entries wait is not promised. The fields are the library's own. */
+struct fio2070_sized_module {
+    struct {
+        uint8_t id;
+        uint8_t per_block;
+        uint8_t flags;
+        uint8_t watchdog;
+        uint8_t pushed_out;
+        uint8_t reserved[7];
+        struct fio2070_counter counter;
+        struct fio2070_outputs outputs;
+        struct fio2070_filters filters;
+        struct {
+            uint8_t octets[773];
+            uint8_t reserved;
+            uint16_t length;
+        } sent;
+    } state;
+    struct {
+        uint16_t first;
+        uint16_t count;
+    } place;
+    struct fio2070_error_counts errors;
+    uint16_t waiting;
+    uint8_t reserved[16];
+};
+
+/** Starts a module that answers `id` to command 60, with these limits. Returns FIO2070_STARTED; where `waiting` is not 1 to
+ * 8,192, or `per_block` is 0, FIO2070_REFUSED, and then nothing changes: the struct is not started. */
+FIO2070_MUST_USE
+uint8_t fio2070_sized_module_start(struct fio2070_sized_module *module, uint8_t id, struct fio2070_limits limits);
+/** Starts it anew with the same id and limits: the flags are P alone, the counter and both error counts are 0, and the
+ * waiting entries and the block that was sent last are lost (own profile). */
+void fio2070_sized_module_restart(struct fio2070_sized_module *module);
+/** Steps the counter by one millisecond, then samples each input; bit i of `raw` is the level of input i (own profile: one
+ * scan a step). Each reported transition becomes a waiting entry; where as many wait as the limit says it pushes out the
+ * oldest. */
+void fio2070_sized_module_scan(struct fio2070_sized_module *module, struct fio2070_ring ring, uint64_t raw);
+/** LINESYNC goes from 0 to 1: a load of the counter that was asked for happens now (TEES 2009). */
+void fio2070_sized_module_line_sync(struct fio2070_sized_module *module);
+/** Sets the flags whose bits are one: from bit 7 down P, E, K, R, T, M, L, W (own profile). */
+void fio2070_sized_module_raise(struct fio2070_sized_module *module, uint8_t mask);
+/** Sets the error counts that the answer 177 has from now on; both are 0 at the start. TEES 2009 leaves out what counts as
+ * an error: the firmware does. */
+void fio2070_sized_module_set_errors(struct fio2070_sized_module *module, uint8_t receive, uint8_t transmit);
+/** Counts one more error in receiving; 255 stays 255 (own profile). */
+void fio2070_sized_module_count_receive_error(struct fio2070_sized_module *module);
+/** Counts one more error in transmitting; 255 stays 255 (own profile). */
+void fio2070_sized_module_count_transmit_error(struct fio2070_sized_module *module);
+/** Carries out the command that the octets spell, writes the answer to the front of `out`, and returns how many octets it
+ * has, 2 to 773. 0 for a command without an answer: 56, 57 and 59, which change nothing (own profile). FIO2070_NO_MESSAGE
+ * if the octets spell no command, and then nothing changes.
+ *
+ * `room` is to be enough for the longest answer of this module, the larger of 13 and 8 + 3 * per_block octets: where it is
+ * less nothing changes, and that number is returned. */
+FIO2070_MUST_USE
+size_t fio2070_sized_module_receive(struct fio2070_sized_module *module, struct fio2070_ring ring, const uint8_t *octets,
+                                    size_t length, uint8_t *out, size_t room);
+/** The outputs, all 0 before the first command 55 (own profile). */
+struct fio2070_outputs fio2070_sized_module_outputs(const struct fio2070_sized_module *module);
+/** The timeout of the watchdog in milliseconds, 10 to 100; 0 before the first command 58. */
+uint8_t fio2070_sized_module_watchdog_ms(const struct fio2070_sized_module *module);
+/** The milliseconds counted, modulo 2^32 (TEES 2009). */
+uint32_t fio2070_sized_module_counter(const struct fio2070_sized_module *module);
+/** The filtered states, also of ignored inputs; bit i is input i. */
+uint64_t fio2070_sized_module_filtered(const struct fio2070_sized_module *module);
+/** The levels of the last scan, all 1 before any (own profile); bit i is input i. */
+uint64_t fio2070_sized_module_raw(const struct fio2070_sized_module *module);
+/** The flags that are up: from bit 7 down P, E, K, R, T, M, L, W (own profile). */
+uint8_t fio2070_sized_module_flags(const struct fio2070_sized_module *module);
+/** The error counts that the answer 177 has. */
+struct fio2070_error_counts fio2070_sized_module_errors(const struct fio2070_sized_module *module);
+/** How many entries wait for a poll, 0 to the limit. */
+size_t fio2070_sized_module_waiting(const struct fio2070_sized_module *module);
+
+/** A module with slots of its own, for the 1,024 entries of TEES 2009 or fewer. Its calls are those above, compiled with the
+ * program. */
+struct fio2070_module {
+    struct fio2070_sized_module sized;
+    struct fio2070_slot slots[FIO2070_STANDARD_WAITING];
+};
+
+/** As fio2070_sized_module_start; it refuses a limit above 1,024 too. */
+FIO2070_MUST_USE
+static inline uint8_t fio2070_module_start(struct fio2070_module *module, uint8_t id, struct fio2070_limits limits) {
+    if (limits.waiting > FIO2070_STANDARD_WAITING) return FIO2070_REFUSED;
+    return fio2070_sized_module_start(&module->sized, id, limits);
+}
+/** As fio2070_sized_module_restart, and so each call below. */
+static inline void fio2070_module_restart(struct fio2070_module *module) {
+    fio2070_sized_module_restart(&module->sized);
+}
+static inline void fio2070_module_scan(struct fio2070_module *module, uint64_t raw) {
+    fio2070_sized_module_scan(&module->sized, FIO2070_RING(module->slots), raw);
+}
+static inline void fio2070_module_line_sync(struct fio2070_module *module) {
+    fio2070_sized_module_line_sync(&module->sized);
+}
+static inline void fio2070_module_raise(struct fio2070_module *module, uint8_t mask) {
+    fio2070_sized_module_raise(&module->sized, mask);
+}
+static inline void fio2070_module_set_errors(struct fio2070_module *module, uint8_t receive, uint8_t transmit) {
+    fio2070_sized_module_set_errors(&module->sized, receive, transmit);
+}
+static inline void fio2070_module_count_receive_error(struct fio2070_module *module) {
+    fio2070_sized_module_count_receive_error(&module->sized);
+}
+static inline void fio2070_module_count_transmit_error(struct fio2070_module *module) {
+    fio2070_sized_module_count_transmit_error(&module->sized);
+}
+FIO2070_MUST_USE
+static inline size_t fio2070_module_receive(struct fio2070_module *module, const uint8_t *octets, size_t length, uint8_t *out,
+                                            size_t room) {
+    return fio2070_sized_module_receive(&module->sized, FIO2070_RING(module->slots), octets, length, out, room);
+}
+static inline struct fio2070_outputs fio2070_module_outputs(const struct fio2070_module *module) {
+    return fio2070_sized_module_outputs(&module->sized);
+}
+static inline uint8_t fio2070_module_watchdog_ms(const struct fio2070_module *module) {
+    return fio2070_sized_module_watchdog_ms(&module->sized);
+}
+static inline uint32_t fio2070_module_counter(const struct fio2070_module *module) {
+    return fio2070_sized_module_counter(&module->sized);
+}
+static inline uint64_t fio2070_module_filtered(const struct fio2070_module *module) {
+    return fio2070_sized_module_filtered(&module->sized);
+}
+static inline uint64_t fio2070_module_raw(const struct fio2070_module *module) {
+    return fio2070_sized_module_raw(&module->sized);
+}
+static inline uint8_t fio2070_module_flags(const struct fio2070_module *module) {
+    return fio2070_sized_module_flags(&module->sized);
+}
+static inline struct fio2070_error_counts fio2070_module_errors(const struct fio2070_module *module) {
+    return fio2070_sized_module_errors(&module->sized);
+}
+static inline size_t fio2070_module_waiting(const struct fio2070_module *module) {
+    return fio2070_sized_module_waiting(&module->sized);
+}
+
+/* ---- Layout: written by tools/generate-layouts ---- */
+/* Each struct has this size and these offsets with every compiler. */
+#if defined(__cplusplus)
+#define FIO2070_SAME(name, is) static_assert(is, "the layout of struct fio2070_" #name)
+#elif defined(__STDC_VERSION__) && __STDC_VERSION__ >= 201112L
+#define FIO2070_SAME(name, is) _Static_assert(is, "the layout of struct fio2070_" #name)
+#else
+#define FIO2070_SAME(name, is) typedef char fio2070_layout_of_##name[(is) ? 1 : -1]
+#endif
+FIO2070_SAME(answer, sizeof(struct fio2070_answer) == 24 &&
+             offsetof(struct fio2070_answer, flags) == 1 &&
+             offsetof(struct fio2070_answer, receive_errors) == 2 &&
+             offsetof(struct fio2070_answer, transmit_errors) == 3 &&
+             offsetof(struct fio2070_answer, status) == 4 &&
+             offsetof(struct fio2070_answer, block) == 5 &&
+             offsetof(struct fio2070_answer, count) == 6 &&
+             offsetof(struct fio2070_answer, reserved) == 7 &&
+             offsetof(struct fio2070_answer, body) == 10 &&
+             offsetof(struct fio2070_answer, stamp) == 12 &&
+             offsetof(struct fio2070_answer, inputs) == 16);
+
+FIO2070_SAME(block_header, sizeof(struct fio2070_block_header) == 8 &&
+             offsetof(struct fio2070_block_header, status) == 1 &&
+             offsetof(struct fio2070_block_header, count) == 2 &&
+             offsetof(struct fio2070_block_header, reserved) == 3 &&
+             offsetof(struct fio2070_block_header, stamp) == 4);
+
+FIO2070_SAME(entry, sizeof(struct fio2070_entry) == 4 &&
+             offsetof(struct fio2070_entry, state) == 1 &&
+             offsetof(struct fio2070_entry, stamp) == 2);
+
+FIO2070_SAME(checker, sizeof(struct fio2070_checker) == 16 &&
+             offsetof(struct fio2070_checker, awaited) == 1 &&
+             offsetof(struct fio2070_checker, absent_named) == 2 &&
+             offsetof(struct fio2070_checker, has_polled) == 3 &&
+             offsetof(struct fio2070_checker, polled) == 4 &&
+             offsetof(struct fio2070_checker, answered) == 5 &&
+             offsetof(struct fio2070_checker, advanced) == 6 &&
+             offsetof(struct fio2070_checker, more) == 7 &&
+             offsetof(struct fio2070_checker, skips) == 8 &&
+             offsetof(struct fio2070_checker, per_block) == 9 &&
+             offsetof(struct fio2070_checker, waiting) == 10 &&
+             offsetof(struct fio2070_checker, reserved) == 12);
+
+FIO2070_SAME(breach, sizeof(struct fio2070_breach) == 4 &&
+             offsetof(struct fio2070_breach, has_due) == 1 &&
+             offsetof(struct fio2070_breach, due) == 2 &&
+             offsetof(struct fio2070_breach, got) == 3);
+
+FIO2070_SAME(command, sizeof(struct fio2070_command) == 28 &&
+             offsetof(struct fio2070_command, clear) == 1 &&
+             offsetof(struct fio2070_command, block) == 2 &&
+             offsetof(struct fio2070_command, timeout) == 3 &&
+             offsetof(struct fio2070_command, count) == 4 &&
+             offsetof(struct fio2070_command, reserved) == 5 &&
+             offsetof(struct fio2070_command, body) == 6 &&
+             offsetof(struct fio2070_command, load) == 8 &&
+             offsetof(struct fio2070_command, levels) == 12 &&
+             offsetof(struct fio2070_command, controls) == 20);
+
+FIO2070_SAME(configuration_item, sizeof(struct fio2070_configuration_item) == 4 &&
+             offsetof(struct fio2070_configuration_item, ignore) == 1 &&
+             offsetof(struct fio2070_configuration_item, leading) == 2 &&
+             offsetof(struct fio2070_configuration_item, trailing) == 3);
+
+FIO2070_SAME(content_breach, sizeof(struct fio2070_content_breach) == 4 &&
+             offsetof(struct fio2070_content_breach, input) == 1 &&
+             offsetof(struct fio2070_content_breach, items) == 2);
+
+FIO2070_SAME(fault, sizeof(struct fio2070_fault) == 16 &&
+             offsetof(struct fio2070_fault, code) == 1 &&
+             offsetof(struct fio2070_fault, needed) == 2 &&
+             offsetof(struct fio2070_fault, reserved) == 4 &&
+             offsetof(struct fio2070_fault, got) == 8);
+
+FIO2070_SAME(configured, sizeof(struct fio2070_configured) == 16 &&
+             offsetof(struct fio2070_configured, reserved) == 1 &&
+             offsetof(struct fio2070_configured, place) == 8);
+
+FIO2070_SAME(limits, sizeof(struct fio2070_limits) == 4 &&
+             offsetof(struct fio2070_limits, per_block) == 2 &&
+             offsetof(struct fio2070_limits, reserved) == 3);
+
+FIO2070_SAME(sized_module, sizeof(struct fio2070_sized_module) == 1056);
+
+FIO2070_SAME(error_counts, sizeof(struct fio2070_error_counts) == 2 &&
+             offsetof(struct fio2070_error_counts, transmit) == 1);
+
+FIO2070_SAME(poller, sizeof(struct fio2070_poller) == 1);
+
+FIO2070_SAME(record_item, sizeof(struct fio2070_record_item) == 12 &&
+             offsetof(struct fio2070_record_item, input) == 1 &&
+             offsetof(struct fio2070_record_item, state) == 2 &&
+             offsetof(struct fio2070_record_item, reserved) == 3 &&
+             offsetof(struct fio2070_record_item, stamp) == 6 &&
+             offsetof(struct fio2070_record_item, wide) == 8);
+
+FIO2070_SAME(heard, sizeof(struct fio2070_heard) == 32 &&
+             offsetof(struct fio2070_heard, code) == 1 &&
+             offsetof(struct fio2070_heard, number) == 2 &&
+             offsetof(struct fio2070_heard, status) == 3 &&
+             offsetof(struct fio2070_heard, stamp) == 4 &&
+             offsetof(struct fio2070_heard, items) == 8 &&
+             offsetof(struct fio2070_heard, entries) == 10 &&
+             offsetof(struct fio2070_heard, reserved) == 11 &&
+             offsetof(struct fio2070_heard, fault) == 16);
+
+FIO2070_SAME(content_checker, sizeof(struct fio2070_content_checker) == 632);
+
+FIO2070_SAME(counter, sizeof(struct fio2070_counter) == 12);
+
+FIO2070_SAME(filters, sizeof(struct fio2070_filters) == 216);
+
+FIO2070_SAME(outputs, sizeof(struct fio2070_outputs) == 16 &&
+             offsetof(struct fio2070_outputs, controls) == 8);
+#undef FIO2070_SAME
+/* ---- End of the layout ---- */
+
+#ifdef __cplusplus
+}
+#endif
+#endif

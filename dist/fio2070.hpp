@@ -1,0 +1,554 @@
+/* The field I/O transition link of the Model 2070: the header for C++17, above fio2070.h.
+ *
+ * Sources: 01e7d3c5130c59da797977db0a30779d839f2654b692bb43ee9a73c310eff2fc (SHA-256; packaging/release-files --sources)
+ * Kit: rattle-kit-13b logic dac8208d650f15bf
+ * Proof: logic=proved functions=125 target=wasm64-unknown-unknown sum=dac8208d650f15bf native=nat,char,string
+ * Made by `make release-files`: do not edit.
+ *
+ * Proved is the module of which fio2070.c was made, for wasm64: each call does what fio2070.h says for all octets,
+ * lengths and contents of its structs. Trusted are the kit's logic and the statements of its libraries; trusted, and
+ * tested, are its compiler for wasm64, the translator with the machine and the calls that it adds (tools/portable),
+ * and the compiler of your processor.
+ *
+ * To report a fault: SECURITY.md of the repository. Send the lines above, and octets, text or program that show it.
+ */
+// The calls of fio2070.h for C++17: values that are always started, views of octets, optional results.
+// Header only; link libfio2070.a, or compile the portable fio2070.c, beside which `make portable` puts this header. Ranges,
+// errors and sources are those of fio2070.h. Nothing here throws but Read::value() and what a std::vector throws where
+// memory runs out.
+#ifndef FIO2070_HPP
+#define FIO2070_HPP
+
+#include "fio2070.h"
+
+#include <algorithm>
+#include <array>
+#include <cstddef>
+#include <cstdint>
+#include <initializer_list>
+#include <optional>
+#include <stdexcept>
+#include <string>
+#include <type_traits>
+#include <vector>
+
+namespace fio2070 {
+
+using BlockHeader = ::fio2070_block_header;
+using Entry = ::fio2070_entry;
+using Command = ::fio2070_command;
+using ConfigurationItem = ::fio2070_configuration_item;
+using Answer = ::fio2070_answer;
+using RecordItem = ::fio2070_record_item;
+using Outputs = ::fio2070_outputs;
+using ErrorCounts = ::fio2070_error_counts;
+
+/// A view of objects that someone else owns, as std::span has it: they must outlive it. It is given an
+/// array, a std::array, a std::vector or anything else with data() and size().
+template <typename T>
+class View {
+public:
+    constexpr View() = default;
+    constexpr View(T *data, std::size_t size) : data_(data), size_(size) {}
+    template <std::size_t Size>
+    constexpr View(T (&array)[Size]) : data_(array), size_(Size) {}
+    template <typename List, typename = std::enable_if_t<std::is_convertible_v<decltype(std::declval<List &>().data()), T *>>>
+    constexpr View(List &&list) : data_(list.data()), size_(list.size()) {}
+    /// A list that lasts as long as the call that it is given to.
+    constexpr View(std::initializer_list<std::remove_const_t<T>> list) : data_(first_of(list)), size_(list.size()) {}
+
+    /// Null at most where there are none.
+    constexpr T *data() const { return data_; }
+    constexpr std::size_t size() const { return size_; }
+    constexpr bool empty() const { return size_ == 0; }
+    constexpr T *begin() const { return data(); }
+    constexpr T *end() const { return data() + size_; }
+    constexpr T &operator[](std::size_t place) const { return data()[place]; }
+
+private:
+    static constexpr T *first_of(const std::initializer_list<std::remove_const_t<T>> &list) {
+        return list.size() != 0 ? &*list.begin() : nullptr;
+    }
+    T *data_ = nullptr;
+    std::size_t size_ = 0;
+};
+
+using Octets = View<const std::uint8_t>;
+
+/// The text that `write(text, room)` writes, of those that FIO2070_LONGEST_TEXT octets are enough for.
+template <typename Write>
+std::string text_of(Write write) {
+    std::array<char, FIO2070_LONGEST_TEXT> text{};
+    std::size_t count = write(text.data(), text.size());
+    return count < text.size() ? std::string(text.data(), count) : std::string();
+}
+
+/// Why octets are no message.
+class Fault {
+public:
+    constexpr explicit Fault(::fio2070_fault fault) : fault_(fault) {}
+    constexpr ::fio2070_fault_kind kind() const { return static_cast<::fio2070_fault_kind>(fault_.kind); }
+    constexpr std::uint8_t code() const { return fault_.code; }
+    constexpr std::uint16_t needed() const { return fault_.needed; }
+    constexpr std::size_t got() const { return fault_.got; }
+    /// As `fio2070 show` writes it.
+    std::string text() const {
+        return text_of([this](char *text, std::size_t room) { return ::fio2070_fault_text(&fault_, text, room); });
+    }
+
+private:
+    ::fio2070_fault fault_;
+};
+
+/// The fault of a message that was asked for and is not there; its text is that of the fault.
+class FaultError : public std::runtime_error {
+public:
+    explicit FaultError(const Fault &fault) : std::runtime_error(fault.text()), fault_(fault) {}
+    const Fault &fault() const { return fault_; }
+
+private:
+    Fault fault_;
+};
+
+/// A message, or why there is none.
+template <typename Message>
+class Read {
+public:
+    Read(const ::fio2070_fault &fault, const Message &message)
+        : fault_(fault), message_(fault.kind == FIO2070_FAULT_NONE ? std::optional<Message>(message) : std::nullopt) {}
+    explicit operator bool() const { return message_.has_value(); }
+    const std::optional<Message> &message() const { return message_; }
+    /// The message; throws FaultError where there is none.
+    const Message &value() const {
+        if (!message_) throw FaultError(fault_);
+        return *message_;
+    }
+    const Message &operator*() const { return *message_; }
+    const Message *operator->() const { return &*message_; }
+    /// Of kind FIO2070_FAULT_NONE where there is a message.
+    const Fault &fault() const { return fault_; }
+
+private:
+    Fault fault_;
+    std::optional<Message> message_;
+};
+
+inline Read<Command> decode_command(Octets octets) {
+    Command command{};
+    ::fio2070_fault fault = ::fio2070_decode_command(octets.data(), octets.size(), &command);
+    return {fault, command};
+}
+
+inline Read<Answer> decode_answer(Octets octets) {
+    Answer answer{};
+    ::fio2070_fault fault = ::fio2070_decode_answer(octets.data(), octets.size(), &answer);
+    return {fault, answer};
+}
+
+inline Read<BlockHeader> read_block(Octets octets) {
+    BlockHeader header{};
+    ::fio2070_fault fault = ::fio2070_read_block(octets.data(), octets.size(), &header);
+    return {fault, header};
+}
+
+/// The module's millisecond counter in its answer to command 55 (answer 183).
+inline Read<std::uint32_t> read_outputs_answer(Octets octets) {
+    std::uint32_t stamp = 0;
+    ::fio2070_fault fault = ::fio2070_read_outputs_answer(octets.data(), octets.size(), &stamp);
+    return {fault, stamp};
+}
+
+/// Which module answered command 60 (answer 188).
+inline Read<std::uint8_t> read_identification(Octets octets) {
+    std::uint8_t id = 0;
+    ::fio2070_fault fault = ::fio2070_read_identification(octets.data(), octets.size(), &id);
+    return {fault, id};
+}
+
+/// The entries of a block answer; none where the octets are no block answer.
+inline std::vector<Entry> block_entries(Octets octets) {
+    std::vector<Entry> entries(FIO2070_MOST_ENTRIES);
+    std::size_t count = ::fio2070_block_entries(octets.data(), octets.size(), entries.data(), entries.size());
+    entries.resize(count <= entries.size() ? count : 0);
+    return entries;
+}
+
+/// The items of a configuration; none where the octets are no configuration.
+inline std::vector<ConfigurationItem> command_items(Octets octets) {
+    std::vector<ConfigurationItem> items(FIO2070_MOST_ENTRIES);
+    std::size_t count = ::fio2070_command_items(octets.data(), octets.size(), items.data(), items.size());
+    items.resize(count <= items.size() ? count : 0);
+    return items;
+}
+
+/// What `fio2070 show` writes of a frame, or the words of its fault and a line feed.
+inline std::string show(Octets octets) {
+    std::string text(::fio2070_show(octets.data(), octets.size(), nullptr, 0) + 1, '\0');
+    text.resize(::fio2070_show(octets.data(), octets.size(), text.data(), text.size()));
+    return text;
+}
+
+/// The octets after the type of a message with a body.
+inline Octets body(Octets octets) { return octets.empty() ? octets : Octets(octets.data() + 1, octets.size() - 1); }
+
+/// The name of a rule, such as "advance", and of a rule on content, such as "order"; empty for what is none.
+inline std::string rule_text(std::uint8_t rule) {
+    return text_of([rule](char *text, std::size_t room) { return ::fio2070_rule_text(rule, text, room); });
+}
+inline std::string content_rule_text(std::uint8_t rule) {
+    return text_of([rule](char *text, std::size_t room) { return ::fio2070_content_rule_text(rule, text, room); });
+}
+
+inline std::uint32_t widen(std::uint32_t answer_stamp, std::uint16_t stamp) {
+    return ::fio2070_widen(answer_stamp, stamp);
+}
+
+/// A frame of at most 773 octets, in memory of its own.
+class Frame {
+public:
+    const std::uint8_t *data() const { return octets_.data(); }
+    std::size_t size() const { return size_; }
+    bool empty() const { return size_ == 0; }
+    const std::uint8_t *begin() const { return data(); }
+    const std::uint8_t *end() const { return data() + size_; }
+    std::uint8_t operator[](std::size_t place) const { return octets_[place]; }
+    friend bool operator==(const Frame &one, const Frame &other) {
+        return std::equal(one.begin(), one.end(), other.begin(), other.end());
+    }
+    friend bool operator!=(const Frame &one, const Frame &other) { return !(one == other); }
+
+    /// What `write(out, room)` writes; none where there is nothing such.
+    template <typename Write>
+    static std::optional<Frame> of(Write write) {
+        std::optional<Frame> frame(std::in_place);
+        frame->size_ = write(frame->octets_.data(), frame->octets_.size());
+        if (frame->size_ > frame->octets_.size()) frame.reset();
+        return frame;
+    }
+    /// The same, and none too where there is nothing to write.
+    template <typename Write>
+    static std::optional<Frame> of_some(Write write) {
+        std::optional<Frame> frame = of(write);
+        if (frame && frame->empty()) frame.reset();
+        return frame;
+    }
+
+private:
+    std::array<std::uint8_t, FIO2070_LONGEST_FRAME> octets_{};
+    std::size_t size_ = 0;
+};
+
+/// Commands. Those that are always written are values; the others are none where an item names an
+/// input above 127, or there is too much of something.
+namespace encode {
+inline Frame status(std::uint8_t clear) {
+    return *Frame::of([=](auto *out, auto room) { return ::fio2070_encode_status(clear, out, room); });
+}
+inline Frame load_counter(std::uint32_t load) {
+    return *Frame::of([=](auto *out, auto room) { return ::fio2070_encode_load_counter(load, out, room); });
+}
+inline std::optional<Frame> configure_inputs(View<const ConfigurationItem> items) {
+    return Frame::of([=](auto *out, auto room) {
+        return ::fio2070_encode_configure_inputs(items.data(), items.size(), out, room);
+    });
+}
+inline Frame raw_inputs() {
+    return *Frame::of([](auto *out, auto room) { return ::fio2070_encode_raw_inputs(out, room); });
+}
+inline Frame filtered_inputs() {
+    return *Frame::of([](auto *out, auto room) { return ::fio2070_encode_filtered_inputs(out, room); });
+}
+inline Frame poll(std::uint8_t block) {
+    return *Frame::of([=](auto *out, auto room) { return ::fio2070_encode_poll(block, out, room); });
+}
+inline Frame set_outputs(const Outputs &outputs) {
+    return *Frame::of([&](auto *out, auto room) {
+        return ::fio2070_encode_set_outputs(outputs.levels, outputs.controls, out, room);
+    });
+}
+inline Frame watchdog(std::uint8_t timeout) {
+    return *Frame::of([=](auto *out, auto room) { return ::fio2070_encode_watchdog(timeout, out, room); });
+}
+inline Frame identify() {
+    return *Frame::of([](auto *out, auto room) { return ::fio2070_encode_identify(out, room); });
+}
+inline std::optional<Frame> other_command(std::uint8_t code, Octets body) {
+    return Frame::of([=](auto *out, auto room) {
+        return ::fio2070_encode_other_command(code, body.data(), body.size(), out, room);
+    });
+}
+
+/// Answers.
+inline Frame status_answer(std::uint8_t flags, std::uint8_t receive_errors, std::uint8_t transmit_errors,
+                           std::uint32_t stamp) {
+    return *Frame::of([=](auto *out, auto room) {
+        return ::fio2070_encode_status_answer(flags, receive_errors, transmit_errors, stamp, out, room);
+    });
+}
+inline Frame load_counter_answer(std::uint8_t status) {
+    return *Frame::of([=](auto *out, auto room) { return ::fio2070_encode_load_counter_answer(status, out, room); });
+}
+inline Frame configure_inputs_answer(std::uint8_t status) {
+    return *Frame::of([=](auto *out, auto room) { return ::fio2070_encode_configure_inputs_answer(status, out, room); });
+}
+inline Frame raw_inputs_answer(std::uint64_t inputs, std::uint32_t stamp) {
+    return *Frame::of([=](auto *out, auto room) { return ::fio2070_encode_raw_inputs_answer(inputs, stamp, out, room); });
+}
+inline Frame filtered_inputs_answer(std::uint64_t inputs, std::uint32_t stamp) {
+    return *Frame::of([=](auto *out, auto room) {
+        return ::fio2070_encode_filtered_inputs_answer(inputs, stamp, out, room);
+    });
+}
+inline std::optional<Frame> block_answer(std::uint8_t block, View<const Entry> entries, std::uint8_t status,
+                                         std::uint32_t stamp) {
+    return Frame::of([=](auto *out, auto room) {
+        return ::fio2070_encode_block_answer(block, entries.data(), entries.size(), status, stamp, out, room);
+    });
+}
+inline Frame watchdog_answer(std::uint8_t status) {
+    return *Frame::of([=](auto *out, auto room) { return ::fio2070_encode_watchdog_answer(status, out, room); });
+}
+inline std::optional<Frame> other_answer(std::uint8_t code, Octets body) {
+    return Frame::of([=](auto *out, auto room) {
+        return ::fio2070_encode_other_answer(code, body.data(), body.size(), out, room);
+    });
+}
+} // namespace encode
+
+/// What a poller heard.
+class Heard {
+public:
+    constexpr explicit Heard(::fio2070_heard heard) : heard_(heard) {}
+    constexpr ::fio2070_heard_kind kind() const { return static_cast<::fio2070_heard_kind>(heard_.kind); }
+    constexpr bool is_taken() const { return heard_.kind == FIO2070_HEARD_TAKEN; }
+    constexpr std::uint8_t entries() const { return heard_.entries; }
+    /// How many items joined the record.
+    constexpr std::uint16_t items() const { return heard_.items; }
+    constexpr std::uint8_t status() const { return heard_.status; }
+    /// The number and the stamp of a block, taken or not; 0 of anything else.
+    constexpr std::uint8_t number() const { return heard_.number; }
+    constexpr std::uint32_t stamp() const { return heard_.stamp; }
+    constexpr std::uint8_t other_code() const { return heard_.code; }
+    constexpr Fault fault() const { return Fault(heard_.fault); }
+    /// As `fio2070 simulate` writes it.
+    std::string text() const {
+        return text_of([this](char *text, std::size_t room) { return ::fio2070_heard_text(&heard_, text, room); });
+    }
+
+private:
+    ::fio2070_heard heard_;
+};
+
+/// The CPU's end, with its record.
+class Poller {
+public:
+    /// The first poll asks for the block with this number (see fio2070_poller_start).
+    explicit Poller(std::uint8_t number) { ::fio2070_poller_start(&poller_, number); }
+    std::uint8_t number() const { return poller_.number; }
+    Frame poll() const { return encode::poll(poller_.number); }
+    /// Where memory runs out it throws std::bad_alloc, and nothing has changed.
+    Heard hear(Octets octets) {
+        std::array<RecordItem, FIO2070_MOST_RECORD_ITEMS> items{};
+        record_.reserve(room_for(items.size()));
+        Heard heard(::fio2070_poller_hear(&poller_, octets.data(), octets.size(), items.data(), items.size()));
+        if (heard.is_taken()) {
+            record_.insert(record_.end(), items.begin(), items.begin() + heard.items());
+        }
+        return heard;
+    }
+    const std::vector<RecordItem> &record() const { return record_; }
+    /// The record, which is empty then, so that a long run needs no more memory.
+    std::vector<RecordItem> drain() {
+        std::vector<RecordItem> drained;
+        drained.swap(record_);
+        return drained;
+    }
+
+private:
+    // Doubles, so that many blocks take few allocations.
+    std::size_t room_for(std::size_t more) const {
+        std::size_t needed = record_.size() + more;
+        return needed <= record_.capacity() ? needed : 2 * needed;
+    }
+    ::fio2070_poller poller_{};
+    std::vector<RecordItem> record_;
+};
+
+/// A checker of what the CPU's end sends and hears.
+class Checker {
+public:
+    Checker() { ::fio2070_checker_start(&checker_); }
+    /// A checker of a module with these limits. None where one is out of its range.
+    static std::optional<Checker> within(std::uint8_t per_block, std::uint16_t waiting) {
+        std::optional<Checker> checker{Checker()};
+        if (::fio2070_checker_start_within(&checker->checker_, {waiting, per_block, 0}) != FIO2070_STARTED) checker.reset();
+        return checker;
+    }
+    /// The breach of a frame: its rule is 0 where the frame keeps the rules.
+    ::fio2070_breach sent(Octets octets) {
+        ::fio2070_breach breach;
+        breach.rule = ::fio2070_checker_sent(&checker_, octets.data(), octets.size(), &breach);
+        return breach;
+    }
+    ::fio2070_breach heard(Octets octets) {
+        ::fio2070_breach breach;
+        breach.rule = ::fio2070_checker_heard(&checker_, octets.data(), octets.size(), &breach);
+        return breach;
+    }
+
+private:
+    ::fio2070_checker checker_{};
+};
+
+/// A checker of the rules on content: it judges answers, and the entries of each block that a poller takes whose first
+/// number is that of the first poll sent. The log may begin anywhere.
+class ContentChecker {
+public:
+    ContentChecker() { ::fio2070_content_start(&content_); }
+    /// A checker of a log that begins with the start of both ends, which finds more.
+    static ContentChecker begun() {
+        ContentChecker content;
+        ::fio2070_content_start_begun(&content.content_);
+        return content;
+    }
+    void sent(Octets octets) { ::fio2070_content_sent(&content_, octets.data(), octets.size()); }
+    /// The first rule that a frame breaks: 0 if it breaks none.
+    ::fio2070_content_breach heard(Octets octets) {
+        ::fio2070_content_breach breach;
+        breach.rule = ::fio2070_content_heard(&content_, octets.data(), octets.size(), &breach);
+        return breach;
+    }
+
+private:
+    ::fio2070_content_checker content_{};
+};
+
+/// The millisecond counter.
+class Counter {
+public:
+    Counter() { ::fio2070_counter_start(&counter_); }
+    void tick() { ::fio2070_counter_tick(&counter_); }
+    void ask_load(std::uint32_t number) { ::fio2070_counter_ask_load(&counter_, number); }
+    void line_sync() { ::fio2070_counter_line_sync(&counter_); }
+    std::uint32_t now() const { return ::fio2070_counter_now(&counter_); }
+
+private:
+    ::fio2070_counter counter_{};
+};
+
+/// The filters of the 64 inputs.
+class Filters {
+public:
+    Filters() { ::fio2070_filters_start(&filters_); }
+    ::fio2070_configured configure(View<const ConfigurationItem> items) {
+        return ::fio2070_filters_configure(&filters_, items.data(), items.size());
+    }
+    std::uint64_t scan(std::uint64_t raw) { return ::fio2070_filters_scan(&filters_, raw); }
+    std::uint64_t filtered() const { return ::fio2070_filters_filtered(&filters_); }
+    std::uint64_t raw() const { return ::fio2070_filters_raw(&filters_); }
+
+private:
+    ::fio2070_filters filters_{};
+};
+
+/// The module, of which as many entries may wait as Waiting says, 1 to 8,192; it has the slots for them.
+template <std::uint16_t Waiting = FIO2070_STANDARD_WAITING>
+class Module {
+public:
+    static_assert(Waiting > 0 && Waiting <= FIO2070_MOST_WAITING, "1 to 8,192 entries may wait");
+    /// None where `per_block` is 0.
+    static std::optional<Module> start(std::uint8_t id, std::uint8_t per_block = FIO2070_MOST_ENTRIES) {
+        std::optional<Module> module{Module()};
+        if (::fio2070_sized_module_start(&module->module_, id, {Waiting, per_block, 0}) != FIO2070_STARTED) module.reset();
+        return module;
+    }
+    void restart() { ::fio2070_sized_module_restart(&module_); }
+    void scan(std::uint64_t raw) { ::fio2070_sized_module_scan(&module_, FIO2070_RING(slots_), raw); }
+    void line_sync() { ::fio2070_sized_module_line_sync(&module_); }
+    void raise(std::uint8_t mask) { ::fio2070_sized_module_raise(&module_, mask); }
+    void set_errors(std::uint8_t receive, std::uint8_t transmit) {
+        ::fio2070_sized_module_set_errors(&module_, receive, transmit);
+    }
+    void count_receive_error() { ::fio2070_sized_module_count_receive_error(&module_); }
+    void count_transmit_error() { ::fio2070_sized_module_count_transmit_error(&module_); }
+    /// The answer; none where there is none, and where the octets spell no command.
+    std::optional<Frame> receive(Octets octets) {
+        return Frame::of_some([&](auto *out, auto room) {
+            return ::fio2070_sized_module_receive(&module_, FIO2070_RING(slots_), octets.data(), octets.size(), out, room);
+        });
+    }
+    Outputs outputs() const { return ::fio2070_sized_module_outputs(&module_); }
+    /// None before the first command 58.
+    std::optional<std::uint8_t> watchdog_ms() const {
+        std::uint8_t timeout = ::fio2070_sized_module_watchdog_ms(&module_);
+        return timeout != 0 ? std::optional<std::uint8_t>(timeout) : std::nullopt;
+    }
+    std::uint32_t counter() const { return ::fio2070_sized_module_counter(&module_); }
+    std::uint64_t filtered() const { return ::fio2070_sized_module_filtered(&module_); }
+    std::uint64_t raw() const { return ::fio2070_sized_module_raw(&module_); }
+    std::uint8_t flags() const { return ::fio2070_sized_module_flags(&module_); }
+    ErrorCounts errors() const { return ::fio2070_sized_module_errors(&module_); }
+    std::size_t waiting() const { return ::fio2070_sized_module_waiting(&module_); }
+
+private:
+    Module() = default;
+    ::fio2070_sized_module module_{};
+    ::fio2070_slot slots_[Waiting]{};
+};
+
+} // namespace fio2070
+
+// Equality of values, in the namespace of their types.
+inline bool operator==(const fio2070_entry &one, const fio2070_entry &other) {
+    return one.input == other.input && one.state == other.state && one.stamp == other.stamp;
+}
+inline bool operator!=(const fio2070_entry &one, const fio2070_entry &other) { return !(one == other); }
+inline bool operator==(const fio2070_configuration_item &one, const fio2070_configuration_item &other) {
+    return one.input == other.input && one.ignore == other.ignore && one.leading == other.leading &&
+           one.trailing == other.trailing;
+}
+inline bool operator!=(const fio2070_configuration_item &one, const fio2070_configuration_item &other) {
+    return !(one == other);
+}
+inline bool operator==(const fio2070_record_item &one, const fio2070_record_item &other) {
+    return one.gap == other.gap && one.input == other.input && one.state == other.state &&
+           one.stamp == other.stamp && one.wide == other.wide;
+}
+inline bool operator!=(const fio2070_record_item &one, const fio2070_record_item &other) { return !(one == other); }
+inline bool operator==(const fio2070_block_header &one, const fio2070_block_header &other) {
+    return one.number == other.number && one.status == other.status && one.count == other.count &&
+           one.stamp == other.stamp;
+}
+inline bool operator!=(const fio2070_block_header &one, const fio2070_block_header &other) { return !(one == other); }
+inline bool operator==(const fio2070_outputs &one, const fio2070_outputs &other) {
+    return std::equal(one.levels, one.levels + 8, other.levels) &&
+           std::equal(one.controls, one.controls + 8, other.controls);
+}
+inline bool operator!=(const fio2070_outputs &one, const fio2070_outputs &other) { return !(one == other); }
+inline bool operator==(const fio2070_error_counts &one, const fio2070_error_counts &other) {
+    return one.receive == other.receive && one.transmit == other.transmit;
+}
+inline bool operator!=(const fio2070_error_counts &one, const fio2070_error_counts &other) { return !(one == other); }
+inline bool operator==(const fio2070_breach &one, const fio2070_breach &other) {
+    return one.rule == other.rule && one.has_due == other.has_due && one.due == other.due && one.got == other.got;
+}
+inline bool operator!=(const fio2070_breach &one, const fio2070_breach &other) { return !(one == other); }
+inline bool operator==(const fio2070_content_breach &one, const fio2070_content_breach &other) {
+    return one.rule == other.rule && one.input == other.input && one.items == other.items;
+}
+inline bool operator!=(const fio2070_content_breach &one, const fio2070_content_breach &other) { return !(one == other); }
+// Of commands and answers without what follows their fields: items, entries and bodies.
+inline bool operator==(const fio2070_command &one, const fio2070_command &other) {
+    return one.code == other.code && one.clear == other.clear && one.block == other.block &&
+           one.timeout == other.timeout && one.count == other.count && one.body == other.body &&
+           one.load == other.load && std::equal(one.levels, one.levels + 8, other.levels) &&
+           std::equal(one.controls, one.controls + 8, other.controls);
+}
+inline bool operator!=(const fio2070_command &one, const fio2070_command &other) { return !(one == other); }
+inline bool operator==(const fio2070_answer &one, const fio2070_answer &other) {
+    return one.code == other.code && one.flags == other.flags && one.receive_errors == other.receive_errors &&
+           one.transmit_errors == other.transmit_errors && one.status == other.status && one.block == other.block &&
+           one.count == other.count && one.body == other.body && one.stamp == other.stamp && one.inputs == other.inputs;
+}
+inline bool operator!=(const fio2070_answer &one, const fio2070_answer &other) { return !(one == other); }
+#endif

@@ -1,0 +1,104 @@
+# What the Makefile makes of the proved sources, with the Rattle kit.
+
+interface = include
+libraries = $(wildcard libfio2070.a)
+shared = $(wildcard $(soname))
+command = $(wildcard fio2070-test)
+
+install-program: all
+	install -d '$(bin)' '$(man)' '$(bash)' '$(zsh)' '$(fish)'
+	install -m 755 crates/fio2070/out/fio2070 '$(bin)/fio2070'
+	install -m 644 man/fio2070.1 '$(man)/fio2070.1'
+	install -m 644 completions/fio2070.bash '$(bash)/fio2070'
+	install -m 644 completions/fio2070.zsh '$(zsh)/_fio2070'
+	install -m 644 completions/fio2070.fish '$(fish)/fio2070.fish'
+
+.PHONY: install-program
+
+# The archive.
+archive = crates/fio_c/out/libfio_c.a
+crates := $(shell ./build --order fio_c)
+proved := $(shell find $(addprefix crates/,$(crates)) \
+    -name out -prune -o -type f \( -name '*.rt' -o -name '*.antt' \) -print)
+
+$(archive): $(proved)
+	@./build --library fio_c $(RTFLAGS)
+
+$(OUT)/libfio2070.a: $(archive)
+	mkdir -p $(OUT)
+	cp $(archive) $@
+
+# The same sources, proved for other targets of the kit: `make wasm` makes the library as a WebAssembly module, without
+# imports, with a memory of 64 bits, for the portable library and for the page.
+kit_folder = $(patsubst %/,%,$(dir $(shell rt doc)))
+wasm = wasm64-unknown-unknown
+module = crates/fio_c/out/$(wasm)/fio_c.wasm
+
+.PHONY: wasm
+
+wasm: $(module)
+
+crates/fio_c/out/%/libfio_c.a: $(archive) packaging/for-target
+	packaging/for-target $* $(RTFLAGS)
+
+$(OUT)/aarch64/libfio2070.a: crates/fio_c/out/aarch64-unknown-linux-gnu/libfio_c.a
+	mkdir -p $(@D)
+	cp $< $@
+
+# Its stack is 64 KB, of which no call takes more than a sixth.
+$(module): crates/fio_c/out/$(wasm)/libfio_c.a
+	'$(kit_folder)/bin/rattle-link' --target $(wasm) --toolchain '$(kit_folder)/toolchain' --stack 65536 -o $@ $<
+
+# The portable library: fio2070.c and fio2070.h, two files of C99 for any processor, with the header for C++ beside them
+# (tools/portable/README.md).
+portable = portable
+translator = $(addprefix tools/portable/,translate instructions.py functions.py module.py accesses.py ahead.py loops.py head.txt machine.c calls.c)
+
+.PHONY: portable
+
+portable: $(portable)/fio2070.c
+
+$(portable)/fio2070.c: $(module) $(headers) $(translator) packaging/release-files
+	packaging/release-files $(module) $(portable)
+
+# The page: one file that a browser opens offline, with the library in it (tools/page/README.md). If `wasm-opt` of the
+# package binaryen is there, it also lowers the library to memory of 32 bits, for browsers that have no other.
+page = fio2070.html
+lowered_module = crates/fio_c/out/$(wasm)/lowered.wasm
+lowered = $(if $(shell command -v wasm-opt),$(lowered_module))
+page_sources = $(wildcard tools/page/join tools/page/*.html tools/page/*/*.* examples/*.* examples/captures/*) \
+    bindings/python/fiolog/forms.json
+
+.PHONY: page
+
+page: $(page)
+
+$(lowered_module): $(module)
+	wasm-opt --enable-memory64 --enable-bulk-memory --enable-mutable-globals --enable-sign-ext \
+	    --memory64-lowering -O2 $< -o $@
+
+$(page): $(module) $(lowered) $(page_sources)
+	tools/page/join $(module) $@ $(addprefix --lowered ,$(lowered))
+
+# The files that are kept in dist/, for those without the kit. `tests/release-files.sh` compares them with what this makes in the
+# folder FILES.
+FILES = dist
+
+.PHONY: release-files
+
+release-files: $(module) $(lowered) $(page_sources)
+	packaging/release-files $(module) '$(FILES)' --page $(addprefix --lowered ,$(lowered))
+
+# The archive and the Debian packages: the same files give the same octets each time. With TARGET=aarch64 they are of the
+# library for AArch64 alone.
+ifeq ($(TARGET),aarch64)
+dist deb: ./aarch64/libfio2070.a
+	@packaging/$@ '$(DIST)' aarch64
+else
+dist deb: all library
+	@packaging/$@ '$(DIST)'
+endif
+
+# `make release` makes all packages, with their checksums.
+release: all library ./aarch64/libfio2070.a
+	@packaging/release '$(DIST)'

@@ -1,0 +1,337 @@
+#!/usr/bin/env python3
+"""Copies the sources as a clone has them, and uses the copy without the Rattle kit, as a new user would: the first call of
+`./fio2070`, the library, a program in C, the tester, `fiolog`, the wrappers, `make install`. With `--all` also `./test` in the
+copy, a library for Windows and for ARM, and the same in a new Debian system with gcc, make and python3 alone, without a network.
+Last line: `N passed, M failed`."""
+
+import os
+import random
+import re
+import shutil
+import subprocess
+import sys
+import tempfile
+import time
+
+sys.dont_write_bytecode = True
+
+from support import roots
+from support.browsers import browsers, running
+from support.check import Check
+from support.tables import HAS_KIT, TOP, program_of
+
+PATH = '/usr/bin:/bin'
+MINUTE = 60
+# Other checks take processors at the same time.
+MOST_SECONDS = 5 * MINUTE
+PROGRAM = '''#include <fio2070.h>
+int main(void) {
+    uint8_t poll[2] = {0, 0};
+    return fio2070_encode_poll(5, poll, sizeof poll) != 2 || poll[1] != 5;
+}
+'''
+LOG = '07:15:02.100 TX 36 05\n07:15:02.108 RX B6 05 00 00 00 00 03 E8\n'
+check = Check()
+room = tempfile.mkdtemp()
+clone = os.path.join(room, 'clone')
+
+
+def environment(**more):
+    """Without the kit, and without the settings of a make or of the caller's compiler."""
+    return {'PATH': PATH, 'HOME': room, 'LC_ALL': 'C.UTF-8', 'PYTHONDONTWRITEBYTECODE': '1', **more}
+
+
+def run(*words, text='', seconds=MOST_SECONDS, folder=clone, **more):
+    """A command in the copy."""
+    return subprocess.run(words, input=text, capture_output=True, text=True, errors='replace', timeout=seconds, cwd=folder,
+                          env=environment(**more), check=False)
+
+
+def fault(*words, **settings):
+    """What a command that fails writes, else nothing."""
+    done = run(*words, **settings)
+    return 'status %d: %s' % (done.returncode, (done.stdout + done.stderr)[-600:]) if done.returncode else None
+
+
+def copy_sources():
+    """The files that git has or would take."""
+    listed = subprocess.run(['git', 'ls-files', '-co', '--exclude-standard', '-z'], cwd=TOP, stdout=subprocess.PIPE, check=True)
+    for name in filter(None, listed.stdout.decode().split('\0')):
+        path = os.path.join(clone, name)
+        if os.path.lexists(os.path.join(TOP, name)):
+            os.makedirs(os.path.dirname(path), exist_ok=True)
+            shutil.copy2(os.path.join(TOP, name), path, follow_symlinks=False)
+
+
+def program():
+    """The words of `./fio2070` where there is no kit: what it is, once."""
+    first, second = run('./fio2070', 'show', text='3605\n'), run('./fio2070', 'show', text='3605\n')
+    check.equal('the first call', ('poll block 5\n', 0), (first.stdout, first.returncode))
+    check.holds('the first call says what answers', 'dist/fio2070.c' in first.stderr and 'simulate' in first.stderr, first.stderr)
+    check.equal('the second call says nothing', ('poll block 5\n', ''), (second.stdout, second.stderr))
+    simulated = run('./fio2070', 'simulate', text='fio2070 script 1 2 0\n')
+    check.equal('simulate needs the kit', ('', 125, True),
+                (simulated.stdout, simulated.returncode, 'Rattle kit' in simulated.stderr))
+    check.equal('no subcommand', ('fio2070: no subcommand\n', 2), (lambda it: (it.stdout, it.returncode))(run('./fio2070')))
+    os.rename(os.path.join(clone, 'out'), os.path.join(clone, 'aside'))
+    lacking = run('./fio2070', 'show', text='3605\n', CC='no-such-compiler')
+    os.rename(os.path.join(clone, 'aside'), os.path.join(clone, 'out'))
+    check.equal('without a compiler', (125, 1), (lacking.returncode, lacking.stderr.count('\n')))
+
+
+def mutated(octets, draw):
+    """The octets with a few changes."""
+    for _ in range(draw.randrange(4)):
+        place = draw.randrange(len(octets) + 1)
+        mark = draw.choice([b'', b' ', b'\n', b'#', b'0', b'F', b'\r', b'> ', b'< 34\n', bytes([draw.randrange(256)])])
+        octets = octets[:place] + mark + octets[place + draw.choice([0, 0, 1, 2, 30]):]
+    return octets
+
+
+def answers(path, tool, octets):
+    """What a program writes, and its status."""
+    done = subprocess.run([path, tool], input=octets, stdout=subprocess.PIPE, stderr=subprocess.PIPE, check=False)
+    return done.stdout + done.stderr, done.returncode
+
+
+def alike():
+    """The program of the copy answers as the proved one does, to the letter: the checks of texts, the examples, and changed ones."""
+    stand_in = os.path.join(clone, 'out/fio2070')
+    longer = ('random-inputs.py', 'records.py') if HAS_KIT and check.whole('texts of random-inputs.py and records.py') else ()
+    for name in ('shows.py', 'transcripts.py', 'examples.sh', *longer):
+        if check.wants('texts of ' + name):
+            done = subprocess.run([os.path.join(TOP, 'tests', name)], env={**os.environ, 'FIO2070_PROGRAM': stand_in}, capture_output=True,
+                                  text=True, check=False)
+            check.holds('texts of ' + name, re.search(r'^[1-9]\d* passed, 0 failed$', done.stdout, re.M), done.stdout[-600:])
+    draw, folder = random.Random(59), os.path.join(TOP, 'examples')
+    for name in sorted(os.listdir(folder)) if HAS_KIT else ():
+        if os.path.isfile(os.path.join(folder, name)):
+            with open(os.path.join(folder, name), 'rb') as file:
+                whole = file.read()
+            for tool in ('show', 'check', 'record'):
+                texts = [whole] + [mutated(whole, draw) for _ in range(20 if check.given.all else 2)]
+                wrong = [text for text in texts if answers(stand_in, tool, text) != answers(program_of('simulate'), tool, text)]
+                check.equal('%s of %s and of changed ones' % (tool, name), [], wrong)
+    for text in (b'', b'36' * (1 << 19), b'36' * (1 << 19) + b'0', b'#' * (1 << 20) + b'\n', b'> 36' + b'00' * 3000):
+        for tool in ('show', 'check', 'record') if HAS_KIT else ():
+            check.equal('%s of %d octets' % (tool, len(text)), answers(program_of('simulate'), tool, text), answers(stand_in, tool, text))
+
+
+def faults():
+    """A read or a write that fails."""
+    for tool in ('show', 'check', 'record'):
+        with open('/dev/full', 'w', encoding='ascii') as full:
+            done = subprocess.run(['./fio2070', tool], cwd=clone, env=environment(), input=b'3605\n', stdout=full, check=False)
+        check.equal('a failing write of ' + tool, 3, done.returncode)
+        folder = os.open('/', os.O_RDONLY)
+        done = subprocess.run(['./fio2070', tool], cwd=clone, env=environment(), stdin=folder, stdout=subprocess.PIPE, check=False)
+        os.close(folder)
+        check.equal('a failing read of ' + tool, (b'fio2070: read fault\n', 3), (done.stdout, done.returncode))
+
+
+def library():
+    """The library, a program, the tester, fiolog and the wrappers."""
+    bare = run('tools/fiolog', '--help')
+    check.equal('fiolog without its library', (3, 1), (bare.returncode, bare.stderr.count('\n')))
+    check.holds('it says what to do', 'make library' in bare.stderr and 'Traceback' not in bare.stderr, bare.stderr)
+    check.fault('make library', fault, 'make', '-s', 'library')
+    with open(os.path.join(clone, 'program.c'), 'w', encoding='utf-8') as file:
+        file.write(PROGRAM)
+    for name in ('dist', 'include'):
+        check.fault('a program with the header of ' + name, lambda: fault('cc', '-I', name, 'program.c', 'libfio2070.a', '-o', 'program')
+                    or fault('./program'))
+    check.fault('a program with the files of C alone', lambda: fault('cc', '-I', 'dist', 'program.c', 'dist/fio2070.c', '-o', 'program')
+                or fault('./program'))
+    for end in ('module', 'cpu'):
+        check.fault('the tester of a ' + end, fault, './fio2070-test', '--self', end, '20000')
+    check.fault('a device that is tested', lambda: fault('./fio2070-test', '--command', 'tools/conformance/adapters/adapter.py', '2000',
+                                                         PYTHONPATH='bindings/python'))
+    log = run('tools/fiolog', 'decode', '-q', text=LOG)
+    check.holds('a log is decoded', '> poll block 5' in log.stdout, log.stdout + log.stderr)
+    check.equal('a log is checked', 0, run('tools/fiolog', 'check', text=LOG).returncode)
+    check.fault('the tests of the Python binding', lambda: fault('python3', 'test.py', folder=os.path.join(clone, 'bindings/python')))
+    if shutil.which('cargo'):
+        settings = {'PATH': os.path.dirname(shutil.which('cargo')) + ':' + PATH, 'HOME': os.environ.get('HOME', room),
+                    'CARGO_TARGET_DIR': os.path.join(room, 'target'), 'folder': os.path.join(clone, 'bindings/rust/fio2070')}
+        check.fault('the tests of the Rust crate', lambda: fault('cargo', 'test', '--offline', '--quiet', **settings))
+    else:
+        check.skip('the tests of the Rust crate', 'no cargo here')
+    with open(os.path.join(clone, 'dist/fio2070.html'), encoding='utf-8') as page:
+        check.holds('the page is a page', '<!DOCTYPE html>' in page.read(100))
+
+
+def flags():
+    """What CFLAGS and LDFLAGS say reaches the compiler."""
+    os.makedirs(os.path.join(room, 'flags'), exist_ok=True)
+    done = run('make', '-n', 'library', 'OUT=' + os.path.join(room, 'flags'), 'CFLAGS=-O1 -DGIVEN', 'LDFLAGS=-Wl,--given')
+    lines = [line for line in done.stdout.splitlines() if line.startswith('cc ')]
+    check.holds('CFLAGS', lines and all('-O1 -DGIVEN' in line for line in lines), done.stdout)
+    check.holds('LDFLAGS', sum('-Wl,--given' in line for line in lines) == 2, done.stdout)
+
+
+def pip():
+    """The package of Python is compiled where it is installed; without a compiler none is."""
+    done = run('python3', '-m', 'venv', os.path.join(room, 'python'))
+    if done.returncode:
+        check.skip('pip install', 'python3 has no module venv here (Debian package python3-venv)')
+        return
+    shutil.rmtree(os.path.join(room, 'bare'), ignore_errors=True)
+    shutil.copytree(clone, os.path.join(room, 'bare'), symlinks=True, ignore=shutil.ignore_patterns('libfio2070*', 'out'))
+    install = [os.path.join(room, 'python/bin/pip'), 'install', '--quiet', '--no-index', os.path.join(room, 'bare/bindings/python')]
+    lacking = run(*install, PATH=os.path.join(room, 'python/bin'))
+    check.holds('pip install without a compiler fails', lacking.returncode != 0 and 'no C compiler' in lacking.stdout + lacking.stderr,
+                (lacking.stdout + lacking.stderr)[-600:])
+    check.holds('and puts no fiolog in place', not os.path.exists(os.path.join(room, 'python/bin/fiolog')))
+    check.fault('pip install', fault, *install)
+    log = run(os.path.join(room, 'python/bin/fiolog'), 'decode', '-q', text=LOG, folder='/')
+    check.holds('the installed fiolog', '> poll block 5' in log.stdout, log.stdout + log.stderr)
+
+
+def installing():
+    """What `make install` puts in place runs, and `make uninstall` leaves nothing."""
+    prefix = os.path.join(room, 'installed')
+    check.fault('make install', fault, 'make', '-s', 'install', 'PREFIX=' + prefix)
+    log = run(os.path.join(prefix, 'bin/fiolog'), 'check', text=LOG, folder='/')
+    check.equal('the installed fiolog checks', 0, log.returncode)
+    check.holds('no program without the kit', not os.path.exists(os.path.join(prefix, 'bin/fio2070')))
+    check.fault('make uninstall', fault, 'make', '-s', 'uninstall', 'PREFIX=' + prefix)
+    left = [name for _, _, names in os.walk(prefix) for name in names]
+    check.equal('nothing is left', [], left)
+
+
+def own_test():
+    """`./test` in the copy runs what can run, and says what it could not."""
+    done = run('./test', seconds=1500, HOME=os.environ.get('HOME', room))
+    last = done.stdout.rstrip().rpartition('\n')[2]
+    check.holds('./test without the kit', re.fullmatch(r'\d\d+ passed, 0 failed', last) and 'proofs\n' in done.stdout,
+                '\n'.join(re.findall('^FAILED.*\n.*\n.*', done.stdout, re.M))[:1500] + last)
+
+
+def windows():
+    """A library for Windows, by MinGW, and what clang's dialect of MSVC says of the two files."""
+    compiler = 'x86_64-w64-mingw32-gcc'
+    if not shutil.which(compiler):
+        check.skip('a library for Windows', 'no %s here (Debian package gcc-mingw-w64-x86-64)' % compiler)
+        return
+    out = os.path.join(room, 'windows')
+    check.fault('a library for Windows', fault, 'make', '-s', 'library', 'OUT=' + out, 'CC=' + compiler, 'AR=x86_64-w64-mingw32-ar')
+    check.fault('a program for Windows', fault, compiler, '-I', 'dist', 'program.c', os.path.join(out, 'libfio2070.a'), '-o',
+                os.path.join(out, 'program.exe'))
+    check.fault('fio2070.exe', fault, compiler, '-O2', '-Wall', '-Wextra', '-I', 'dist', 'tools/without-kit/main.c', 'dist/fio2070.c', '-o',
+                os.path.join(out, 'fio2070.exe'))
+    headers = '/usr/share/mingw-w64/include'
+    if shutil.which('clang') and os.path.isdir(headers):
+        check.fault('no warning in the dialect of MSVC', fault, 'clang', '--target=x86_64-pc-windows-msvc', '-fms-extensions', '-std=c11',
+                    '-fms-compatibility-version=19.30', '-Wall', '-Werror', '-fsyntax-only', '-isystem', headers, 'dist/fio2070.c')
+    else:
+        check.skip('no warning in the dialect of MSVC', 'no clang here, or no headers (Debian package mingw-w64-x86-64-dev)')
+    wine = shutil.which('wine64') or shutil.which('wine') or shutil.which('/usr/lib/wine/wine64')
+    if not wine:
+        check.skip('programs for Windows run', 'no wine here (Debian package wine64)')
+        return
+    settings = {'WINEDEBUG': '-all', 'WINEPREFIX': os.path.join(room, 'wine'), 'seconds': 300}
+    check.fault('a program for Windows runs', lambda: fault(wine, os.path.join(out, 'program.exe'), **settings))
+    shown = run(wine, os.path.join(out, 'fio2070.exe'), 'show', text='3605\nzz\n', **settings)
+    check.equal('fio2070.exe runs', ('poll block 5\nline 2: bad line\n', 1), (shown.stdout, shown.returncode))
+
+
+def processors():
+    """The library and the program on processors of other sizes and orders of octets."""
+    for prefix, qemu in (('arm-linux-gnueabihf-', 'qemu-arm'), ('aarch64-linux-gnu-', 'qemu-aarch64'), ('powerpc-linux-gnu-', 'qemu-ppc')):
+        name = prefix[:-1]
+        if not shutil.which(prefix + 'gcc') or not shutil.which(qemu):
+            check.skip('the library on ' + name, 'no %sgcc or no %s here (Debian packages gcc-%s, qemu-user)' % (prefix, qemu, name))
+            continue
+        out = os.path.join(room, name)
+        check.fault('make library for ' + name, fault, 'make', '-s', 'library', 'OUT=' + out, 'CC=%sgcc' % prefix, 'AR=%sar' % prefix,
+                    'LDFLAGS=-static-libgcc')
+        built = fault(prefix + 'gcc', '-O1', '-static', '-I', 'dist', 'tools/without-kit/main.c', 'dist/fio2070.c', '-o', out + '/fio2070')
+        check.equal('the program for ' + name, None, built)
+        for file in sorted(os.listdir(os.path.join(TOP, 'examples'))):
+            tool, end = {'.frames': ('show', '.shown'), '.transcript': ('check', '.verdict')}.get(os.path.splitext(file)[1], ('', ''))
+            if tool and not built:
+                with open(os.path.join(TOP, 'examples', file), encoding='latin-1') as source, \
+                        open(os.path.join(TOP, 'examples', os.path.splitext(file)[0] + end), encoding='latin-1') as due:
+                    check.equal('%s on %s' % (file, name), due.read(), run(qemu, out + '/fio2070', tool, text=source.read()).stdout)
+
+
+# What a user does in a new system, each within a minute of a processor, and what has to be in the text.
+SESSION = [
+    ('make library', ''),
+    ('./fio2070 show < examples/lost-answer.frames', 'block 0 entries 1 status 00 stamp 2'),
+    ('./fio2070 check < examples/given-up-block.transcript || true', 'line 4 breaks advance'),
+    ('tools/fiolog decode examples/captures/serial-log.txt | head -n 4', 'poll block'),
+    ('tools/fiolog check examples/given-up-block.transcript || true', 'advance'),
+    ('cc -I dist program.c libfio2070.a -o program && ./program && echo linked and run', 'linked and run'),
+    ('cd bindings/python && python3 test.py 2>&1 | tail -n 1', 'OK'),
+    ('PYTHONPATH=bindings/python ./fio2070-test --command tools/conformance/adapters/adapter.py 2000', ''),
+    ('make install PREFIX=/usr/local >/dev/null && fiolog --help | head -n 1', 'usage: fiolog'),
+]
+
+
+def page_fault(kind, path):
+    """What is wrong with a page in which an example is opened."""
+    begun = time.monotonic()
+    with running(kind) as browser:
+        browser.open('file://' + path)
+        browser.click('[data-example="lost-answer.frames"]')
+        browser.wait('return document.documentElement.dataset.opened === "lost-answer.frames"')
+        trouble = browser.run('return document.getElementById("trouble").textContent')
+        shown = browser.run('return [...document.querySelectorAll(".line:not([hidden])")].map((row) => row.textContent).join(" ")')
+    print('%s opens dist/fio2070.html and an example in it [%.1f s]' % (kind.name, time.monotonic() - begun))
+    return trouble or ('poll block 255' not in shown and shown)
+
+
+def in_new_system():
+    """All of it in a Debian system of its own that has gcc, make and python3 alone, and no network."""
+    why = roots.missing()
+    if why:
+        check.skip('a new Debian system', why)
+        return
+    root = roots.made(room)
+    if not root:
+        check.skip('a new Debian system', 'debootstrap could not make one, as without a network')
+        return
+    shutil.rmtree(clone)
+    os.makedirs(clone)
+    copy_sources()
+    with open(os.path.join(clone, 'program.c'), 'w', encoding='utf-8') as file:
+        file.write(PROGRAM)
+    shutil.move(clone, os.path.join(root, 'clone'))
+    for command, wanted in SESSION:
+        status, text, seconds, used = roots.run(root, command, MOST_SECONDS, '/clone')
+        print('$ %s\n%s[status %d, %.1f s, %.1f s of a processor]' % (command, text, status, seconds, used))
+        check.holds('in a new system: ' + command, status == 0 and wanted in text and used < MINUTE, text[-600:])
+    for kind in browsers(check):
+        check.fault('the page opens in ' + kind.name, page_fault, kind, os.path.join(root, 'clone/dist/fio2070.html'))
+
+
+def main():
+    if shutil.which('rt', path=PATH):
+        check.skip('a clone without the kit', 'rt is in ' + PATH)
+        check.end()
+    if not shutil.which('cc', path=PATH) or not shutil.which('git'):
+        check.skip('a clone without the kit', 'no cc or no git here')
+        check.end()
+    copy_sources()
+    program()
+    alike()
+    faults()
+    library()
+    flags()
+    pip()
+    installing()
+    if check.whole('./test without the kit'):
+        own_test()
+    if check.whole('a library for Windows'):
+        windows()
+    if check.whole('the library on other processors'):
+        processors()
+    if check.whole('a new Debian system'):
+        in_new_system()
+    shutil.rmtree(room, ignore_errors=True)
+    check.end()
+
+
+if __name__ == '__main__':
+    main()
