@@ -145,7 +145,7 @@ pub(crate) fn read_header_and_steps(
     Ok((header, steps))
 }
 
-/// Returns the events that steps stand for.
+/// Returns the events that steps represent.
 fn events_of(alloc: Global, steps: &[ScriptStep<'_>]) -> Result<Vec<Event>, Memory>
     ensures ok { IfOk result (λ events. events.items ≡ map event_of steps.now) }
     ensures err { OnErr result (steps.now ≢ []) }
