@@ -1,7 +1,7 @@
 #!/usr/bin/env python3
-"""Drives the page that `make page` writes, in headless Chromium, with `--all` in Firefox too, as a person would: the examples give what
-`show`, `check` and `simulate` give, letter for letter; 100,000 messages open within two seconds and scroll; hostile files
-change nothing but the table; the views follow pointer and keys; the planning table is that of docs/PLANNING.md. With
+"""Drives the page that `make page` writes, in headless Chromium, with `--all` in Firefox too, as a person would: the
+examples give exactly what `show`, `check` and `simulate` give; 100,000 messages open within two seconds and scroll; hostile
+files change nothing but the table; the views follow pointer and keys; the planning table is that of docs/PLANNING.md. With
 `--pictures` the pictures of tools/page/ are taken anew. Last line: `N passed, M failed`."""
 
 import glob
@@ -29,7 +29,7 @@ PICTURES = os.path.join(TOP, 'tools', 'page')
 MOST_OCTETS = 400_000
 MANY = 100_000
 MOST_SECONDS = 2
-# What browsers call long. In one pass of a few all frames have to take less: the machine has other work too.
+# What browsers call long. In one of a few passes all frames have to take less: the machine has other work too.
 LONG_FRAME_MS = 100
 CONTRAST = 4.5
 ARROWS = {'>': '→ module', '<': '← CPU'}
@@ -39,14 +39,14 @@ SHOWN_OCTETS = 40
 TROUBLE = 'return document.getElementById("trouble").textContent'
 CLOSE = 'delete document.documentElement.dataset.opened'
 OPENED = 'return document.documentElement.dataset.opened === arguments[0]'
-# The text that the button saves, caught on its way to a file.
+# The text that the button saves, intercepted on its way to a file.
 SAVE = '''const made = URL.createObjectURL; window.saved = null;
 URL.createObjectURL = (blob) => { blob.text().then((text) => { window.saved = text; }); return made.call(URL, blob); };
 HTMLAnchorElement.prototype.click = () => {};
 document.getElementById(arguments[0]).click(); URL.createObjectURL = made;'''
 CELLS = '''return [...document.querySelectorAll(".line:not([hidden])")].sort((a, b) => a.ariaRowIndex - b.ariaRowIndex)
 .map((row) => [...row.children].map((cell) => cell.textContent))'''
-# Opens texts one after the other, as files that were chosen: `window.tables` has the cells of each.
+# Opens texts one after another, as files that were chosen: `window.tables` has the cells of each.
 OPEN_ALL = '''window.tables = null; const [texts] = arguments, input = document.getElementById("file"), root = document.documentElement;
 const opened = async (text) => { delete root.dataset.opened; const chosen = new DataTransfer(); chosen.items.add(new File([text], "log.txt"));
     input.files = chosen.files; input.dispatchEvent(new Event("change"));
@@ -192,7 +192,7 @@ def check_loggers(check, browser, name, folder):
 
 
 def seen(way, digits):
-    """The direction and the octets of a frame as a row shows them. Where the log says no direction, that of the type."""
+    """The direction and the octets of a frame as a row shows them. If the log says no direction, it is that of the type."""
     octets = bytes.fromhex(digits)
     own = '<' if octets[0] >= 128 else '>'
     return [ARROWS[own if way == '-' else way], octets[:SHOWN_OCTETS].hex() + '…' * (len(octets) > SHOWN_OCTETS)]
@@ -329,7 +329,7 @@ def check_hostile(check, browser, name, folder):
 
 
 def check_damaged(check, browser, name, folder):
-    """Each kind of damage is refused or remarked, as fiolog does."""
+    """Each kind of damage is refused or remarked on, as by fiolog."""
     for title, text, count, words in DAMAGED:
         path = os.path.join(folder, title)
         with open(path, 'w', encoding='utf-8') as file:
