@@ -1,5 +1,5 @@
 """Versions: that of the newest heading of CHANGELOG.md is that of each place that names one: the program, its manual page,
-its documents, the library for C, the packages for Python and Rust. No other file names it."""
+its documents, the C library, the packages for Python and Rust. No other file names it."""
 
 import os
 import re
