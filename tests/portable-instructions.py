@@ -27,7 +27,7 @@ from instructions import NUMERIC as RULES
 
 C = os.path.join(TOP, 'tests/support/c/instructions.c')
 FLAGS = ['--enable-memory64']
-# Each of these compiles the C; the second without the operations that gcc has beyond C99.
+# Each of these compiles the C, the second without the operations that gcc has beyond C99.
 WAYS = [['-O0'], ['-O2', '-DFIO2070_FAST', '-DPLAIN', '-w'],
         ['-O1', '-fsanitize=address,undefined', '-fno-sanitize-recover=all']]
 

@@ -1,8 +1,8 @@
-/* The rules of docs/PROTOCOL.md that the testers hold an end to, and the cases that a run looks for.
+/* The rules of docs/PROTOCOL.md by which the testers judge an end, and the cases that a run looks for.
  *
  * RULE(end, name in code, name, source, fields, section, sentence). The sentence is PROTOCOL's. A difference in
- * `fields` alone can be passed over where the rule is excepted; where that is 0, the events that exercise the rule are
- * left out instead. A CASE is no rule of its own: a run that never meets it has not looked far enough.
+ * `fields` alone can be passed over if the rule is excepted; if `fields` is 0, the events that exercise the rule are
+ * left out instead. A CASE is not a rule of its own: a run that never meets it has not looked far enough.
  */
 #ifndef CONFORMANCE_RULES_H
 #define CONFORMANCE_RULES_H
