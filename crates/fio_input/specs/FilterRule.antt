@@ -9,7 +9,7 @@ pub record Setting : Type 0 where
   pub leading : ℕ
   pub trailing : ℕ
 
--- a filter of 0 acts as 1
+-- the filter in force: a filter of 0 acts as 1
 abbrev pub filter_in_force : ℕ → ℕ
 filter_in_force filter = max filter 1
 

@@ -9,7 +9,7 @@ lost_among [] = 0
 lost_among (true ∷ rounds) = lost_among rounds
 lost_among (false ∷ rounds) = lost_among rounds + 1
 
--- among each `each` successive rounds, at most `lost` are lost
+-- among any `each` successive rounds, at most `lost` are lost
 abbrev pub FewAreLost : ℕ → ℕ → List Bool → Type 0
 FewAreLost each lost [] = Unit {0}
 FewAreLost each lost (round ∷ rounds) =
@@ -26,8 +26,8 @@ pub record HasLost (pace : ℕ) (pause : Pause) (lost : ℕ) : Type 0 where
   pub settled : pause.settled ≤ pace
   pub untaken : pause.untaken ≤ lost * pace
 
--- the pauses of a link on which rounds begin at most `pace` scans apart, and among each `each` successive ones at most
--- `lost` are lost
+-- the pauses of a link on which rounds begin at most `pace` scans apart, and at most `lost` of any `each` successive ones are
+-- lost
 abbrev pub LoseFewRounds : ℕ → ℕ → ℕ → List Pause → Type 0
 LoseFewRounds pace each lost pauses =
     (losses : List ℕ) × AllZip (HasLost pace) pauses losses × FewAreLost each lost (rounds_of losses)

@@ -26,8 +26,8 @@ pub record IsRecorded (input : ℕ) (level : Bool) (life samples : Life) (machin
   pub gained : HasGained machine now transition in_time
 
 -- New levels since a machine are recorded: if an open input keeps a new level for a run of samples as long as its filter
--- requires, it is in the record as soon as more than `late` - 2 scans came after the last of them, and with its time if
--- `in_time` holds.
+-- requires, the change is in the record as soon as more than `late` - 2 scans came after the last of these samples, and with
+-- its time if `in_time` holds.
 abbrev pub RecordsNewLevels : ℕ → Machine → Machine → Type 0 → Type 0
 RecordsNewLevels late machine now in_time =
     (input : ℕ) (level : Bool) (before samples after : Life) →

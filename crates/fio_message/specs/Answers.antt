@@ -30,7 +30,7 @@ answered_code (Block _ _ _ _) = POLL
 answered_code (Watchdog _) = WATCHDOG
 answered_code (Other kind _) = answered_by_other kind
 
--- An answer's type is that of its command plus 128 (TEES 2009).
+-- The type of an answer that has only a body: that of its command plus 128 (TEES 2009).
 abbrev pub other_answer_code : OtherAnswer → ℕ
 other_answer_code kind = answered_by_other kind + ANSWER
 
@@ -72,7 +72,7 @@ answer_octets answer = answer_code answer ∷ answer_fields answer
 abbrev pub outputs_answer : ℕ → Answer
 outputs_answer stamp = Other SetOutputs (record { items = 0 ∷ to_be_bytes w32 stamp })
 
--- The answer that says which module it is: one octet (own profile).
+-- The answer to `Identify`: one octet, the module's identification (own profile).
 abbrev pub identity_answer : ℕ → Answer
 identity_answer id = Other Identify (record { items = id ∷ [] })
 

@@ -56,8 +56,8 @@ command_fields (Other _ body) = body.items
 abbrev pub command_octets : Command → List ℕ
 command_octets command = command_code command ∷ command_fields command
 
--- The numbers and lists of a command are within the ranges of their types: an octet is below 256, a
--- number to load below 2^32, at most 255 items, a body of at most 772 octets.
+-- The numbers and lists of a command are within the ranges of their types: an octet is below 256, a number to load is below
+-- 2^32, there are at most 255 items, and a body has at most 772 octets.
 abbrev pub IsCommand : Command → Type 0
 IsCommand (Status clear) = IsOctet clear
 IsCommand (LoadCounter load) = load < 2 ^ 32

@@ -8,7 +8,7 @@ use Rattle.fio_message.specs.declared.limits.TheConstants.{FRAME_OCTETS}
 use Rattle.fio_message.specs.declared.types.TheConstants.{BLOCK_ANSWER}
 use Rattle.fio_message.specs.declared.kept_block.KeptBlock.{KeptBlock}
 
--- no block, with room for a frame of octets that are all 0
+-- no block is kept: the length is 0, and so is each octet of the room
 abbrev pub no_block : KeptBlock
 no_block = record { octets = replicate FRAME_OCTETS 0; reserved = 0; length = 0 }
 
@@ -16,7 +16,7 @@ no_block = record { octets = replicate FRAME_OCTETS 0; reserved = 0; length = 0 
 abbrev pub kept_octets : KeptBlock → List ℕ
 kept_octets kept = take kept.length kept.octets
 
--- the octets of a block answer whose entries are given by their octets
+-- the octets of a block answer whose entries are given as octets
 abbrev pub block_octets : ℕ → List (List ℕ) → ℕ → ℕ → List ℕ
 block_octets number entries status stamp =
     BLOCK_ANSWER ∷ number ∷ length entries

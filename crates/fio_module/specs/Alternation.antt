@@ -18,7 +18,7 @@ pub record AreSuccessive (input : ℕ) (life later : Life) (place next : ℕ) (o
   pub none_between : (k : ℕ) (between : Transition) → place < k → k < next
       → slice_get (log_of (later ++ life)) k ≡ Some between → between.input ≢ input
 
--- The newer one has the other state, and comes at least as many scans later as the filter in force for its change.
+-- The newer one has the other state, and comes later by at least the filter in force for its change, in scans.
 pub record Alternates (input : ℕ) (life : Life) (older newer : Transition) : Type 0 where
   pub state : newer.level ≡ not older.level
   pub apart :

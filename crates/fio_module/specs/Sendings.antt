@@ -20,7 +20,7 @@ pub record Sending : Type 0 where
   pub out_of_sequence : Bool
   pub stamp : ℕ
 
--- the answer that a sending amounts to
+-- the answer that carries a sending
 abbrev pub answer_of_sending : Sending → Answer
 answer_of_sending sending =
     answers.Block

@@ -1,7 +1,7 @@
 -- The texts of faults in lines, with decimal numbers (own profile).
 use Rattle.std.specs.Prelude.{ℕ, List, ◌++◌, codes, decimal}
 
--- the text of a fault, in front of it the number of its line
+-- the text of a fault, after the number of its line
 abbrev pub at_line : ℕ → List ℕ → List ℕ
 at_line line fault = codes "line " ++ (decimal line ++ (codes ": " ++ fault))
 

@@ -2,7 +2,7 @@
 use Rattle.std.specs.Prelude.{◌≢◌, ℕ, suc, Bool, true, List, [], ◌∷◌, ◌++◌, ◌==◌, if◌then◌else◌}
 use Rattle.std.specs.List.{AllByRecursion}
 
--- these lines, with an octet that is no line feed put before the first line
+-- these lines, with an octet that is no line feed put in front of the first
 abbrev pub with_front : ℕ → List (List ℕ) → List (List ℕ)
 with_front octet [] = (octet ∷ []) ∷ []
 with_front octet (line ∷ lines) = (octet ∷ line) ∷ lines

@@ -213,7 +213,7 @@ static void polls_a_module() {
     CHECK(module->counter() == 0 && module->outputs().levels[7] == 0);
 }
 
-/* Four transitions of inputs 0 and 1 if three may wait: the first is pushed out. */
+/* Four transitions of inputs 0 and 1, of which three may wait: the first is pushed out. */
 static void has_little_room() {
     auto module = fio2070::Module<3>::start(2);
     const fio2070::ConfigurationItem items[] = {{0, 0, 1, 1}, {1, 0, 1, 1}};
