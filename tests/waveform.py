@@ -283,8 +283,8 @@ def check_edges(check):
         lines = text.splitlines()
         complaints = ['vcd: not drawn: ' + line for line in lines[:10]]
         if len(lines) > 10:
-            complaints.append('vcd: not drawn: %d lines more' % (len(lines) - 10))
-        complaints.append('vcd: of %d lines none is of `fio2070 show` or of `fio2070 simulate`\n' % len(lines))
+            complaints.append('vcd: not drawn: %d more lines' % (len(lines) - 10))
+        complaints.append('vcd: none of the %d lines is of `fio2070 show` or of `fio2070 simulate`\n' % len(lines))
         check.equal('not drawn: ' + name, ('', '\n'.join(complaints), 1), drawn(text))
     cut = drawn('poll block 5\nblock 5 entries 2 status 00 stamp 9\n  input 1 state 0 stamp 8 wide 8\n')
     check.equal('a block that is cut', ('vcd: block 5 of 2 entries is cut\n', 1), cut[1:])

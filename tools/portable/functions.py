@@ -164,7 +164,7 @@ class Function:
                 if not reachable:
                     skip(it)
         if it.place != it.end:
-            raise Refused('octets behind function %d' % self.index)
+            raise Refused('octets after function %d' % self.index)
 
     # ---- Instructions ----
 

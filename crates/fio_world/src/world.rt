@@ -62,7 +62,7 @@ impl World {
         World::with_limits(alloc, id, first, Limits::STANDARD)
     }
 
-    /// Like `new`, with a module of these limits.
+    /// Returns a world as `new` does, with a module of these limits.
     ///
     /// # Errors
     /// `Memory` if there is none for the module's waiting entries.
@@ -95,7 +95,7 @@ impl World {
         World::run_with_limits(alloc, id, first, Limits::STANDARD, events)
     }
 
-    /// Like `run`, with a module of these limits.
+    /// Makes a new world and applies events as `run` does, with a module of these limits.
     ///
     /// # Errors
     /// Those of `run`.
