@@ -1,7 +1,8 @@
 """Claims: what the documents promise is what the contracts say, by the names of clauses.
 
-README's section "What is proved": each numbered sentence, and each other one that says *proved*, ends with brackets
-that name what carries it; where it begins with a crate, functions are looked for in that one alone. Between semicolons
+README's section "What is proved" and "The ten promises" of docs/PROMISES.md: each numbered sentence, and each other one that
+says *proved*, ends with brackets that name what carries it; if it begins with a crate, functions are looked for in that one
+alone. Between semicolons
 the brackets have one of the forms
 
     `accepted` and `refused` of `decode_command` and `read_block`    clauses of public functions
@@ -185,11 +186,13 @@ def check_itself(judge):
         judge.holds('the check of claims', text, None if is_right else 'is found to be at fault by %s' % found)
 
 
-def check_readme(judge):
-    found = list(claiming_sentences(section(text_of('README.md'), 'What is proved')))
-    judge.holds('README.md', 'What is proved', None if len(found) > 10 else 'has %d sentences' % len(found))
-    for sentence in found:
-        judge.holds('README.md', sentence, judge.fault_of_sentence(sentence))
+def check_sentences(judge):
+    """The sentences of the sections that say what is proved, of which there are at least this many."""
+    for name, heading, least in (('README.md', 'What is proved', 4), ('docs/PROMISES.md', 'The ten promises', 11)):
+        found = list(claiming_sentences(section(text_of(name), heading)))
+        judge.holds(name, heading, None if len(found) >= least else 'has %d sentences' % len(found))
+        for sentence in found:
+            judge.holds(name, sentence, judge.fault_of_sentence(sentence))
 
 
 def check_tables(judge):
@@ -228,5 +231,5 @@ def check_calls(judge):
 def rows(check):
     """Compares the claims of each document with the contracts."""
     judge = Judge(check)
-    for part in (check_itself, check_readme, check_tables, check_promises, check_calls):
+    for part in (check_itself, check_sentences, check_tables, check_promises, check_calls):
         part(judge)
