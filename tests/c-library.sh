@@ -65,7 +65,7 @@ if declared - described:
 end
 }
 
-# stacks: docs/C-LIBRARY.md has what each call takes of the stack, and the others take no more than it says.
+# stacks: docs/C-LIBRARY.md lists how much stack each call takes, and the others take no more than it says.
 stacks() {
     "$top/tools/stack-use" "$archive" >used || return 1
     most=$(sed -n 's/^| at most \([0-9]*\) .*/\1/p' "$top/docs/C-LIBRARY.md")

@@ -1,8 +1,7 @@
 """Claims: what the documents promise is what the contracts say, by the names of clauses.
 
-README's section "What is proved" and "The ten promises" of docs/PROMISES.md: each numbered sentence, and each other one that
-says *proved*, ends with brackets that name what carries it; if it begins with a crate, functions are looked for in that one
-alone. Between semicolons
+README's section "What is proved": each numbered sentence, and each other one that says *proved*, ends with brackets
+that name what carries it; where it begins with a crate, functions are looked for in that one alone. Between semicolons
 the brackets have one of the forms
 
     `accepted` and `refused` of `decode_command` and `read_block`    clauses of public functions
@@ -187,7 +186,7 @@ def check_itself(judge):
 
 
 def check_sentences(judge):
-    """The sentences of the sections that say what is proved, of which there are at least this many."""
+    """The sentences of README, and of "The ten promises" of docs/PROMISES.md, which has the same form: at least this many."""
     for name, heading, least in (('README.md', 'What is proved', 4), ('docs/PROMISES.md', 'The ten promises', 11)):
         found = list(claiming_sentences(section(text_of(name), heading)))
         judge.holds(name, heading, None if len(found) >= least else 'has %d sentences' % len(found))
