@@ -1,7 +1,7 @@
 #!/bin/sh
-# Builds the C library, and by a compiler, with --all by each that is installed, the worked examples, the programs of
-# examples/c and a run over random octets, and compares what they write. With --all also under sanitizers and valgrind, and
-# the layouts of other processors. The last line is `N passed, M failed`.
+# Builds the library for C, and by a compiler, with --all by each that is installed, the worked examples, the programs of
+# examples/c and a run over random octets, and compares what they write. With --all also under sanitizers and valgrind, and the
+# layouts of other processors. The last line is `N passed, M failed`.
 
 . "$(dirname -- "$(readlink -f -- "$0")")/support/check.sh"
 archive=$room/libfio2070.a
@@ -24,7 +24,7 @@ builds() {
     done
 }
 
-# decodes FOLDER: for the examples, and for each frame cut after each octet, its decoder writes what `fio2070 show` does.
+# decodes FOLDER: its decoder writes of the examples, and of each frame cut after each octet, what `fio2070 show` does.
 decodes() {
     for frames in "$top"/examples/*.frames; do
         "$1/decode" <"$frames" | cmp - "${frames%.frames}.shown" || return 1
@@ -45,7 +45,7 @@ gives_up() {
     [ "$(cat report)" = 'no answer in 100 ms' ]
 }
 
-# described FOLDER: doxygen's page documents each call of the header, each struct and each of their public fields.
+# described FOLDER: doxygen's page has words on each call of the header, each struct and each of their public fields.
 described() {
     python3 - "$1" "$top/include/fio2070.h" <<'end'
 import glob, re, sys
@@ -65,12 +65,12 @@ if declared - described:
 end
 }
 
-# stacks: docs/STACK.md lists how much stack each call takes, and the others take no more than it says.
+# stacks: docs/C-LIBRARY.md lists how much stack each call takes, and the others take no more than it says.
 stacks() {
     "$top/tools/stack-use" "$archive" >used || return 1
-    most=$(sed -n 's/^| at most \([0-9]*\) .*/\1/p' "$top/docs/STACK.md")
+    most=$(sed -n 's/^| at most \([0-9]*\) .*/\1/p' "$top/docs/C-LIBRARY.md")
     awk -v most="$most" '$1 > most { print $1, $2 }' used | sort >expected
-    sed -n 's/^| \([0-9][0-9,]*\) | \(.*\) |$/\1 \2/p' "$top/docs/STACK.md" | tr -d '\140,' |
+    sed -n 's/^| \([0-9][0-9,]*\) | \(.*\) |$/\1 \2/p' "$top/docs/C-LIBRARY.md" | tr -d '\140,' |
         awk '{ for (n = 2; n <= NF; n++) print $1, "fio2070_" $n }' | sort | diff - expected
 }
 
@@ -107,7 +107,7 @@ declared() {
 }
 
 # prefixed LIBRARY: the shared library exports these, and the calls of the tester for languages that load it, whose names
-# have the same prefix.
+# begin likewise.
 prefixed() {
     declared >calls
     nm -D --defined-only "$1" >names && awk '{ print $3 }' names | grep -v '^fio2070_tester_' | sort | diff calls -
@@ -126,13 +126,12 @@ fits() {
     "$1" -std=c99 -ffreestanding $strict -DFIO2070_PORTABLE -I "$top/include" -fsyntax-only header.c
 }
 
-# fits_not COMPILER: it reports that the archive has no code for its processor.
+# fits_not COMPILER: it is told that the archive has no code for its processor.
 fits_not() {
     ! "$1" -ffreestanding -I "$top/include" -fsyntax-only header.c 2>said && grep -q '#error "libfio2070.a' said
 }
 
-# misused COMPILER: it accepts the right uses of support/c/misuses.c, and reports each wrong one. Those from 51 on are of
-# rings.
+# misused COMPILER: it takes the right uses of support/c/misuses.c, and tells of each other. Those from 51 on are of rings.
 misused() {
     source=$top/tests/support/c/misuses.c
     most=50
@@ -148,8 +147,8 @@ misused() {
     done
 }
 
-# tells PROGRAM RUN..: run in this way, the header reports to the program that the processor fits, in `main`, in its first
-# constructor, before all constructors, and when a call is bound.
+# tells PROGRAM RUN..: run so, the header tells the program that the processor fits, in `main`, in its first constructor,
+# before all constructors, and where a call is bound.
 tells() {
     cat >fitting.c <<'end'
 #include "fio2070.h"
@@ -174,13 +173,13 @@ end
     "$@" "$program"
 }
 
-# tells_not PROGRAM RUN..: run in this way, it reports that the processor does not fit.
+# tells_not PROGRAM RUN..: run so, it tells that it does not fit.
 tells_not() {
     tells "$@"
     [ "$?" = 1 ]
 }
 
-# names_variable: if the archive is not found, cargo prints which variable names its folder.
+# names_variable: where the archive is not, cargo is told which variable names its folder.
 names_variable() {
     env -C "$top/bindings/rust/fio2070" FIO2070_LIB_DIR="$room/none" CARGO_TARGET_DIR="$room/target" \
         cargo build --offline 2>said && return 1
@@ -207,7 +206,7 @@ fi
 holds 'the header declares what there is' exports "$archive"
 holds 'the names of the shared library' prefixed "$room/libfio2070.so"
 
-# Each frame cut after each of its octets, and with one octet too many.
+# Each frame cut after each of its octets, and with an octet too many.
 grep -v '^#' "$top/examples/every-type.frames" | awk '{
     for (place = 2; place <= length($1); place += 2) print substr($1, 1, place)
     print $1 "00" }' >cut.frames
@@ -311,7 +310,7 @@ if [ -n "$(command -v cargo)" ]; then
         cargo test --offline --quiet
     holds 'Rust without std' env -C "$top/bindings/rust/fio2070" FIO2070_LIB_DIR="$room" CARGO_TARGET_DIR="$room/target" \
         cargo build --offline --quiet --no-default-features
-    # The one of Debian 12 reads no lock file of a later version.
+    # That of Debian 12 reads no lock file of a later version.
     holds 'the lock file of Rust' grep -qx 'version = 3' "$top/bindings/rust/fio2070/Cargo.lock"
     holds 'Rust without the library' names_variable
 else

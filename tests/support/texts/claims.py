@@ -185,11 +185,13 @@ def check_itself(judge):
         judge.holds('the check of claims', text, None if is_right else 'is found to be at fault by %s' % found)
 
 
-def check_readme(judge):
-    found = list(claiming_sentences(section(text_of('README.md'), 'What is proved')))
-    judge.holds('README.md', 'What is proved', None if len(found) > 10 else 'has %d sentences' % len(found))
-    for sentence in found:
-        judge.holds('README.md', sentence, judge.fault_of_sentence(sentence))
+def check_sentences(judge):
+    """The sentences of README, and of "The ten promises" of docs/PROMISES.md, which has the same form: at least this many."""
+    for name, heading, least in (('README.md', 'What is proved', 4), ('docs/PROMISES.md', 'The ten promises', 11)):
+        found = list(claiming_sentences(section(text_of(name), heading)))
+        judge.holds(name, heading, None if len(found) >= least else 'has %d sentences' % len(found))
+        for sentence in found:
+            judge.holds(name, sentence, judge.fault_of_sentence(sentence))
 
 
 def check_tables(judge):
@@ -228,5 +230,5 @@ def check_calls(judge):
 def rows(check):
     """Compares the claims of each document with the contracts."""
     judge = Judge(check)
-    for part in (check_itself, check_readme, check_tables, check_promises, check_calls):
+    for part in (check_itself, check_sentences, check_tables, check_promises, check_calls):
         part(judge)

@@ -11,6 +11,7 @@ from support.tables import TOP
 # The places that name the version, with the text around it.
 PLACES = [
     ('CHANGELOG.md', '## %s\n'),
+    ('README.md', '| Version | %s ('),
     ('bindings/python/backend.py', "'fio2070-%s'\n"),
     ('bindings/python/backend.py', '\nVersion: %s\n'),
     ('bindings/rust/fio2070/Cargo.lock', 'name = "fio2070"\nversion = "%s"\n'),
