@@ -1,12 +1,11 @@
 -- Where the rules are kept, a log has no fault of them.
-use Rattle.fio_ends.proofs.Names.{◌≡◌, ℕ, zero, suc, Bool, false, List, length, Option, Some, None, refl, ap, ap₂, option_map, slice_get, Answer, Entry, Gap, TranscriptLine, ContentFacts, ContentEvent, LineEvent, Ended, Heard, Recorded, Sent, content_event_at, events_of_log, ContentRule, Accepted, Alternate, Apart, Cleared, Clock, Done, Fresh, Ignored, Order, State, Watchdog, rule_broken_by}
+use Rattle.fio_ends.proofs.Names.{◌≡◌, ℕ, Bool, false, List, length, Option, Some, None, refl, ap, ap₂, option_map, slice_get, Answer, Entry, Gap, TranscriptLine, ContentFacts, ContentEvent, LineEvent, Ended, Heard, Recorded, Sent, content_event_at, events_of_log, ContentRule, Accepted, Alternate, Apart, Cleared, Clock, Done, Fresh, Ignored, Order, State, Watchdog, rule_broken_by}
 use Rattle.std.specs.Option.{option_or}
 use Rattle.std.specs.Prelude.{find, option_and_then, take, if◌then◌else◌}
 use Rattle.fio_check.specs.ContentAbove.{content_at}
 use Rattle.fio_check.specs.ContentSaid.{TimedState}
 use Rattle.fio_check.specs.ContentEvents.{recorded_items}
 use Rattle.fio_check.specs.ContentRules.{answer_rules, breaks_answer, breaks_entry, content_fault_at, content_fault_in, entry_rules, fault_of}
-use Rattle.fio_check.specs.Places.{earliest_above}
 use Rattle.fio_check.specs.declared.content_rules.BrokenRule.{BrokenRule}
 use Rattle.fio_ends.specs.ContentPremises.{HasNearTimes}
 use Rattle.fio_ends.specs.ContentRuns.{AccusesNone, KeepsRule}
@@ -15,6 +14,7 @@ use Rattle.fio_ends.proofs.AnswersKept.{accepted_never_accuses, cleared_never_ac
 use Rattle.fio_ends.proofs.ApartKept.{apart_never_accuses}
 use Rattle.fio_ends.proofs.ClockKept.{clock_never_accuses}
 use Rattle.fio_ends.proofs.FloorsKept.{fresh_never_accuses, order_never_accuses}
+use Rattle.fio_ends.proofs.GoodLines.{none_earliest}
 use Rattle.fio_ends.proofs.IgnoredKept.{ignored_never_accuses}
 use Rattle.fio_ends.proofs.StateKept.{state_never_accuses}
 
@@ -60,10 +60,6 @@ none_broken facts (Sent command) k = refl
 
 -- ---- a log
 
-none_earliest : {A : Type 0} (says : ℕ → Option A) (below : ℕ) → ((place : ℕ) → says place ≡ None) → earliest_above says below ≡ None
-none_earliest says zero none = refl
-none_earliest says (suc below) none = ap₂ option_or (none_earliest says below none) (none below)
-
 module _ (lines : List TranscriptLine) (keeps : (place : ℕ) (event : ContentEvent) → content_event_at (events_of_log false lines) place ≡ Some event
     → KeepsAll (content_at (events_of_log false lines) place) event) where
   abbrev all : List LineEvent
@@ -77,7 +73,7 @@ module _ (lines : List TranscriptLine) (keeps : (place : ℕ) (event : ContentEv
       (none_broken (content_at all place) here.event (keeps place here.event (ap (option_map (λ (found : LineEvent). found.event)) at)))
 
   no_faults : content_fault_in false lines ≡ None
-  no_faults = none_earliest (content_fault_at all) (length all) (λ place. none_at place (slice_get all place) refl)
+  no_faults = none_earliest (content_fault_at all) (length all) (λ place within. none_at place (slice_get all place) refl)
 
 pub accuses_none : AccusesNone HasNearTimes
 accuses_none settings first before later machine last range run leads begins holds lines has =

@@ -4,7 +4,7 @@ ghost use Rattle.fio_ends.specs.Calls.{CallsAreRuns};
 ghost use Rattle.fio_ends.specs.ContentPremises.{HasNearEntries, HasNearInputs, HasNearStamps, HasNearStates, HasNearTimes};
 ghost use Rattle.fio_ends.specs.ContentRuns.{AccusesNone, Always, ContentNeverAccuses};
 ghost use Rattle.fio_ends.specs.Pollers.{GoodIsOfPoller};
-ghost use Rattle.fio_ends.specs.PromptRuns.{NeverAccuses, NeverAccusesLater};
+ghost use Rattle.fio_ends.specs.PromptRuns.{HasNoBreach, IsGood, NeverAccuses, NeverAccusesLater};
 ghost use Rattle.fio_ends.specs.RunRecords.{KeepsRecord};
 
 /// A good transcript is that of a right CPU's end: a poller that starts with the first poll's number has
@@ -13,16 +13,19 @@ pub fn good_transcripts_are_of_pollers()
     ensures { GoodIsOfPoller }
 {}
 
-/// No false accusation: the transcript of a prompt run, of a module with 255 entries in a block, is good.
-#[tactic(auto, using(crate::proofs::PromptRuns::never_accuses))]
+/// No false accusation: a checker with the limits of the module, whatever they are, finds nothing in the transcript of a prompt
+/// run; where they are those of TEES 2009, or more may wait, the transcript is good.
+#[tactic(auto, using(crate::proofs::PromptRuns::never_accuses, crate::proofs::PromptRuns::is_good))]
 pub fn prompt_runs_are_good()
-    ensures { NeverAccuses 255 }
+    ensures any { NeverAccuses HasNoBreach }
+    ensures standard { NeverAccuses IsGood }
 {}
 
-/// No false accusation in a log that begins later: from any command of a prompt run on, what the CPU's end logs is good.
-#[tactic(auto, using(crate::proofs::PromptRuns::never_accuses_later))]
+/// No false accusation in a log that begins later: so it is with what the CPU's end logs from any command of a prompt run on.
+#[tactic(auto, using(crate::proofs::PromptRuns::never_accuses_later, crate::proofs::PromptRuns::is_good_later))]
 pub fn later_logs_are_good()
-    ensures { NeverAccusesLater 255 }
+    ensures any { NeverAccusesLater HasNoBreach }
+    ensures standard { NeverAccusesLater IsGood }
 {}
 
 /// The record of a prompt run's transcript is that of the run's CPU, item by item: a poller that starts with
