@@ -159,7 +159,7 @@ module _ (settings : Settings) (range : AreInRange settings) (first : ℕ) (mach
       (λ fewer lost.
       (let less : limits.per_block < limits.waiting = grind (arith, nat_tests) in
       c.carried.more ∙ keeps.lost (omega (arith, suit.per_block, suit.waiting)) (sym c.carried.lost ∙ lost)))
-      (λ more. entries_of_made b c ∙ keeps.more (sym c.carried.more ∙ more) ∙ suit.per_block) in
+      (λ more. omega (arith, entries_of_made b c, keeps.more (sym c.carried.more ∙ more), suit.per_block)) in
       let absent : list_any (λ entry. is_absent entry.input) b.entries ≡ false =
       ap (list_any (λ entry. is_absent entry.input)) c.carried.entries ∙ none_absent m.transitions keeps.inputs in
       ap (λ o. o || list_any (λ entry. is_absent entry.input) b.entries) over ∙ absent
