@@ -21,8 +21,8 @@ pub record Agrees (first : ℕ) (machine : Machine) (facts : Facts) (kept : Cont
   pub unpolled : facts.polled ≡ None → kept.number ≡ None
   pub awaits : (code : ℕ) (command : Command) → facts.awaited ≡ Some code → IsSentLast machine.to_module command → Awaits kept.facts command
 
-pub agrees-start : (first : ℕ) (machine : Machine) → Agrees first machine no_facts (kept_at_start false)
-agrees-start first machine =
+pub agrees-start : (begun : Bool) (first : ℕ) (machine : Machine) → Agrees first machine no_facts (kept_at_start begun)
+agrees-start begun first machine =
     record {
       number = λ polled is. absurd (cc is);
       unpolled = λ is. refl;

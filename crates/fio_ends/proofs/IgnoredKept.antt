@@ -1,5 +1,5 @@
 -- The rule `ignored` never accuses: an input that was settled as ignored has no entries until an item opens it.
-use Rattle.fio_ends.proofs.Names.{◌≡◌, ◌∙◌, ◌+◌, ◌<◌, ◌≤◌, ◌&&◌, ◌||◌, inl, inr, ℕ, Bool, true, false, not, List, [], ◌∷◌, length, Option, Some, None, refl, ap, sym, subst, arith, if◌then◌else◌, ◌==◌, slice_get, slice_get_within, nat_lt, Answer, Command, Block, command_in, command_octets, IsCommand, says_again, says_more, says_error, all_present, InputItem, ArrayVec, Settings, AreInRange, Life, Scanned, LineSynced, Raised, life_of, life_after_command, log_of, Transition, entry_of, MadeBlock, blocks_in, ContentFacts, InputAbove, content_with, Ended, Recorded, Sent, Gap, Event, SentFrame, Machine, after, after_sending, after_delivery_to_module, after_taken, Ignored, IsKept}
+use Rattle.fio_ends.proofs.Names.{◌≡◌, ◌∙◌, ◌+◌, ◌<◌, ◌≤◌, ◌&&◌, ◌||◌, inl, inr, ℕ, Bool, true, false, not, List, [], ◌∷◌, length, Option, Some, None, same_Some, refl, ap, sym, subst, arith, if◌then◌else◌, ◌==◌, slice_get, slice_get_within, nat_lt, Answer, Command, Block, command_in, command_octets, IsCommand, says_again, says_more, says_error, all_present, InputItem, ArrayVec, Settings, AreInRange, Life, Scanned, LineSynced, Raised, life_of, life_after_command, log_of, Transition, entry_of, MadeBlock, blocks_in, ContentFacts, InputAbove, content_with, Ended, Recorded, Sent, Gap, Event, SentFrame, Machine, start, after, after_sending, after_delivery_to_module, after_taken, Ignored, IsKept}
 use Rattle.fio_message.specs.declared.answers.Answer.TheVariants as answers
 use Rattle.fio_message.specs.declared.commands.Command.TheVariants as commands
 use Rattle.fio_message.specs.Blocks.{block_answer}
@@ -8,7 +8,7 @@ use Rattle.fio_message.proofs.StatusBits.{error_back}
 use Rattle.fio_input.specs.Widening.{wide_time_of}
 use Rattle.fio_module.specs.Blocks.{end_of_blocks}
 use Rattle.fio_check.specs.ContentSaid.{SentItem, accepts_items, are_some, items_for, items_sent, opens}
-use Rattle.fio_check.specs.ContentFacts.{input_below_clear, input_with_entry}
+use Rattle.fio_check.specs.ContentFacts.{content_begun, input_below_clear, input_with_entry}
 use Rattle.fio_check.specs.ContentRules.{breaks_answer}
 use Rattle.fio_link.specs.declared.event.Event.TheVariants as events
 use Rattle.fio_ends.specs.ContentRuns.{Always, ContentNeverAccuses, KeepsRule}
@@ -17,11 +17,12 @@ use Rattle.fio_ends.proofs.AlternateKept.{clear_open}
 use Rattle.fio_ends.proofs.Answered.{Says, says_of}
 use Rattle.fio_ends.proofs.BlockPlaces.{end_at, ends_within, is_next}
 use Rattle.fio_ends.proofs.BlockWalk.{IsWalk, entry_event, walk}
+use Rattle.fio_ends.proofs.ContentBegun.{begun_input}
 use Rattle.fio_ends.proofs.ContentRuns.{content_never_accuses}
 use Rattle.fio_ends.proofs.ContentSteps.{HearsAnswer, IsInvariant, IsKnown, IsPastBus, Takes}
 use Rattle.fio_ends.proofs.Following.{IsSentLast, IsSince}
 use Rattle.fio_ends.proofs.Sends.{read_back}
-use Rattle.fio_ends.proofs.Settled.{KeepsItem, item-quiet, item-received, item-sent, item-taken, setting_of}
+use Rattle.fio_ends.proofs.Settled.{HasItem, KeepsItem, item-quiet, item-received, item-sent, item-taken, setting_of}
 use Rattle.fio_ends.proofs.Taken.{blocks_stay}
 use Rattle.fio_ends.proofs.Watching.{IsSilent, NoneHidden, input_at, rest_at}
 use Rattle.fio_ends.proofs.Shut.{KeepsBoth, ShutHolds, none_shut, shut-sent, silent-command, silent-further, silent-quiet}
@@ -239,8 +240,23 @@ module _ (settings : Settings) (range : AreInRange settings) (first : ℕ) (begi
         record { item = record { taken_one = k.item.taken_one; sent_last = λ is. absurd (cc is) }; shut = k.shut }));
   }
 
+-- at the start of both ends each input is ignored, as the item above says
+pub both_begun : (settings : Settings) → ShutHolds settings start content_begun
+both_begun settings input low =
+    subst (KeepsBoth [] [] 0 0 input) (sym (begun_input input low))
+    (record {
+      item = record {
+        taken_one = λ is kept at. (
+          λ place frame high there. absurd (cc there),
+          subst (HasItem [] input) (same_Some _ _ at) (record { ignore = refl; leading = refl; trailing = refl }),
+        );
+        sent_last = λ is. absurd (cc is);
+      };
+      shut = λ is. (λ place frame high there. absurd (cc there), record { ignored = refl; none = tt });
+    })
+
 pub ignored_never_accuses : ContentNeverAccuses Ignored Always
-ignored_never_accuses = content_never_accuses Ignored (Unit {0}) tt (λ state machine event. tt) Always
-    (λ settings first begin state machine later. Unit {0}) (λ settings first begin state from machine facts. ShutHolds settings machine facts)
-    (λ settings first machine last later range k none leads premise. tt)
+ignored_never_accuses = content_never_accuses Ignored (Unit {0}) tt (λ state machine event. tt)
+    (λ settings first begin state from machine facts. ShutHolds settings machine facts)
     (λ settings first begin range. ignored_is_invariant settings range first begin)
+    (λ settings first. both_begun settings)

@@ -14,6 +14,8 @@ pub mod RunRecords
 pub mod ContentLines
 pub mod ContentSteps
 pub mod ContentFrame
+pub mod ContentBegun
+pub mod FirstLoads
 pub mod ContentRuns
 pub mod Lives
 pub mod MadeNow

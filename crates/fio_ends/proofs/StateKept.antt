@@ -1,25 +1,26 @@
 -- The rule `state` never accuses: where the record comes to the states that were asked for, it has all entries up to them and
 -- none later.
-use Rattle.fio_ends.proofs.Names.{◌≡◌, ◌∙◌, ◌+◌, ◌<◌, ◌≤◌, ◌||◌, ℕ, Bool, true, false, List, ◌∷◌, length, Option, Some, None, refl, ap, ap₂, sym, subst, arith, if◌then◌else◌, ◌==◌, nat_tests, list_any, slice_get, AllByRecursion, same_Some, length-append, Answer, Command, answer_in, answered_block, block_in, command_in, IsCommand, LoadCounter, Settings, AreInRange, Life, Occurrence, Scanned, LineSynced, Raised, Commanded, life_of, life_after_command, log_of, log_of-with_command, loads_of, scans_of, observation_of, answer_type_to, is_absent, MadeBlock, blocks_in, end_of_blocks, ContentFacts, content_with, Heard, Sent, Event, SentFrame, Machine, after, after_sending, after_delivery_to_module, after_taken, State}
+use Rattle.fio_ends.proofs.Names.{◌≡◌, ◌∙◌, ◌+◌, ◌<◌, ◌≤◌, ◌||◌, ℕ, Bool, true, false, List, [], ◌∷◌, length, Option, Some, None, refl, ap, ap₂, sym, subst, arith, if◌then◌else◌, ◌==◌, nat_tests, list_any, slice_get, AllByRecursion, same_Some, length-append, Answer, Command, answer_in, answered_block, block_in, command_in, IsCommand, LoadCounter, Settings, AreInRange, Life, Occurrence, Scanned, LineSynced, Raised, Commanded, life_of, life_after_command, log_of, log_of-with_command, loads_of, scans_of, observation_of, answer_type_to, is_absent, MadeBlock, blocks_in, end_of_blocks, ContentFacts, content_with, Heard, Sent, Event, SentFrame, Machine, start, after, after_sending, after_delivery_to_module, after_taken, State}
 use Rattle.std.specs.Prelude.{is_some, option_and_then}
 use Rattle.fio_message.specs.Blocks.{block_answer}
 use Rattle.fio_message.specs.declared.answers.Answer.TheVariants as answers
 use Rattle.fio_message.specs.declared.commands.Command.TheVariants as commands
 use Rattle.fio_module.specs.Life.{counter_of}
 use Rattle.fio_check.specs.ContentSaid.{Seen, ignores, items_for, items_sent, states_heard}
+use Rattle.fio_check.specs.ContentFacts.{content_begun}
 use Rattle.fio_check.specs.ContentRules.{broken_state}
 use Rattle.fio_check.specs.declared.observation.Observation.TheVariants as seen
 use Rattle.fio_link.proofs.Events.{frame_at_place}
 use Rattle.fio_link.specs.declared.event.Event.TheVariants as events
 use Rattle.fio_ends.specs.ContentPremises.{HasNearStates, NoLoadTakesEffect, WaitBriefly, blocks_taken, scans_left, scans_seen}
 use Rattle.fio_ends.specs.ContentRuns.{ContentNeverAccuses, KeepsRule}
-use Rattle.fio_ends.proofs.AlternateKept.{watch-happens, watch-receives, watch-sends}
+use Rattle.fio_ends.proofs.AlternateKept.{watch_begun, watch-happens, watch-receives, watch-sends}
 use Rattle.fio_ends.proofs.Answered.{Says, says_of, states_of}
 use Rattle.fio_ends.proofs.BlockPlaces.{end_at, ends_within}
 use Rattle.fio_ends.proofs.BlockWalk.{walk}
 use Rattle.fio_ends.proofs.Stamps.{none_since, since-back, since-now}
 use Rattle.fio_ends.proofs.Clocks.{counter_is_clock}
-use Rattle.fio_ends.proofs.ContentRuns.{never_accuses_with}
+use Rattle.fio_ends.proofs.ContentRuns.{timed_never_accuses}
 use Rattle.fio_ends.proofs.ContentSteps.{HearsAnswer, IsInvariant, IsKnown, IsPastBus, IsSending}
 use Rattle.fio_ends.proofs.Following.{GoesOn, IsNoCommand, IsSince, goes_on-both}
 use Rattle.fio_ends.proofs.Lives.{goes_on-since, loads_grow, log_grows}
@@ -334,11 +335,30 @@ module _ (settings : Settings) (range : AreInRange settings) (first : ℕ) (begi
         (block_heard settings range first begin state from machine place number answer block known t brief p.steady facts p (λ scans is. asks.near.0 scans block is takes)));
   }
 
+-- what the rule reads above a log
+abbrev state_above : Bool → StateState
+state_above begun = record { loaded = false; asked = 0; seen = None }
+
+-- at the start of both ends no states are asked for yet
+state_begun : (settings : Settings) → KeepsState settings start (state_above true) [] start content_begun
+state_begun settings = record {
+  loaded_is = refl;
+  steady = λ is. refl;
+  clear_is = λ input level is. refl;
+  below = λ clear. (omega arith, omega arith);
+  watch = watch_begun settings;
+  received = λ all command life since goes_on. absurd (none_since command [] life since goes_on);
+  recorded = omega arith;
+  seen = λ seen is. absurd (cc is);
+}
+
 pub state_never_accuses : ContentNeverAccuses State HasNearStates
-state_never_accuses = never_accuses_with State StateState (record { loaded = false; asked = 0; seen = None }) state_after HasNearStates
-    (λ settings first begin. AsksState settings first begin) (λ settings first begin. KeepsState settings begin)
-    (λ settings first machine last later range k none leads premise. record {
-      taken = record { last = last; leads = leads; none = none; asked = premise.brief; no_load = λ is. premise.no_load };
+state_never_accuses = timed_never_accuses State StateState state_above state_after HasNearStates
+    (λ begun settings first begin. AsksState settings first begin) (λ begun settings first begin. KeepsState settings begin)
+    (λ begun settings first machine last later premise. premise.no_load)
+    (λ begun settings first machine last later none leads unloaded premise. record {
+      taken = record { last = last; leads = leads; none = none; asked = premise.brief; no_load = λ is. unloaded };
       near = premise.near;
     })
-    (λ settings first begin range. state_is_invariant settings range first begin)
+    (λ begun settings first begin range. state_is_invariant settings range first begin)
+    (λ settings first. state_begun settings)

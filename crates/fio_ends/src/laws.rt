@@ -35,7 +35,8 @@ pub fn prompt_runs_are_recorded()
     ensures { KeepsRecord }
 {}
 
-/// The rule `done` never accuses: what the CPU's end logs of a prompt run from any command on keeps it.
+/// The rule `done` never accuses: what the CPU's end logs of a prompt run, from the start of both ends or from any command on,
+/// keeps it.
 #[tactic(auto, using(crate::proofs::AnswersKept::done_never_accuses))]
 pub fn done_never_accuses()
     ensures { ContentNeverAccuses Done Always }
@@ -60,15 +61,15 @@ pub fn watchdog_never_accuses()
 {}
 
 /// The rule `clock` never accuses of a log in which no load that was sent before takes effect, and fewer than 2^31 scans lie
-/// between successive stamps.
+/// between successive stamps, and before the first one of a log that begins with both ends.
 #[tactic(auto, using(crate::proofs::ClockKept::clock_never_accuses))]
 pub fn clock_never_accuses()
     ensures { ContentNeverAccuses Clock HasNearStamps }
 {}
 
-/// The rule `order` never accuses: what the CPU's end logs of a prompt run from any command on keeps it, where no load that
-/// was sent before takes effect, an entry waits for fewer than 65,536 scans, and it comes fewer than 2^31 scans after the
-/// latest entry or block without C above it.
+/// The rule `order` never accuses of a log in which no load that was sent before takes effect, an entry waits for fewer than
+/// 65,536 scans, and it comes fewer than 2^31 scans after the latest entry or block without C above it, or after the start of
+/// both ends, if the log begins there.
 #[tactic(auto, using(crate::proofs::FloorsKept::order_never_accuses))]
 pub fn order_never_accuses()
     ensures { ContentNeverAccuses Order HasNearEntries }
@@ -80,7 +81,7 @@ pub fn fresh_never_accuses()
     ensures { ContentNeverAccuses Fresh HasNearEntries }
 {}
 
-/// The rule `alternate` never accuses: what the CPU's end logs of a prompt run from any command on keeps it, whatever its times.
+/// The rule `alternate` never accuses, of any log, whatever its times.
 #[tactic(auto, using(crate::proofs::AlternateKept::alternate_never_accuses))]
 pub fn alternate_never_accuses()
     ensures { ContentNeverAccuses Alternate Always }
@@ -107,7 +108,7 @@ pub fn state_never_accuses()
     ensures { ContentNeverAccuses State HasNearStates }
 {}
 
-/// So a checker of content accuses no right link, from any command on, where all this holds.
+/// So a checker of content accuses no right link, from the start of both ends or from any command on, where all this holds.
 #[tactic(auto, using(crate::proofs::FaultsOfLogs::accuses_none))]
 pub fn content_accuses_no_right_link()
     ensures { AccusesNone HasNearTimes }
