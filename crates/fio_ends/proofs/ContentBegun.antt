@@ -1,5 +1,5 @@
 -- What is above a log that begins with both ends: events that break no rule, and what is known of each input.
-use Rattle.fio_ends.proofs.Names.{◌≡◌, ◌∙◌, ◌<◌, ◌&&◌, ◌++◌, not, ℕ, Bool, true, false, [], ◌∷◌, Some, None, refl, ap, sym, subst, arith, if◌then◌else◌, is_some_and, nat_lt, nat_tests, ContentFacts, InputAbove, content_with, no_content, Ended, Heard, Sent, ContentRule, Accepted, Clock, State}
+use Rattle.fio_ends.proofs.Names.{◌≡◌, ◌<◌, ◌&&◌, ◌++◌, not, ℕ, Bool, true, false, [], ◌∷◌, refl, ap, sym, subst, arith, if◌then◌else◌, nat_lt, nat_tests, ContentFacts, content_with, no_content, Ended, Heard, Sent, ContentRule, Accepted, Clock, State}
 use Rattle.fio_message.specs.Blocks.{block_answer}
 use Rattle.fio_message.specs.declared.answers.Answer.TheVariants as answers
 use Rattle.fio_cpu.specs.Record.{gap_if}
