@@ -1,5 +1,5 @@
 -- The rule `clock` never accuses: a stamp is later than the one before it, or the same.
-use Rattle.fio_ends.proofs.Names.{◌≡◌, ◌∙◌, ◌+◌, ◌&&◌, ◌==◌, ℕ, Bool, true, false, not, List, [], ◌∷◌, length, Option, Some, None, refl, ap, sym, subst, arith, fold, if◌then◌else◌, nat_tests, is_some_and, same_Some, Answer, Command, Block, LoadCounter, answer_in, command_in, says_again, Settings, Life, Occurrence, Scanned, LineSynced, Raised, Commanded, life_of, life_after_command, loads_of, scans_of, MadeBlock, Item, Entry, Gap, items_of_block, ContentFacts, content_with, Ended, Heard, Recorded, Sent, events_of_block, Clock, Event, SentFrame, Machine, start, after, after_sending, after_delivery_to_module, after_taken}
+use Rattle.fio_ends.proofs.Names.{◌≡◌, ◌∙◌, ◌+◌, ◌&&◌, ◌==◌, ℕ, Bool, true, false, not, List, [], ◌∷◌, length, Option, Some, None, refl, ap, sym, subst, arith, fold, if◌then◌else◌, nat_tests, is_some_and, same_Some, Answer, Command, Block, answer_in, command_in, says_again, Settings, Life, Occurrence, Scanned, LineSynced, Raised, Commanded, life_of, life_after_command, loads_of, scans_of, MadeBlock, Item, Entry, Gap, items_of_block, ContentFacts, content_with, Ended, Heard, Recorded, Sent, events_of_block, Clock, Event, SentFrame, Machine, start, after, after_sending, after_delivery_to_module, after_taken}
 use Rattle.std.specs.Option.{option_or}
 use Rattle.std.specs.Prelude.{is_some, option_and_then}
 use Rattle.fio_message.specs.Blocks.{block_answer}
@@ -22,7 +22,7 @@ use Rattle.fio_ends.proofs.Following.{GoesOn, IsNoCommand, IsSince, goes_on-both
 use Rattle.fio_ends.proofs.ContentLines.{EventsKeep}
 use Rattle.fio_ends.proofs.Lives.{goes_on-since, loads_grow, scans_grow}
 use Rattle.fio_ends.proofs.MadeNow.{made_now}
-use Rattle.fio_ends.proofs.Steady.{loaded_by, no_load_on, sends_no_load, steady-happens, steady-receives, unloaded_before}
+use Rattle.fio_ends.proofs.Steady.{loaded_sent, no_load_on, sends_no_load, steady-happens, steady-receives, unloaded_before}
 use Rattle.fio_ends.proofs.Stamps.{AsksClock, ClockState, IsStamped, KeepsClock, block_stamp, clock_after, clock_is, none_before, none_since, since-back, since-now, stamp_says}
 
 module _ (settings : Settings) (first : ℕ) (begin : Machine) where
@@ -111,11 +111,6 @@ module _ (settings : Settings) (first : ℕ) (begin : Machine) where
   clock-happens state from machine facts (events.ToModule index) rest past none p = absurd past
   clock-happens state from machine facts (events.ToCpu index) rest past none p = absurd past
   clock-happens state from machine facts events.Restart rest past none p = absurd past
-
-  loaded_sent : (loaded : Bool) (facts : ContentFacts) (command : Command) → facts.loaded ≡ loaded
-      → (content_with facts (Sent command)).loaded ≡ loaded_by loaded command
-  loaded_sent loaded facts (commands.LoadCounter load) is = refl
-  loaded_sent loaded facts other is = is
 
   -- sending asks for nothing else
   sent_before : (state : ClockState) (machine : Machine) (event : Event) (command : Command) → IsSending first machine event command

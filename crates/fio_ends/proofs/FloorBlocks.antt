@@ -13,8 +13,8 @@ use Rattle.fio_ends.proofs.Lives.{IsMadeSince, log_grows, logged_since, scans_gr
 use Rattle.fio_ends.proofs.ContentSteps.{IsKnown, Takes}
 use Rattle.fio_ends.proofs.EntryTimes as times
 use Rattle.fio_ends.proofs.Steady.{IsSteady}
-use Rattle.fio_ends.proofs.Taken.{taken_with}
-use Rattle.fio_ends.proofs.Floors.{AreNearAndBrief, IsBehind, IsBelowClear, IsFloor, KeepsFloor, behind, below-same, brief_last, scans_after, scans_after-append}
+use Rattle.fio_ends.proofs.Taken.{brief_last, taken_with}
+use Rattle.fio_ends.proofs.Floors.{AreNearAndBrief, IsBehind, IsBelowClear, IsFloor, KeepsFloor, behind, below-same, scans_after, scans_after-append}
 
 -- ---- the CPU takes a block
 

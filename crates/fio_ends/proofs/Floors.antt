@@ -12,6 +12,7 @@ use Rattle.fio_ends.proofs.Ahead.{IsAhead, ahead_later}
 use Rattle.fio_ends.proofs.BlockPlaces.{end_at}
 use Rattle.fio_ends.proofs.Clocks.{clock, later_clock, offset_of}
 use Rattle.fio_ends.proofs.Steady.{IsSteady}
+use Rattle.fio_ends.proofs.Taken.{brief_front}
 
 pub scans-command : (command : Option Command) (life : Life) → scans_of (life_after_command command life) ≡ scans_of life
 scans-command None life = refl
@@ -35,10 +36,6 @@ pub record AreNearAndBrief (above : Option ℕ) (blocks : List MadeBlock) : Type
   pub brief : AllByRecursion WaitBriefly blocks
   pub near : BlocksAreNear above blocks
 
-pub brief_front : (front more : List MadeBlock) → AllByRecursion WaitBriefly (front ++ more) → AllByRecursion WaitBriefly front
-brief_front [] more all = tt
-brief_front (block ∷ front) more all = (all.0, brief_front front more all.1)
-
 pub near_front : (before : Option ℕ) (front more : List MadeBlock) → BlocksAreNear before (front ++ more) → BlocksAreNear before front
 near_front before [] more near = tt
 near_front before (block ∷ front) more near = (near.0, near_front (scans_below before block) front more near.1)
@@ -50,10 +47,6 @@ pub near_last : (before : Option ℕ) (blocks : List MadeBlock) (block : MadeBlo
     → EntriesAreNear (scans_after before blocks) block.transitions
 near_last before [] block near = near.0
 near_last before (first ∷ blocks) block near = near_last (scans_below before first) blocks block near.1
-
-pub brief_last : (blocks : List MadeBlock) (block : MadeBlock) → AllByRecursion WaitBriefly (blocks ++ block ∷ []) → WaitBriefly block
-brief_last [] block all = all.0
-brief_last (first ∷ blocks) block all = brief_last blocks block all.1
 
 -- ---- one entry
 

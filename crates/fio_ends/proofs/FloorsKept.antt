@@ -1,12 +1,10 @@
 -- The rules `order` and `fresh` never accuse: below a clear block each entry comes behind the latest entry or block without C.
-use Rattle.fio_ends.proofs.Names.{◌≡◌, ◌∙◌, ◌+◌, ◌≤◌, ℕ, Bool, true, false, List, [], ◌∷◌, length, Option, Some, refl, ap, sym, subst, arith, Answer, Command, Settings, AreInRange, Life, life_of, life_after_command, command_in, blocks_of, ContentFacts, content_with, Ended, Heard, Recorded, Sent, Entry, Event, SentFrame, Machine, after, after_delivery_to_module, after_taken, ContentRule, Order, Fresh, blocks_in, IsKept, Leads, HaveNoRestart, start, same_Some, take, drop, LoadCounter}
-use Rattle.fio_message.specs.declared.answers.Answer.TheVariants as answers
-use Rattle.fio_message.specs.declared.commands.Command.TheVariants as commands
+use Rattle.fio_ends.proofs.Names.{◌≡◌, ◌∙◌, ◌+◌, ◌≤◌, ℕ, Bool, true, false, List, [], ◌∷◌, length, Option, Some, refl, ap, sym, subst, arith, Answer, Settings, AreInRange, Life, life_of, life_after_command, command_in, blocks_of, ContentFacts, Ended, Heard, Recorded, Entry, Event, SentFrame, Machine, after, after_delivery_to_module, after_taken, ContentRule, Order, Fresh, blocks_in, IsKept, Leads, HaveNoRestart, start, same_Some, take, drop}
 use Rattle.fio_message.specs.Blocks.{block_answer}
 use Rattle.fio_module.specs.Blocks.{end_of_blocks}
 use Rattle.fio_module.proofs.LifeLaws.{log_of-with_command}
 use Rattle.fio_check.specs.ContentSaid.{Floor}
-use Rattle.fio_check.specs.ContentRules.{breaks_answer, is_out_of_order, is_stale}
+use Rattle.fio_check.specs.ContentRules.{is_out_of_order, is_stale}
 use Rattle.fio_link.specs.declared.event.Event.TheVariants as events
 use Rattle.fio_check.specs.ContentFacts.{content_begun}
 use Rattle.fio_ends.specs.ContentPremises.{HasNearEntries, NoLoadTakesEffect, blocks_taken, scans_above}
@@ -15,8 +13,9 @@ use Rattle.fio_ends.proofs.BlockPlaces.{end_at}
 use Rattle.fio_ends.proofs.BlockWalk.{walk}
 use Rattle.fio_ends.proofs.ContentSteps.{IsInvariant, IsPastBus}
 use Rattle.fio_ends.proofs.Clocks.{offset_of}
+use Rattle.fio_ends.proofs.ContentFrame.{heard_keeps}
 use Rattle.fio_ends.proofs.ContentRuns.{timed_never_accuses}
-use Rattle.fio_ends.proofs.Steady.{loaded_after, loaded_by, sends_no_load, steady-happens, steady-receives, unloaded_before}
+use Rattle.fio_ends.proofs.Steady.{loaded_after, loaded_sent, sends_no_load, steady-happens, steady-receives, unloaded_before}
 use Rattle.fio_ends.proofs.Taken.{Asks, asked_of, asks_on, blocks_stay, taken_stay}
 use Rattle.fio_ends.proofs.Floors.{AreNearAndBrief, IsBehind, IsFloor, KeepsFloor, below-same, below-scan, front_asked, near_last, none_breaks, scans-command, scans_after}
 use Rattle.fio_ends.proofs.FloorBlocks.{KeepsRest, floor_walk}
@@ -83,12 +82,6 @@ module _ (settings : Settings) (range : AreInRange settings) (first : ℕ) (begi
               (p.below unloaded clear);
         }
 
-    -- a load of the counter that is sent
-    loaded_sent : (loaded : Bool) (facts : ContentFacts) (command : Command) → facts.loaded ≡ loaded
-        → (content_with facts (Sent command)).loaded ≡ loaded_by loaded command
-    loaded_sent loaded facts (commands.LoadCounter load) is = refl
-    loaded_sent loaded facts other is = is
-
     floor_is_invariant : IsInvariant settings first begin rule Bool false loaded_after (Asks settings first begin (AreNearAndBrief above))
         (λ loaded from machine facts. KeepsFloor settings begin above loaded machine facts)
     floor_is_invariant = record {
@@ -123,20 +116,6 @@ module _ (settings : Settings) (range : AreInRange settings) (first : ℕ) (begi
     }
 
 -- ---- both rules
-
-heard_order : (facts : ContentFacts) (answer : Answer) → breaks_answer facts answer Order ≡ false
-heard_order facts (answers.LoadCounter status) = refl
-heard_order facts (answers.ConfigureInputs status) = refl
-heard_order facts (answers.Status flags receive transmit stamp) = refl
-heard_order facts (answers.Watchdog status) = refl
-heard_order facts other = refl
-
-heard_fresh : (facts : ContentFacts) (answer : Answer) → breaks_answer facts answer Fresh ≡ false
-heard_fresh facts (answers.LoadCounter status) = refl
-heard_fresh facts (answers.ConfigureInputs status) = refl
-heard_fresh facts (answers.Status flags receive transmit stamp) = refl
-heard_fresh facts (answers.Watchdog status) = refl
-heard_fresh facts other = refl
 
 -- at the start of both ends no entry is below that time
 floor_begun : (settings : Settings) → KeepsFloor settings start (scans_above true) false start content_begun
@@ -186,13 +165,13 @@ keeps_rule rule heard_keeps entry_keeps end_keeps = timed_never_accuses rule Boo
     (λ settings first. floor_begun settings)
 
 pub order_never_accuses : ContentNeverAccuses Order HasNearEntries
-order_never_accuses = keeps_rule Order heard_order
+order_never_accuses = keeps_rule Order (λ facts answer. (heard_keeps facts answer).order)
     (λ facts input low wide level behind. none_breaks (is_out_of_order input wide) facts.loaded facts.clear facts.floor
     (λ unloaded clear f at. (behind unloaded clear f at).in_order))
     (λ facts status stamp. tt)
 
 pub fresh_never_accuses : ContentNeverAccuses Fresh HasNearEntries
-fresh_never_accuses = keeps_rule Fresh heard_fresh
+fresh_never_accuses = keeps_rule Fresh (λ facts answer. (heard_keeps facts answer).fresh)
     (λ facts input low wide level behind. none_breaks (is_stale wide) facts.loaded facts.clear facts.floor
     (λ unloaded clear f at. (behind unloaded clear f at).fresh))
     (λ facts status stamp. tt)

@@ -16,13 +16,13 @@ use Rattle.fio_ends.proofs.ContentRuns.{timed_never_accuses}
 use Rattle.fio_ends.proofs.ContentSteps.{IsInvariant, IsKnown, IsPastBus, IsSending}
 use Rattle.fio_ends.proofs.Following.{GoesOn, IsNoCommand, IsSince, goes_on-both}
 use Rattle.fio_ends.proofs.SeenStates.{WatchAt}
-use Rattle.fio_ends.proofs.Steady.{loaded_by, sends_no_load, steady-happens, steady-receives, unloaded_before}
-use Rattle.fio_ends.proofs.Taken.{asked_of, asks_on, blocks_stay}
+use Rattle.fio_ends.proofs.Steady.{loaded_by, loaded_sent, sends_no_load, steady-happens, steady-receives, unloaded_before}
+use Rattle.fio_ends.proofs.Taken.{brief_front, brief_last, asked_of, asks_on, blocks_stay}
 use Rattle.fio_ends.proofs.StateBlocks.{block_heard, state_walk}
 use Rattle.fio_ends.proofs.StateEnds.{takes_block}
 use Rattle.fio_ends.proofs.StateHeard.{hears_any, state_kept}
 use Rattle.fio_ends.proofs.StateRests.{KeepsRest}
-use Rattle.fio_ends.proofs.StateKnown.{AsksState, IsSeen, KeepsState, StateState, brief_front, brief_last, state_after}
+use Rattle.fio_ends.proofs.StateKnown.{AsksState, IsSeen, KeepsState, StateState, state_after}
 
 module _ (settings : Settings) (range : AreInRange settings) (first : ℕ) (begin : Machine) where
   abbrev begin_life : Life
@@ -77,11 +77,6 @@ module _ (settings : Settings) (range : AreInRange settings) (first : ℕ) (begi
   state-happens state from machine facts events.Restart rest past none p = absurd past
 
   -- ---- a command is sent
-
-  loaded_sent : (loaded : Bool) (facts : ContentFacts) (command : Command) → facts.loaded ≡ loaded
-      → (content_with facts (Sent command)).loaded ≡ loaded_by loaded command
-  loaded_sent loaded facts (commands.LoadCounter load) is = refl
-  loaded_sent loaded facts other is = is
 
   -- states that are still above it: it is no load
   seen_sent : (facts : ContentFacts) (command : Command) (loaded : Bool) (seen : Seen) → (content_with facts (Sent command)).seen ≡ Some seen
