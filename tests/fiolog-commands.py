@@ -25,6 +25,7 @@ from support.tables import TOP
 
 EXAMPLES = os.path.join(TOP, 'examples')
 BIT = re.compile(r'^ +[A-Z]: ')
+AGAIN = '  E: sent again'
 LINE = re.compile(r'^\d+: +(?:\S+ \S+ |\d+\.\d+ )?[<>] ')
 LOG = LOGGERS['ISO times'](timed(SESSION))
 
@@ -34,7 +35,7 @@ def check_decode(check):
     for name in sorted(glob.glob(os.path.join(EXAMPLES, '*.frames'))):
         with open(name[:-len('frames')] + 'shown', encoding='ascii') as file:
             expected = [line for line in file.read().splitlines() if not line.startswith('line ')]
-        found = [LINE.sub('', line) for line in fiolog('decode', name).out.splitlines() if not BIT.match(line)]
+        found = [LINE.sub('', line).removesuffix(AGAIN) for line in fiolog('decode', name).out.splitlines() if not BIT.match(line)]
         faults = [line for line in found if re.match(r'(?:unknown|wrong length|too long)', line)]
         check.equal('decode of ' + os.path.basename(name), expected, [line for line in found if line not in faults])
     rows = [json.loads(line) for line in fiolog('decode', '--json', text=LOG).out.splitlines()]
@@ -69,6 +70,8 @@ def check_shown(check):
                                       if says.get(letter, 'status flag') != words])
     out = fiolog('decode', '--format', 'frames', text=sets[3]).out
     check.equal('the bits of a block', ['  F: ' + says['F'], '  E: ' + says['E']], out.splitlines()[1:])
+    check.equal('the row of a repeat', '1:     < block 5 entries 0 status 06 stamp 10' + AGAIN, out.splitlines()[0])
+    check.equal('the object of a repeat', [None, None, None, AGAIN.strip()], [row.get('repeat') for row in rows])
     out = fiolog('decode', text='08:15:02.25 TX 36 05\n08:15:02.26 RX b6 05 00 00 00 00 00 0a\n').out
     check.equal('the clock of the log', ['08:15:02.25', '08:15:02.26'], re.findall(r'\d\d:\d\d:\S+', out))
     late = fiolog('decode', '--json', text='{"ts": 1e17, "data": "b60500000000000a"}\n{"ts": 9, "data": "b60600000000000a"}\n')

@@ -4,11 +4,12 @@ means."""
 import argparse
 import json
 import sys
+from collections import Counter
 
-from . import log, many, terminal
+from . import log, many, terminal, unjudged
 from .counts import Counts
 from .decode import clock_of
-from .events import DAMAGED, FRAME
+from .events import DAMAGED, FRAME, PASSED
 from .late import LateRules
 from .message import POLL, message_of
 from .options import number_in
@@ -102,6 +103,8 @@ def frames_judged(read, option, late=None):
         is_open = is_open or event.octets[:1] == bytes([POLL])
         if is_open:
             yield event, judge.breach(read, event), judge
+        else:
+            read.above += 1
 
 
 def run(option):
@@ -109,10 +112,9 @@ def run(option):
     if len(option.files) > 1:
         return many.run(option)
     paint, read, counts = terminal.painter('auto'), log.Log(option, sys.stdout.flush, writes=option.json), Counts()
-    excused, breaches, spans = 0, 0, Spans()
+    rules, breaches, spans = None, 0, Spans()
     for event, found, rules in frames_judged(read, option, counts if option.late_answers else None):
         counts.add(event, message_of(event.octets) if event.kind == FRAME else None)
-        excused = rules.excused
         if found:
             breaches += 1
             spans.add(found.rule, event)
@@ -124,7 +126,7 @@ def run(option):
         return 1
     for words in () if option.quiet else spans.words():
         terminal.say(words)
-    return end(option, read, counts, excused, breaches)
+    return end(option, read, counts, rules, breaches)
 
 
 def say_excused(excused):
@@ -134,15 +136,19 @@ def say_excused(excused):
                      'are right where the CPU did not hear it, and what comes behind a damaged frame where it did' % excused)
 
 
-def end(option, read, counts, excused, breaches):
+def end(option, read, counts, rules, breaches):
     """The summary, and the hints."""
+    left_out = counts.unjudged() + (rules.unjudged if rules else Counter()) + Counter(
+        lines_passed_over=read.kinds[PASSED], frames_above_a_poll=read.above)
     late = {'late_answers': counts.late_answers} if option.late_answers else {}
     numbers = {**counts.in_short(), **late, 'breaches': breaches}
     if option.json:
-        print(json.dumps({'summary': numbers}))
+        print(json.dumps({'summary': {**numbers, 'not_judged': unjudged.numbers(left_out)}}))
     else:
         print(', '.join('%s %d' % (name.replace('_', ' '), number) for name, number in numbers.items()))
-    say_excused(excused)
+        if left_out:
+            print('not judged: ' + unjudged.words(left_out, read.reasons))
+    say_excused(left_out['frames_not_at_the_cpu'])
     if read.is_reversed and option.at in ('cpu', 'bus'):
         terminal.say('the directions are those of the other end: try --at module')
     if breaches and not option.start_at_poll and not counts.begins_with_poll:

@@ -11,7 +11,7 @@ import time
 from . import log, terminal
 from .events import DAMAGED, FRAME
 from .judge import is_answer
-from .message import BLOCK, LETTERS, message_of
+from .message import BLOCK, LETTERS, SENT_AGAIN, message_of
 from .options import line_range, message_type, number_in, status_letters
 
 # Times from here on are of a date.
@@ -25,7 +25,8 @@ def add_arguments(parser):
     form = parser.add_mutually_exclusive_group()
     form.add_argument('--json', action='store_true',
                       help='one object a line: file, line, time (seconds or null), direction (> or <) and octets; then fault, or '
-                           'type, says, the numbers of that message by name, what its status bits say, and entries or items')
+                           'type, says, the numbers of that message by name, what its status bits say, of a repeated block that it '
+                           'is one, and entries or items')
     form.add_argument('--csv', action='store_true', help='a table; an entry a row')
     parser.add_argument('--input', type=number_in(0, 63), metavar='N', help='only messages with this input, and of them its lines')
     parser.add_argument('--type', type=message_type, action='append', metavar='N', help='only this type: 49 to 60, 177 to 188, poll, block')
@@ -110,8 +111,9 @@ def as_text(write, paint, takes_part=lambda part: True):
         if message.code == BLOCK and message.fields['status']:
             colour = 'mark'
         says, *lines = message.lines()
+        again = paint('dim', '  ' + SENT_AGAIN) if message.is_repeat else ''
         bits = ''.join(paint('dim', '  %s: %s' % bit) + '\n' for bit in message.bits().items())
-        write('%s%s\n%s' % (head, paint(colour, says), bits)
+        write('%s%s%s\n%s' % (head, paint(colour, says), again, bits)
               + ''.join(words + '\n' for part, words in zip(message.parts, lines) if takes_part(part)))
     return line
 
@@ -127,6 +129,8 @@ def as_json(write, takes_part):
             one.update(type=message.code, says=message.lines()[0], **message.fields)
             if message.bits():
                 one['bits'] = message.bits()
+            if message.is_repeat:
+                one['repeat'] = SENT_AGAIN
             if message.parts:
                 one['entries' if message.code == BLOCK else 'items'] = list(filter(takes_part, message.parts))
         write(json.dumps(one) + '\n')

@@ -76,14 +76,10 @@ class LateRules(Rules):
         """The breach of a frame; None where it keeps all rules."""
         found, octets = self.judge.breach(read, event), event.octets
         if found or not self.late.is_settled:
-            self.content = None
+            self.lose_place()
         if found:
             return found
         if self.judge.direction(read, event) == '<':
             return self.heard(octets) if octets[:1] == bytes([BLOCK]) else None
-        if self.content is None and self.late.begins(octets):
-            self.begin()
-        self.note_load(octets)
-        if self.content is not None:
-            self.content.sent(octets)
+        self.sent(octets, self.late.begins(octets))
         return None

@@ -8,9 +8,7 @@ from . import fitting, source
 from .events import DAMAGED, FRAME, PASSED
 from .reader import FORMS, Reader
 from .terminal import Progress, say
-
-# How many reasons of passed lines the summary names.
-MOST_REASONS = 3
+from .unjudged import reasons_in_words
 
 
 def add_arguments(parser):
@@ -42,6 +40,7 @@ class Log:
         self.name, self.reader, self.lines = '-', None, 0
         self.kinds, self.reasons = Counter(), Counter()
         self.agreeing = self.reversed = 0
+        self.above = 0      # the frames above the first poll, where the log is to begin there
 
     def events(self):
         """All events, file after file."""
@@ -96,8 +95,7 @@ class Log:
         """Says how many lines were passed over and why, and whether the log looks reversed; false without a frame."""
         passed = self.kinds[PASSED]
         if passed and not self.option.quiet:
-            reasons = ', '.join('%d %s' % (count, reason) for reason, count in self.reasons.most_common(MOST_REASONS))
-            say('%d of %d lines passed over: %s%s' % (passed, self.lines, reasons,
+            say('%d of %d lines passed over: %s%s' % (passed, self.lines, reasons_in_words(self.reasons),
                                                       '' if self.option.verbose else ' (-v names each)'))
         if self.kinds[DAMAGED] > self.kinds[FRAME] and not self.option.quiet:
             say('%d lines in the form of a frame spell no message, and %d do: perhaps their octets are turned, or no hexadecimal '

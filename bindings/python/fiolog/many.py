@@ -1,11 +1,12 @@
 """Many logs side by side: a row for each, the worst first, and one for all."""
 
 import json
+from collections import Counter
 from concurrent.futures import ProcessPoolExecutor
 from functools import partial, reduce
 from operator import add
 
-from . import fitting, terminal
+from . import fitting, terminal, unjudged
 from .summary import Summary, summary_of
 
 # What a row has; the first columns say which log is the worst.
@@ -44,13 +45,24 @@ def first_words(summary):
     return 'line %d: %s' % summary.first_breach[:2] if summary.first_breach else '' if summary.counts.frames else 'no frame'
 
 
-def write_json(rows, faults, total):
+def left_out(summary, counts_alone):
+    """What is not judged or, where it is counted alone, not counted: its key, its words and its numbers."""
+    found, names = summary.left_out, unjudged.OF_LINES if counts_alone else tuple(unjudged.REASONS)
+    found += Counter(damaged_lines=summary.counts.damaged if counts_alone else 0)
+    return ('not counted' if counts_alone else 'not judged', unjudged.words(found, summary.reasons, names),
+            unjudged.numbers(found, names))
+
+
+def write_json(rows, faults, total, counts_alone):
     """An object for each file, and one for all."""
+    def object_of(one):
+        key, _, missing = left_out(one, counts_alone)
+        return {**numbers(one), key.replace(' ', '_'): missing, 'rules': dict(one.broken)}
     for name, one in rows:
-        print(json.dumps({'file': name, **numbers(one), 'rules': dict(one.broken), 'first': one.first_breach}))
+        print(json.dumps({'file': name, **object_of(one), 'first': one.first_breach}))
     for name, words in faults:
         print(json.dumps({'file': name, 'fault': words}))
-    print(json.dumps({'summary': {'files': len(rows), **numbers(total), 'rules': dict(total.broken)}}))
+    print(json.dumps({'summary': {'files': len(rows), **object_of(total)}}))
 
 
 def run(option, counts_alone=False):
@@ -63,12 +75,15 @@ def run(option, counts_alone=False):
                   key=lambda row: [-numbers(row[1])[column] for column in COLUMNS])
     total = reduce(add, (one for _, one in rows), Summary())
     if option.json:
-        write_json(rows, faults, total)
+        write_json(rows, faults, total, counts_alone)
     else:
         table = [[name, *(numbers(one)[column] for column in COLUMNS), first_words(one)] for name, one in rows]
         table.append(['all %d' % len(rows), *(numbers(total)[column] for column in COLUMNS), ''])
         terminal.table('%d logs, the worst first' % len(rows), ['file', *(name.replace('_', ' ') for name in COLUMNS), 'first breach'], table)
         for name, words in faults:
             terminal.say('%s: %s' % (name, words))
+        key, words, _ = left_out(total, counts_alone)
+        if words:
+            print('%s: %s' % (key, words))
     is_bad = not total.counts.frames or total.breaches and not counts_alone
     return 3 if faults else 1 if is_bad else 0

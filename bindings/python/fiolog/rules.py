@@ -1,6 +1,7 @@
 """All rules over a log, frame by frame, by the library's two checkers. Those on content are judged where the others
 are kept: below a breach from the next poll on."""
 
+from collections import Counter
 from typing import NamedTuple
 
 import fio2070
@@ -119,7 +120,7 @@ class Rules:
     most entries of a block, and the most that wait."""
 
     def __init__(self, at, begins=True, whole=False, limits=()):
-        self.judge, self.load = Judge(at, limits), None
+        self.judge, self.load, self.lost = Judge(at, limits), None, Counter()
         self.content = fio2070.ContentChecker(whole) if begins else None
 
     @property
@@ -127,9 +128,20 @@ class Rules:
         """How many frames are not judged."""
         return self.judge.excused
 
+    @property
+    def unjudged(self):
+        """What is not judged, by its reason."""
+        return self.lost + Counter(frames_not_at_the_cpu=self.excused)
+
     def lose(self):
         """A frame was damaged here: the rules on content begin again at the next poll."""
         self.judge.lose()
+        self.lost['damaged_lines'] += 1
+        self.lose_place()
+
+    def lose_place(self):
+        """The rules on content begin again at the next poll."""
+        self.lost['lost_places'] += self.content is not None
         self.content = None
 
     def breach(self, read, event):
@@ -137,25 +149,30 @@ class Rules:
         is_poll = len(event.octets) == 2 and event.octets[0] == POLL
         found = self.judge.breach(read, event)
         if found:
-            self.content = None
+            self.lose_place()
             return found
         if self.judge.direction(read, event) == '<':
             return self.heard(event.octets)
-        if self.content is None and is_poll:
-            self.begin()
-        self.note_load(event.octets)
-        if self.content is not None:
-            self.content.sent(event.octets)
+        self.sent(event.octets, is_poll)
         return None
 
-    def note_load(self, octets):
-        """Keeps a load of the counter that was sent."""
+    def sent(self, octets, may_begin):
+        """Takes a frame that the CPU sent, at which the rules on content may begin anew."""
+        if self.content is None and may_begin:
+            self.begin()
         if octets[:1] == bytes([TYPE_LOAD_COUNTER]):
             self.load = octets
+        if self.content is None:
+            self.lost['frames_at_lost_places'] += 1
+        else:
+            self.content.sent(octets)
 
     def heard(self, octets):
         """The breach of a rule on content in a frame that the CPU heard."""
-        found = self.content and self.content.heard(octets)
+        if self.content is None:
+            self.lost['frames_at_lost_places'] += 1
+            return None
+        found = self.content.heard(octets)
         return content_breach(octets, found) if found else None
 
     def begin(self):
@@ -167,6 +184,9 @@ class Rules:
 
 class NineRules(Rules):
     """The rules of transcripts alone."""
+
+    def lose_place(self):
+        """Nothing: these rules go on by themselves."""
 
     def breach(self, read, event):
         """The breach of a frame; None where it keeps these rules."""

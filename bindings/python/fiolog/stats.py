@@ -2,11 +2,13 @@
 
 import json
 import sys
+from collections import Counter
 
-from . import log, many, terminal
+from . import log, many, terminal, unjudged
 from .counts import Counts
-from .events import DAMAGED, FRAME
+from .events import DAMAGED, FRAME, PASSED
 from .message import message_of
+from .rules import is_lost
 
 MILLI = 1000
 
@@ -51,15 +53,20 @@ def run(option):
     """Counts a log, or several side by side; status 1 if no frame is there."""
     if len(option.files) > 1:
         return many.run(option, counts_alone=True)
-    read, counts = log.Log(option, writes=False), Counts()
+    read, counts, wrong = log.Log(option, writes=False), Counts(), 0
     for event in read.events():
+        wrong += is_lost(event)
         if event.kind in (FRAME, DAMAGED):
             counts.add(event, message_of(event.octets) if event.kind == FRAME else None)
     if not read.summary():
         return 1
+    missing = counts.unjudged() + Counter(damaged_lines=wrong + counts.damaged, lines_passed_over=read.kinds[PASSED])
     if option.json:
-        json.dump(numbers(counts), sys.stdout, indent=1)
+        json.dump({**numbers(counts), 'not_counted': unjudged.numbers(missing, unjudged.OF_LINES)}, sys.stdout, indent=1)
         print()
     else:
         terminal.table('Frames of %s' % ', '.join(option.files), ['what', 'number'], list(flat(numbers(counts))))
+        words = unjudged.words(missing, read.reasons, unjudged.OF_LINES)
+        if words:
+            print('not counted: ' + words)
     return 0

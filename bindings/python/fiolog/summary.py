@@ -23,24 +23,30 @@ class Summary:
 
     def __init__(self):
         self.counts, self.broken, self.first_breach = Counts(), Counter(), None
-        self.lines = self.passed = self.excused = 0
+        self.lines, self.unjudged, self.reasons = 0, Counter(), Counter()
 
     @property
     def breaches(self):
         """How often rules are broken."""
         return sum(self.broken.values())
 
+    @property
+    def left_out(self):
+        """What is not judged, by its reason."""
+        return self.unjudged + self.counts.unjudged()
+
     def __add__(self, other):
         both = Summary()
         both.counts, both.broken = self.counts + other.counts, self.broken + other.broken
         both.first_breach = self.first_breach or other.first_breach
-        both.lines, both.passed = self.lines + other.lines, self.passed + other.passed
-        both.excused = self.excused + other.excused
+        both.lines, both.unjudged = self.lines + other.lines, self.unjudged + other.unjudged
+        both.reasons = self.reasons + other.reasons
         return both
 
     def add(self, event, found):
         """Counts a line, and the breach in it if there is one."""
-        self.passed += event.kind == PASSED
+        if event.kind == PASSED:
+            self.reasons[event.note] += 1
         if event.kind in (FRAME, DAMAGED):
             self.counts.add(event, message_of(event.octets) if event.kind == FRAME else None)
         if found:
@@ -71,7 +77,7 @@ def summary_of(source, at='auto', whole=False, limits=(), **settings):
     for event in reader.end():
         _judge(summary, rules, event)
     del summary.reader      # a summary is handed from process to process
-    summary.excused = rules.excused
+    summary.unjudged = rules.unjudged + Counter(lines_passed_over=sum(summary.reasons.values()))
     return summary
 
 
