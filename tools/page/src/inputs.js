@@ -1,8 +1,8 @@
 // The view Inputs: the record of the log that is open as waveforms, moved by wheel, keys and touch.
 
 import { counted, element, say } from './dom.js';
-import { saveText } from './messages.js';
 import { contentLine, recordLines } from './record.js';
+import { saveText } from './save.js';
 import { Waves } from './waves.js';
 
 const HELP = 'The wheel or + and − zoom; dragging or ← → move; ↑ ↓ choose an input; . and , go to its next and last transition; Enter goes to its message; 0 shows all.';
@@ -69,8 +69,9 @@ export class InputsView {
     this.setHidden(record.times.length === 0);
     this.note.textContent = record.times.length === 0 ? 'No input changed in this log: it has no block with entries that a CPU would take.'
       : `A CPU that heard this log has recorded ${counted(record.times.length, 'transition')} of ${counted(this.waves.lanes.length, 'input')}`
-        + ` and ${counted(record.gaps.length, 'gap mark')}; ${counted(record.lostPolls.length, 'poll')} had no answer.`
-        + ` Times are milliseconds of the module’s counter.${this.brokenWords()}`;
+        + `${record.gaps.length > 0 ? ` and ${counted(record.gaps.length, 'gap mark')}` : ''}. `
+        + `${record.lostPolls.length > 0 ? `${counted(record.lostPolls.length, 'poll')} had no answer. ` : ''}`
+        + `Times are milliseconds of the module’s counter.${this.brokenWords()}`;
     this.legend.replaceChildren(...LEGEND.filter(([, , , test]) => test(record)).flatMap(([sign, kind, words]) =>
       [element('span', { class: kind }, sign), ` ${words}   `]));
     this.canvas.setAttribute('aria-label', 'Waveforms of ' + this.note.textContent);

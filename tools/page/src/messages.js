@@ -9,6 +9,7 @@ import { mostAreReversed } from './log.js';
 import { DIRECTION } from './messagelist.js';
 import { hasNotes, noteOf } from './notes.js';
 import { ENDS } from './rules.js';
+import { saveText } from './save.js';
 import { Sheet } from './sheet.js';
 import { VirtualTable } from './table.js';
 
@@ -18,14 +19,14 @@ const SHOWN_OCTETS = 40;
 // What each fact of the summary counts, and the test of a message that it filters by.
 const FACTS = [
   ['messages', 'message', () => true],
-  ['polls', 'poll', (log, place) => log.codes[place] === POLL],
+  ['broken', 'breach', (log, place) => log.isBroken(place), 'bad'],
+  ['faults', 'faulty line', (log, place) => log.isFaulty[place] === 1, 'bad'],
+  ['gaps', 'gap mark', (log, place) => hasBit(log, place, STATUS_BITS.lost), 'bad'],
+  ['repeats', 'repeated block', (log, place) => hasBit(log, place, STATUS_BITS.again), 'warn'],
   ['unanswered', 'unanswered poll', (log, place) => log.isUnanswered(place), 'warn'],
+  ['polls', 'poll', (log, place) => log.codes[place] === POLL],
   ['blocks', 'block', (log, place) => log.codes[place] === BLOCK],
   ['entries', 'entry', (log, place) => log.entries[place] > 0],
-  ['repeats', 'repeated block', (log, place) => hasBit(log, place, STATUS_BITS.again), 'warn'],
-  ['gaps', 'gap mark', (log, place) => hasBit(log, place, STATUS_BITS.lost), 'bad'],
-  ['faults', 'faulty line', (log, place) => log.isFaulty[place] === 1, 'bad'],
-  ['broken', 'breach', (log, place) => log.isBroken(place), 'bad'],
 ];
 
 const pluralOf = (noun) => noun.endsWith('y') ? noun.slice(0, -1) + 'ies' : noun.endsWith('h') ? noun + 'es' : noun + 's';
@@ -64,7 +65,7 @@ export class MessagesView {
 
   columns() {
     return [{ head: 'Line', width: '3.6rem', kind: 'number' }, { head: 'Time', width: 'var(--time)', kind: 'time' },
-      { head: 'Direction', width: '5.2rem', kind: 'way' }, { head: 'Message', width: 'minmax(18rem, 1.6fr)', kind: 'words' },
+      { head: 'Direction', width: '5.2rem', kind: 'way' }, { head: 'Message', width: 'var(--words)', kind: 'words' },
       { head: 'Note', width: 'var(--rule)', kind: 'rule' }, { head: 'Octets', width: 'var(--octets)', kind: 'octets' }];
   }
 
@@ -106,11 +107,11 @@ export class MessagesView {
 
   // The one verdict, a way to the first breach, and what was not judged.
   drawVerdict() {
-    const { kind, text, first, notJudged } = this.log.verdict;
+    const { kind, text, more, first, notJudged } = this.log.verdict;
     const show = first < 0 ? null : element('button', { id: 'first-breach', onclick: () => this.goTo(first) }, `Show line ${this.log.lines[first]}`);
     this.verdict.dataset.kind = kind;
     this.verdict.replaceChildren(element('p', { class: 'says' }, element('b', { 'aria-hidden': 'true' }, SIGNS[kind]), ' ',
-      element('span', { id: 'verdict-text' }, text), ...show ? [' ', show] : []),
+      element('span', { id: 'verdict-text' }, element('b', {}, text), more), ...show ? [' ', show] : []),
     ...notJudged.length === 0 ? [] : [element('p', { class: 'soft', id: 'not-judged' }, notJudged.join(' '))]);
   }
 
@@ -202,10 +203,4 @@ export class MessagesView {
     return element('button', { id: 'save', onclick: () => this.log && saveText(this.log.name + '.shown', this.log.showText()) },
       'Save the messages as text');
   }
-}
-
-export function saveText(name, text) {
-  const link = element('a', { href: URL.createObjectURL(new Blob([text], { type: 'text/plain' })), download: name });
-  link.click();
-  setTimeout(() => URL.revokeObjectURL(link.href), 1000);
 }

@@ -7,7 +7,7 @@ import { BLOCK } from './library.js';
 const IN_SHORT = { C: 'more entries wait', F: 'entries were pushed out', E: 'sent again', G: 'a block number was left out' };
 
 // What the bits of the status that are 1 say.
-function statusNotes(code, status) {
+export function statusNotes(code, status) {
   const found = BITS[code];
   if (!found || found.word !== 'status' || status === 0) return [];
   return found.bits.filter(([, bit]) => (status & bit) !== 0)

@@ -15,7 +15,7 @@ export class Sheet {
       element('div', { class: 'sheet-bar' },
         element('button', { id: 'sheet-before', 'aria-label': 'The message above', onclick: () => step(-1) }, '▲'),
         element('button', { id: 'sheet-next', 'aria-label': 'The message below', onclick: () => step(1) }, '▼'),
-        element('button', { id: 'sheet-close', onclick: () => this.root.close() }, 'Close')),
+        element('button', { id: 'sheet-close', autofocus: true, onclick: () => this.root.close() }, 'Close')),
       this.body);
     this.narrow.addEventListener('change', () => this.fit());
     this.fit();

@@ -1,25 +1,27 @@
 // The verdict on a log, by all rules: what is said first, where the first breach is, and what was not judged, with the reason.
 
-import { counted } from './dom.js';
+import { counted, withCommas } from './dom.js';
 import { ENDS, ruleOf } from './rules.js';
 
 export const VERDICTS = { good: 'good', partly: 'partly', broken: 'broken', none: 'none' };
 
-// The kind of a verdict, its sentence, the place of the first breach (-1 if there is none), and sentences on what was not judged.
+// The kind of a verdict, its sentence, more on it, the place of the first breach (-1 if there is none), and sentences on what was
+// not judged.
 export function verdictOf(log) {
-  const { faults, messages, broken } = log.summary, readable = messages - log.badLines, judged = readable - log.excused;
+  const { messages, broken } = log.summary, readable = messages - log.badLines, judged = readable - log.excused;
   const notJudged = sentencesOf(log);
-  if (readable === 0) return { kind: VERDICTS.none, text: 'No message was found.', first: -1, notJudged: [] };
+  const said = { more: '', first: -1, notJudged };
+  if (readable === 0) return { ...said, kind: VERDICTS.none, text: 'No message was found.' };
   if (broken > 0) {
     const [place, breach] = log.breaches.entries().next().value;
-    const text = broken === 1 ? `Line ${log.lines[place]} breaks the rule ${ruleOf(breach)}: ${log.meaning(place)}.`
-      : `${counted(broken, 'message')} of ${readable} break a rule. The first is in line ${log.lines[place]}, of ${ruleOf(breach)}: ${log.meaning(place)}.`;
-    return { kind: VERDICTS.broken, text, first: place, notJudged };
+    const rule = `line ${log.lines[place]} breaks the rule ${ruleOf(breach)}`, more = `: ${log.meaning(place)}.`;
+    const text = broken === 1 ? rule.replace('line', 'Line') : `${counted(broken, 'message')} of ${withCommas(readable)} break a rule. The first: ${rule}`;
+    return { kind: VERDICTS.broken, text, more, first: place, notJudged };
   }
   if (log.badLines > 0 || log.excused > 0) {
-    return { kind: VERDICTS.partly, text: `No rule is broken in the ${counted(judged, 'message')} that could be judged.`, first: -1, notJudged };
+    return { ...said, kind: VERDICTS.partly, text: `No rule is broken in the ${counted(judged, 'message')} that could be judged.` };
   }
-  return { kind: VERDICTS.good, text: `No rule is broken${faults > 0 ? '' : ` in ${counted(judged, 'message')}`}.`, first: -1, notJudged };
+  return { ...said, kind: VERDICTS.good, text: `No rule is broken in ${counted(judged, 'message')}.` };
 }
 
 // What was not judged, and why.
