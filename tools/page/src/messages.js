@@ -1,6 +1,6 @@
 // The view Messages: the verdict, what was counted, a search, the table, and the message that is selected.
 
-import { element, say, select, withCommas } from './dom.js';
+import { counted, element, say, select, withCommas } from './dom.js';
 import { detailOf } from './detail.js';
 import { kindOf, CAN_READ } from './foreign.js';
 import { hexText } from './hex.js';
@@ -12,6 +12,7 @@ import { ENDS } from './rules.js';
 import { saveText } from './save.js';
 import { Sheet } from './sheet.js';
 import { VirtualTable } from './table.js';
+import { VERDICTS } from './verdict.js';
 
 const ARROWS = { [DIRECTION.none]: '', [DIRECTION.sent]: '→ module', [DIRECTION.heard]: '← CPU' };
 const SHOWN_OCTETS = 40;
@@ -87,13 +88,14 @@ export class MessagesView {
     this.drawFacts();
     this.note.textContent = this.noteOf(log);
     this.narrow({});
-    if (log.count === 0) this.showNoMessage(file);
+    if (log.verdict.kind === VERDICTS.none) this.showNoMessage(file);
   }
 
   // Says what a text is that is no log, and what can be read.
   showNoMessage(file) {
     const { log } = this;
     this.showNone(element('h2', {}, `No message was found in ${log.name}`), element('p', { id: 'no-log-kind' }, kindOf(file)),
+      ...log.count === 0 ? [] : [element('p', {}, `${counted(log.count, 'line')} may have octets and could not be read, the first in line ${log.lines[0]}.`)],
       element('p', {}, 'What can be read:'), element('dl', { class: 'readable' },
         ...CAN_READ.flatMap(([what, text]) => [element('dt', {}, what), element('dd', {}, element('pre', {}, text))])));
   }
@@ -110,8 +112,8 @@ export class MessagesView {
     const { kind, text, more, first, notJudged } = this.log.verdict;
     const show = first < 0 ? null : element('button', { id: 'first-breach', onclick: () => this.goTo(first) }, `Show line ${this.log.lines[first]}`);
     this.verdict.dataset.kind = kind;
-    this.verdict.replaceChildren(element('p', { class: 'says' }, element('b', { 'aria-hidden': 'true' }, SIGNS[kind]), ' ',
-      element('span', { id: 'verdict-text' }, element('b', {}, text), more), ...show ? [' ', show] : []),
+    this.verdict.replaceChildren(element('p', { class: 'says' }, element('strong', { 'aria-hidden': 'true' }, SIGNS[kind]), ' ',
+      element('span', { id: 'verdict-text' }, element('strong', {}, text), more), ...show ? [' ', show] : []),
     ...notJudged.length === 0 ? [] : [element('p', { class: 'soft', id: 'not-judged' }, notJudged.join(' '))]);
   }
 

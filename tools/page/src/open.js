@@ -6,7 +6,7 @@ import { ENDS } from './rules.js';
 const MOST_OCTETS = 256 * 2 ** 20;
 // Three examples that tell a story: a title, and what is to be seen.
 const STORIES = [
-  ['serial-log.txt', 'An answer gets lost', 'The CPU does not hear a block, and asks for it again. The module sends the same block once more and marks it: nothing is lost, nothing comes twice.'],
+  ['lost-answer.transcript', 'An answer gets lost', 'The CPU does not hear a block, and asks for it again. The module sends the same block once more and marks it: nothing is lost, nothing comes twice.'],
   ['doubled-entry.transcript', 'A module counts a vehicle twice', 'Every message is in order, and still one entry comes in two blocks. Only the rules on content find it.'],
   ['given-up-block.transcript', 'A CPU gives up too early', 'The CPU asks for the next block although the last one was never answered: what was in it is gone for good.'],
 ];
@@ -15,8 +15,8 @@ const IN_WORDS = {
   'octets.txt': 'An octet a line, as some analysers write it.',
   'powershell.txt': 'Times and directions as PowerShell writes them.',
   'sdlc.txt': 'Frames of SDLC, with flags and frame check.',
-  'lost-answer.transcript': 'An answer is lost, and its block sent again.',
-  'lost-answer.frames': 'The same without directions.',
+  'serial-log.txt': 'A log with times: the CPU asks again for a block that was answered.',
+  'lost-answer.frames': 'Frames of a lost answer, without directions.',
   'every-type.frames': 'A message of each type.',
   'capture.frames': 'Lines with faults of every kind.',
   'good.transcript': 'A transcript that keeps all rules.',
