@@ -2,7 +2,7 @@
 """Drives the page that `make page` writes, in headless Chromium, with `--all` in Firefox too, as a person would: the examples give what
 `show`, `check` and `simulate` give, letter for letter; 100,000 messages open within two seconds and scroll; hostile files
 change nothing but the table; the views follow pointer and keys; the planning table is that of docs/PLANNING.md. With
-`--pictures` the pictures of tools/page/ are taken anew. Last line: `N passed, M failed`."""
+`--pictures` the pictures of tools/page/, and that of *Play* in docs/pictures/, are taken anew. Last line: `N passed, M failed`."""
 
 import glob
 import json
@@ -29,6 +29,7 @@ from support.tables import HAS_KIT, TOP, output_of
 
 PAGE = os.path.join(TOP, 'fio2070.html' if HAS_KIT else 'dist/fio2070.html')
 PICTURES = os.path.join(TOP, 'tools', 'page')
+PLAYED_PICTURE = os.path.join(TOP, 'docs', 'pictures', 'play.png')
 MOST_OCTETS = 400_000
 MANY = 100_000
 MOST_SECONDS = 2
@@ -711,7 +712,7 @@ def check_browser(check, kind, folder):
 
 
 def take_pictures(folder):
-    """The pictures of tools/page/, by Chromium."""
+    """The pictures of the page, by Chromium."""
     with running(Chromium) as browser:
         browser.size(1280, 800)
         browser.open(address())
@@ -727,12 +728,11 @@ def take_pictures(folder):
         browser.turn_wheel('#waves', -4000)
         browser.click('#waves')
         browser.picture(os.path.join(PICTURES, 'inputs.png'))
+        browser.size(1180, 1090)
         browser.click('#tab-play')
-        for selector in ('[data-input="5"]', '[data-input="12"]', '#scan', '#scan', '#scan', '#round', '[data-input="5"]', '#scan', '#scan',
-                         '#poll', '#to-module li:first-child button'):
-            browser.click(selector)
-        browser.run('document.querySelector("main").scrollTop = 0')
-        browser.picture(os.path.join(PICTURES, 'play.png'))
+        browser.click('[data-story="lost-answer.script"]')
+        browser.run('document.activeElement.blur(); document.querySelector("main").scrollTop = 0')
+        browser.picture(PLAYED_PICTURE)
 
 
 def main():

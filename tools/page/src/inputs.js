@@ -6,6 +6,7 @@ import { saveText } from './save.js';
 import { Waves } from './waves.js';
 
 const HELP = 'The wheel or + and − zoom; dragging or ← → move; ↑ ↓ choose an input; . and , go to its next and last transition; Enter goes to its message; 0 shows all.';
+const TOUCH_HELP = 'A finger moves the times, two zoom, and a tap reads a transition.';
 const MOST_SHOWN = 2000;
 // The signs, each with the test of a record that has it.
 const LEGEND = [['×', 'warn', 'a poll without an answer', (record) => record.lostPolls.length > 0],
@@ -35,7 +36,7 @@ export class InputsView {
       element('summary', { id: 'show-record' }, 'The record as text'), this.text,
       element('button', { id: 'save-record', onclick: () => saveText(this.log.name + '.record', this.recordText()) }, 'Save the record'));
     this.legend = element('p', { class: 'soft', id: 'legend' });
-    this.help = element('p', { class: 'soft', id: 'waves-help' }, HELP);
+    this.help = element('p', { class: 'soft', id: 'waves-help' }, matchMedia('(pointer: coarse)').matches ? TOUCH_HELP : HELP);
     root.append(this.none, this.note, this.buttons, this.reading, element('div', { class: 'wave-box' }, this.head, this.canvas),
       this.legend, this.help, this.shown);
     this.listen();

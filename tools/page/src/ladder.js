@@ -94,8 +94,9 @@ function shape(name, attributes, text = '') {
 // The words of a message and what the bits of its status say, in at most so many letters if that can be.
 function labelOf(library, octets, most) {
   const address = library.place(octets), [words] = wordsOf(library, address, octets.length), message = library.decode(address, octets.length);
-  const notes = statusNotes(message.code, message.isAnswer ? message.status : 0), whole = [words, ...notes].join(', ');
-  return whole.length <= most ? whole : [words.split(' ').slice(0, 2).join(' '), ...notes].join(', ');
+  const notes = statusNotes(message.code, message.isAnswer ? message.status : 0), short = words.split(' ').slice(0, 2).join(' ');
+  const ways = [[words, ...notes], [short, ...notes], [short, ...notes.map((note) => note.split(':')[0])]].map((way) => way.join(', '));
+  return ways.find((way) => way.length <= most) || ways[2];
 }
 
 class Picture {
@@ -154,8 +155,8 @@ class Picture {
 
   // The words are above the arrow, along it, or level if it is steep.
   text(arrow, start, end, from, to) {
-    const isSteep = to - from > 2 * ROW, x = (this.left + this.right) / 2, slope = isSteep ? 0 : (to - from) / (end - start);
-    const y = isSteep ? from + ROW / 2 : from + (x - start) * slope, most = Math.floor((this.right - this.left) / LETTER) - 1;
+    const isSteep = to - from > 2 * ROW, x = (start + end) / 2, slope = isSteep ? 0 : (to - from) / (end - start);
+    const y = isSteep ? from + ROW / 2 : from + (x - start) * slope, most = Math.floor(Math.abs(end - start) / LETTER) - 1;
     this.root.append(shape('text', { x, y: y - 5, class: `lad-text${arrow.kind === 'lost' ? ' lad-bad' : ''}`, 'text-anchor': 'middle',
       transform: `rotate(${(Math.atan(slope) * 180 / Math.PI).toFixed(2)} ${x} ${y.toFixed(1)})` }, this.label(arrow, most)));
   }

@@ -58,10 +58,11 @@ export class MessagesView {
   }
 
   // Says why there is no message to show.
-  showNone(...words) {
+  showNone(head, says, ...more) {
     this.parts.forEach((part) => { part.hidden = true; });
     this.none.hidden = false;
-    this.none.replaceChildren(...words, element('p', {}, element('button', { class: 'main', onclick: () => this.back() }, 'Open a log or an example')));
+    this.none.replaceChildren(head, says,
+      element('p', {}, element('button', { class: 'main', onclick: () => this.back() }, 'Open a log or an example')), ...more);
   }
 
   columns() {

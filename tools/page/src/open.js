@@ -92,9 +92,13 @@ export class OpenView {
   }
 
   dropped(event) {
+    // A text that is dropped where one is written stays there.
+    if (event.dataTransfer.files.length === 0 && event.target.matches('textarea, input')) return;
     event.preventDefault();
     this.zone.classList.remove('over');
-    this.read(event.dataTransfer.files[0]);
+    const { files } = event.dataTransfer, text = event.dataTransfer.getData('text/plain');
+    if (files.length > 0) this.read(files[0]);
+    else if (text !== '') this.give('dropped text', new TextEncoder().encode(text));
   }
 
   // The control forgets the file, so that it can be chosen again once it has grown.

@@ -44,7 +44,7 @@ export class PlayView {
     this.script = element('textarea', { id: 'script', spellcheck: 'false', 'aria-label': 'The script' });
     this.report = element('pre', { class: 'report', id: 'report', tabindex: '0', role: 'group', 'aria-label': 'The report' });
     this.trouble = element('p', { class: 'bad', role: 'alert', id: 'script-trouble' });
-    root.append(this.lead(), element('div', { class: 'play' }, this.inputSide(), this.busSide(), this.scriptSide()));
+    root.append(this.lead(), element('div', { class: 'play' }, this.inputSide(), this.busSide(), this.stateSide(), this.scriptSide()));
     this.restart();
     new ResizeObserver(() => requestAnimationFrame(() => this.ladder.clientWidth !== this.drawnWidth && this.drawLadder())).observe(this.ladder);
   }
@@ -82,8 +82,11 @@ export class PlayView {
     return element('div', { class: 'play-inputs' }, element('h2', {}, '1. Change inputs, and scan'), this.grid,
       element('div', { class: 'row' }, this.button('Scan', () => this.scan(1), 'scan'), this.button('Scan 10 times', () => this.scan(10)),
         this.button('Line sync', () => this.act('sync')), this.button('Restart the module', () => this.act('restart'))),
-      element('p', { class: 'soft' }, `A pressed input is at 1. A scan takes a millisecond and samples all inputs; a change counts once ${FILTER} samples in a row show it.`),
-      element('h2', {}, 'Both ends now'), element('table', { class: 'answers ends' }, this.ends),
+      element('p', { class: 'soft' }, `A pressed input is at 1. A scan takes a millisecond and samples all inputs; a change counts once ${FILTER} samples in a row show it.`));
+  }
+
+  stateSide() {
+    return element('div', { class: 'play-state' }, element('h2', {}, 'Both ends now'), element('table', { class: 'answers ends' }, this.ends),
       element('h2', {}, 'The record of the CPU'), this.record);
   }
 
@@ -144,7 +147,11 @@ export class PlayView {
   }
 
   undo() {
+    const lost = [...this.lost];
     this.begin(this.run.header, this.run.events.slice(0, -1));
+    // What is marked as lost stays so, if it is still sent.
+    lost.filter((key) => this.run.isSent(key)).forEach((key) => this.lost.add(key));
+    this.draw();
   }
 
   // Runs a script that is given as a text.
@@ -196,14 +203,16 @@ export class PlayView {
     this.script.value = run.script();
     this.report.textContent = run.report();
     this.drawLadder();
+    // What was done last is in view.
+    this.ladder.scrollTop = this.ladder.scrollHeight;
   }
 
-  // The picture, with its end in view.
+  // The picture, as wide as there is room.
   drawLadder() {
-    const width = this.drawnWidth = this.ladder.clientWidth;
+    const width = this.drawnWidth = this.ladder.clientWidth, { scrollTop } = this.ladder;
     if (width === 0) return;
     this.ladder.replaceChildren(ladderOf(this.run, this.lost, width, this.library));
-    this.ladder.scrollTop = this.ladder.scrollHeight;
+    this.ladder.scrollTop = scrollTop;
   }
 
   // The last messages of a direction that can be delivered, the newest first; one that was passed over is lost.

@@ -152,6 +152,12 @@ export class Run {
     return outcomeOf(heard);
   }
 
+  // Whether a message was sent, by its direction and its number, as `to-cpu3`.
+  isSent(key) {
+    const [, way, number] = /^(to-\w+?)(\d+)$/.exec(key);
+    return Number(number) <= (way === 'to-module' ? this.toModule : this.toCpu).frames.length;
+  }
+
   // The report, as `simulate` writes it.
   report() {
     const end = this.isRefused ? [] : [`counter ${this.module.counter}`, `number ${this.poller.number}`,

@@ -4,7 +4,7 @@
 import { element } from './dom.js';
 
 // So narrow there is no room beside the table. style/messages.css has the same width.
-const NARROW = '(max-width: 60rem)';
+const NARROW = 'screen and (max-width: 60rem)';
 
 export class Sheet {
   // `step(by)` goes to the message that many rows on.

@@ -99,8 +99,7 @@ export class VirtualTable {
     let next = null;
     for (let index = end - 1; index >= first; index--) {
       next = this.drawn.get(index) || this.add(index, next);
-      const at = isWhole ? index * height : scrollTop + (index - top) * height;
-      next.style.transform = `translateY(${at}px)`;
+      next.style.top = (isWhole ? index * height : scrollTop + (index - top) * height) + 'px';
     }
     this.mark();
   }
@@ -113,7 +112,11 @@ export class VirtualTable {
     row.ariaRowIndex = String(index + 2);
     row.dataset.index = String(index);
     row.className = ['line', ...kinds].join(' ');
-    cells.forEach((text, place) => { row.children[place].textContent = text; });
+    cells.forEach((text, place) => {
+      row.children[place].textContent = text;
+      // What may be cut is whole in a hint.
+      row.children[place].title = this.kinds[place] === 'rule' ? text : '';
+    });
     this.canvas.insertBefore(row, next);
     this.drawn.set(index, row);
     return row;

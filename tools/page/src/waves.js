@@ -159,7 +159,7 @@ export class Waves {
       head.fillRect(x, 14, 1, HEAD);
       paint.fillRect(x, 0, 1, this.canvas.clientHeight);
       head.fillStyle = this.colour('soft');
-      head.fillText(withCommas(time), x + 3, 11);
+      if (x + label < this.width + 14) head.fillText(withCommas(time), x + 3, 11);
     }
   }
 
