@@ -666,11 +666,14 @@ def check_ladder(check, browser, name):
         .concat([...document.querySelectorAll("#ladder text")].map((it) => it.textContent))""")
     # By the comments of the script: four commands and two answers arrive, two answers never do, and one arrives once more.
     check.equal('the messages of an answer that is lost in %s' % name, [6, 2, 1], drawn[:3])
-    for words in ('block 255 entries 1 status 02 stamp 1, E: sent again', 'heard this block before: records nothing', 'records 1 change', '1 scan: 1 change waits'):
+    for words in ('block 255 entries 1 status 02 stamp 1, E: sent again', 'waits for another block: records nothing', 'records 1 change', '1 scan: 1 change waits'):
         check.holds('the picture says %s in %s' % (words, name), words in drawn, drawn)
     check.holds('the story is told in %s' % name, 'The answer to the first poll 255 is lost.' in browser.run('return document.getElementById("play-story").textContent'))
     root = ElementTree.fromstring(saved(browser, 'save-ladder'))
     check.equal('the picture that is saved in %s' % name, '{http://www.w3.org/2000/svg}svg', root.tag)
+    browser.click('[data-story="restart.script"]')
+    texts = browser.run('return [...document.querySelectorAll("#ladder text")].map((it) => it.textContent)')
+    check.holds('a poll that comes again has its number in %s' % name, 'poll block 0 once more' in texts, texts)
     browser.click('#play-anew')
     browser.click('#poll')
     browser.click('#to-module li:first-child button:last-child')

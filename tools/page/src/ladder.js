@@ -10,16 +10,17 @@ const ROW = 38, TOP = 46, EDGE = 30, LETTER = 6.7;
 const MOST_ROWS = 60;
 // With values for a file of its own, which has no style of the page.
 const STYLE = `.lad-text { font: 11px ui-monospace, "DejaVu Sans Mono", Consolas, monospace; fill: var(--ink, #1a1d21); stroke: var(--panel, #ffffff); stroke-width: 4px; paint-order: stroke; }
-.lad-note { font: 12px system-ui, sans-serif; fill: var(--soft, #565d66); } .lad-head { font: 600 14px system-ui, sans-serif; fill: var(--ink, #1a1d21); }
+.lad-note { font: 12px system-ui, sans-serif; fill: var(--soft, #565d66); stroke: var(--panel, #ffffff); stroke-width: 3px; paint-order: stroke; }
+.lad-head { font: 600 14px system-ui, sans-serif; fill: var(--ink, #1a1d21); }
 .lad-life { stroke: var(--line, #d5d8dc); stroke-width: 3; } .lad-arrow { stroke: var(--accent, #0b57a4); stroke-width: 1.6; fill: none; }
 .lad-tip { fill: var(--accent, #0b57a4); stroke: none; } .lad-waiting { stroke-dasharray: 2 4; } .lad-again { stroke-dasharray: 7 4; }
 .lad-lost { stroke: var(--bad, #a3201a); stroke-dasharray: 7 4; } .lad-cross { stroke: var(--bad, #a3201a); stroke-width: 2.4; fill: none; }
-.lad-bad { fill: var(--bad, #a3201a); }`;
+.lad-text.lad-bad, .lad-note.lad-bad { fill: var(--bad, #a3201a); }`;
 
 // What the CPU does with a message that it heard, by the report's words.
 function heardWords(outcome, added, hasGap) {
   const [kind] = outcome.split(' ');
-  if (kind === 'stale') return 'heard this block before: records nothing';
+  if (kind === 'stale') return 'waits for another block: records nothing';
   if (kind === 'unreadable') return 'cannot read it';
   if (kind === 'refused') return outcome;
   if (kind !== 'block') return '';
@@ -94,7 +95,7 @@ function shape(name, attributes, text = '') {
 // The words of a message and what the bits of its status say, in at most so many letters if that can be.
 function labelOf(library, octets, most) {
   const address = library.place(octets), [words] = wordsOf(library, address, octets.length), message = library.decode(address, octets.length);
-  const notes = statusNotes(message.code, message.isAnswer ? message.status : 0), short = words.split(' ').slice(0, 2).join(' ');
+  const notes = statusNotes(message.code, message.isAnswer ? message.status : 0), [short] = /^\D*\d*/.exec(words);
   const ways = [[words, ...notes], [short, ...notes], [short, ...notes.map((note) => note.split(':')[0])]].map((way) => way.join(', '));
   return ways.find((way) => way.length <= most) || ways[2];
 }
