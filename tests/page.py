@@ -249,8 +249,7 @@ def many_messages(path):
         for number in range(MANY // 2):
             stamp += 10
             entries = b''
-            for _ in range(chosen.choice((0, 1, 2, 20))):
-                place = chosen.randrange(64)
+            for place in chosen.sample(range(64), chosen.choice((0, 1, 2, 20))):
                 state[place] ^= 1
                 entries += bytes([place | state[place] << 7]) + ((stamp - 5) & 0xffff).to_bytes(2, 'big')
             block = bytes([182, number & 255, len(entries) // 3]) + entries + b'\0' + stamp.to_bytes(4, 'big')
@@ -526,7 +525,7 @@ def check_order(check, browser, name, folder):
                 [row[4] for row in browser.run(CELLS)])
     copied = browser.run("""const rows = document.querySelector(".rows"), data = new DataTransfer();
         getSelection().selectAllChildren(rows.querySelector(".canvas"));
-        rows.dispatchEvent(new ClipboardEvent("copy", { clipboardData: data, bubbles: true, cancelable: true }));
+        rows.dispatchEvent(Object.defineProperty(new Event("copy", { bubbles: true, cancelable: true }), "clipboardData", { value: data }));
         getSelection().removeAllRanges(); return data.getData("text/plain")""")
     check.equal('the rows as they are copied in %s' % name, ['%d' % line for line in range(2, 9)],
                 [line.split('\t')[0] for line in copied.splitlines()])

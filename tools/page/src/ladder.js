@@ -122,7 +122,7 @@ class Picture {
 
   label({ way, number, kind }, most) {
     const { run } = this.ladder, octets = (way === 'to-module' ? run.toModule : run.toCpu).frames[number - 1];
-    if (kind === 'again') return labelOf(this.library, octets, 0).replace(/,.*/, ' once more');
+    if (kind === 'again') return labelOf(this.library, octets, 0).replace(/,.*/, '') + ' once more';
     return labelOf(this.library, octets, most - ENDINGS[kind].length) + ENDINGS[kind];
   }
 
