@@ -13,9 +13,9 @@ sys.dont_write_bytecode = True
 
 from support.browsers import ELEMENT, browsers, running
 from support.check import Check
-from support.tables import HAS_KIT, TOP
+from support.opened import PAGE
+from support.tables import TOP
 
-PAGE = os.path.join(TOP, 'fio2070.html' if HAS_KIT else 'dist/fio2070.html')
 VIEWS = ('open', 'messages', 'inputs', 'plan', 'play')
 CONTROLS = 'button, input, select, textarea, summary, a[href], [tabindex="0"]'
 # The role of a control, by its element and type, where it has no role of its own. Firefox has no name for that of a summary.
