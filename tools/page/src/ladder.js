@@ -6,7 +6,7 @@ import { wordsOf } from './words.js';
 
 const SPACE = 'http://www.w3.org/2000/svg';
 const ROW = 38, TOP = 46, EDGE = 30, LETTER = 6.7;
-// So many rows are drawn, the last ones.
+// The most rows that are drawn: the last ones.
 const MOST_ROWS = 60;
 // With values for a file of its own, which has no style of the page.
 const STYLE = `.lad-text { font: 11px ui-monospace, "DejaVu Sans Mono", Consolas, monospace; fill: var(--ink, #1a1d21); stroke: var(--panel, #ffffff); stroke-width: 4px; paint-order: stroke; }
@@ -92,7 +92,7 @@ function shape(name, attributes, text = '') {
   return made;
 }
 
-// The words of a message and what the bits of its status say, in at most so many letters if that can be.
+// The words of a message and what the bits of its status say, in at most `most` letters if that can be.
 function labelOf(library, octets, most) {
   const address = library.place(octets), [words] = wordsOf(library, address, octets.length), message = library.decode(address, octets.length);
   const notes = statusNotes(message.code, message.isAnswer ? message.status : 0), [short] = /^\D*\d*/.exec(words);
@@ -171,7 +171,7 @@ class Picture {
   }
 }
 
-// The picture of a run, so many pixels wide. `lost` are the messages that are marked as lost.
+// The picture of a run, `width` pixels wide. `lost` are the messages that are marked as lost.
 export function ladderOf(run, lost, width, library) {
   return new Picture(new Ladder(run, lost), Math.max(width, 300), library).root;
 }

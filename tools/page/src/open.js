@@ -11,6 +11,15 @@ const STORIES = [
   ['given-up-block.transcript', 'A CPU gives up too early', 'The CPU asks for the next block although the last one was never answered: what was in it is gone for good.'],
 ];
 const IN_WORDS = {
+  'breaks-advance.transcript': 'The poll after an answer has the same number.',
+  'breaks-limits.transcript': 'A block says that entries were pushed out, and not that more wait than it takes.',
+  'breaks-number.transcript': 'The answer is another block than the one asked for.',
+  'breaks-pair.transcript': 'An answer comes, and nothing was asked.',
+  'breaks-readable.transcript': 'A configuration is too short to be one.',
+  'breaks-refusal.transcript': 'The module accepts an input that it does not have.',
+  'breaks-rest.transcript': 'A block says that more entries wait, and the next one has none.',
+  'breaks-same.transcript': 'A block says that it was asked for again, and it was not.',
+  'breaks-sequence.transcript': 'A block says that a number was left out, and none was.',
   'module-log.txt': 'A log taken at the module: its directions are turned.',
   'octets.txt': 'An octet a line, as some analysers write it.',
   'powershell.txt': 'Times and directions as PowerShell writes them.',
@@ -33,9 +42,6 @@ const IN_WORDS = {
   'watchdog-forgotten.transcript': 'The module forgets that a watchdog was set.',
 };
 
-// What an example shows.
-const wordsFor = (name) => IN_WORDS[name] || `A transcript that breaks the rule ${name.replace(/^breaks-|\..*$/g, '')}.`;
-
 export class OpenView {
   // `open(name, octets, end)` opens a log.
   constructor(root, examples, open) {
@@ -48,7 +54,7 @@ export class OpenView {
       element('h2', {}, 'Or look at an example'),
       element('ul', { class: 'stories' }, ...STORIES.map((story) => this.story(...story))),
       element('details', { class: 'more', id: 'more-examples' }, element('summary', {}, `${names.length} more examples: each form of log, each rule broken once`),
-        element('ul', { class: 'examples' }, ...names.map((name) => this.item(name, name, wordsFor(name))))));
+        element('ul', { class: 'examples' }, ...names.map((name) => this.item(name, name, IN_WORDS[name] || '')))));
     window.addEventListener('dragover', (event) => event.preventDefault());
     window.addEventListener('drop', (event) => this.dropped(event));
   }

@@ -7,9 +7,9 @@ import { WAITING, planOf, rowOf } from './planning.js';
 const SLIDERS = [
   ['inputs', 'How many inputs are open?', 1, INPUTS, INPUTS],
   ['filter', 'How long is the shortest filter, in samples?', 1, 255, 5],
-  ['pace', 'Every how many milliseconds does the CPU poll?', 1, 255, 19],
+  ['pace', 'How often does the CPU poll, in milliseconds?', 1, 255, 19],
   ['lost', 'How many rounds in a row may be lost?', 0, 8, 0],
-  ['outage', 'How many milliseconds does an outage last?', 0, 3000, 80],
+  ['outage', 'How long does an outage last, in milliseconds?', 0, 3000, 80],
 ];
 const HEADS = ['Open inputs', 'Filter', 'Poll every', 'Waiting', 'Late', 'Waiting, answers lost', 'Late, answers lost',
   ...WAITING.map((count) => `Outage, ${withCommas(count)} wait`)];
@@ -74,12 +74,12 @@ export class PlanView {
     const rows = [
       ['The CPU has to poll at least every', plan.startEvery + ' ms', 'k n ≤ b f: enough of FewChange' + (lost ? ', r + 1 times as often' : '')],
       ...plan.isInTime ? [
-        ['At most so many entries wait', withCommas(plan.waits), 'few_wait of KeepsUpExactly'],
+        ['The most entries that wait', withCommas(plan.waits), 'few_wait of KeepsUpExactly'],
         ['A transition is in a block after at most', plan.late + ' ms', lost ? 'late of IsLateBy' : 'young of KeepsUpExactly'],
       ] : [],
       ['The longest outage that loses nothing, if nothing waits before it', withCommas(plan.longestOutage) + ' ms',
         plan.hasRoom ? 'room of IsOutage, outage of settled_links_lose_nothing' : `k (1 + (n - 1) / f) ≤ ${waiting} does not hold: not proved`],
-      [`After ${withCommas(outage)} ms without a poll at most so many entries wait`, withCommas(plan.after), 'computed, not proved'],
+      [`The most entries that wait after ${withCommas(outage)} ms without a poll`, withCommas(plan.after), 'computed, not proved'],
       ['Clean rounds until these are in the record', String(plan.caughtUpIn), 'caught_up of clean_rounds_catch_up'],
     ];
     this.answers.replaceChildren(...rows.map(([what, number, why]) => element('tr', {},

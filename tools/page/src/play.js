@@ -11,7 +11,7 @@ import { wordsOf } from './words.js';
 const FIRST = 'fio2070 script 2 2 0';
 const FILTER = 2;
 const SHOWN = 6, SHOWN_LINES = 400;
-// So many inputs are seen at once.
+// The inputs that are seen at once.
 const SEEN_INPUTS = 16;
 const ALL_ONES = 2n ** BigInt(INPUTS) - 1n;
 

@@ -10,7 +10,7 @@ export const ENDS = { auto: 'auto', cpu: 'cpu', module: 'module', bus: 'bus' };
 const ADVANCE = RULES.indexOf('advance'), LIMITS = RULES.indexOf('limits'), READABLE = RULES.indexOf('readable');
 // The last rule on content that an entry breaks.
 const LAST_OF_ENTRIES = CONTENT_RULES.indexOf('ignored');
-// What was due and what came, by rule, where the library says both.
+// What was due and what came, by rule, if the library says both.
 const DUE = {
   pair: (due, got) => `an answer ${due} was due, ${got} came`,
   number: (due, got) => `block ${due} was asked for, ${got} came`,

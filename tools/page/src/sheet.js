@@ -3,7 +3,7 @@
 
 import { element } from './dom.js';
 
-// So narrow there is no room beside the table. style/messages.css has the same width.
+// Up to this width there is no room beside the table. style/messages.css has the same width.
 const NARROW = 'screen and (max-width: 60rem)';
 
 export class Sheet {

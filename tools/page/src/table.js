@@ -6,7 +6,7 @@ import { element } from './dom.js';
 // Browsers lay out no box of more than some 17 million pixels: a longer table moves by more than a row a pixel.
 const MOST_PIXELS = 8_000_000;
 const AROUND = 8;
-// So many rows are drawn at once, where the browser's own search and a copy of all find them.
+// Up to this number all rows are drawn, so that the browser's own search and a copy of all find them.
 const FEW = 300;
 const PRINTED = 500;
 

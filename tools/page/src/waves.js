@@ -3,7 +3,7 @@
 import { withCommas } from './dom.js';
 
 const LANE = 22, HEAD = 46, LEFT = 72, HIGH = 4, LOW = 16;
-// A lane with more than a transition in so many pixels is drawn as density, in bars so wide.
+// A lane with more than a transition in three pixels is drawn as density, in bars of four.
 const DENSE = 3, BAR = 4;
 
 // The first index at which a sorted list has at least a value.
@@ -31,7 +31,7 @@ export function lanesOf(record) {
   return [...lanes.values()].sort((one, other) => one.input - other.input);
 }
 
-// A step of the axis, 1, 2 or 5 of a power of ten, of which at most so many are seen.
+// A step of the axis, 1, 2 or 5 of a power of ten, of which at most `most` are seen.
 function stepOf(span, most) {
   const power = 10 ** Math.floor(Math.log10(Math.max(span / most, 1)));
   return [1, 2, 5, 10].map((factor) => factor * power).find((step) => span / step <= most) || power * 10;
