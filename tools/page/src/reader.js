@@ -6,6 +6,7 @@
 
 import { Choice } from './choice.js';
 import { linesOf } from './clean.js';
+import { clockOf } from './clocks.js';
 import { Doubts } from './doubts.js';
 import { DAMAGED, FRAME, isRemark, lineEvent, PASSED, REMARK } from './events.js';
 import { Framing } from './fitting.js';
@@ -19,7 +20,6 @@ import { OctetRows } from './octet_rows.js';
 import { ownFormOf, readOwn } from './own.js';
 import { Several } from './several.js';
 import { Tables } from './tables.js';
-import { clockOf } from './times.js';
 import { Queue, Waiting } from './waiting.js';
 
 // A frame of 773 octets as a row with much around it is shorter; of a longer line the beginning is named.

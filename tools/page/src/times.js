@@ -48,9 +48,6 @@ export function secondsOf(parts) {
 
 // The years that have a calendar, 1 to 9999, in seconds since 1970: there is no time outside them.
 const FIRST_SECOND = -62_135_596_800, END_OF_SECONDS = 253_402_300_800;
-// Times from here on have a date.
-const DATED = 1e8;
-const DAY = 86_400;
 
 const inCalendar = (seconds) => seconds >= FIRST_SECOND && seconds < END_OF_SECONDS ? seconds : null;
 
@@ -70,23 +67,4 @@ export function wholeTimeOf(patterns, text) {
     if (found) return secondsOf(found.groups);
   }
   return /^[+-]?\d{1,12}(?:\.\d*)?(?:e[+-]?\d{1,2})?$/i.test(text) ? inCalendar(Number(text)) : null;
-}
-
-// The time of a line as a row shows it: the time of the day as the log writes it, else that of a date in UTC, else seconds.
-export function clockOf(clock, time) {
-  if (time === null) return '';
-  const ofDay = /\d{1,2}:\d\d:\d\d(?:[.,:]\d{1,9})?(?: ?[ap]\.?m\b\.?)?/i.exec(clock);
-  if (ofDay) return ofDay[0];
-  return time >= DATED ? new Date(time * 1000).toISOString().replace(/.*T(.*)Z$/, '$1') : time.toFixed(6);
-}
-
-// The date of a time; empty if it has none.
-export const dateOf = (time) => time >= DATED ? new Date(time * 1000).toISOString().replace(/T.*/, '') : '';
-
-// How long after one time another is, in words. A log without dates may go on at midnight.
-export function laterWords(from, to) {
-  let seconds = to - from;
-  if (seconds < -DAY / 2 && to < DAY) seconds += DAY;
-  if (seconds < 0) return 'its time is before that of the command';
-  return seconds < 10 ? `${(seconds * 1000).toFixed(3)} ms after the command` : `${seconds.toFixed(1)} s after the command`;
 }
