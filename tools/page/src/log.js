@@ -119,8 +119,7 @@ export class Log {
       const breach = rules.judge(place);
       if (breach) this.breaches.set(place, breach);
     }
-    this.excused = rules.excused;
-    this.withoutContent = rules.withoutContent;
+    Object.assign(this, { excused: rules.excused, skipped: rules.skipped, withoutContent: rules.withoutContent });
   }
 
   // The breach of a rule on content of a message; undefined if it has none.
