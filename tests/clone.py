@@ -275,6 +275,7 @@ def page_fault(kind, path):
     begun = time.monotonic()
     with running(kind) as browser:
         browser.open('file://' + path)
+        browser.run('document.getElementById("more-examples").open = true')
         browser.click('[data-example="lost-answer.frames"]')
         browser.wait('return document.documentElement.dataset.opened === "lost-answer.frames"')
         trouble = browser.run('return document.getElementById("trouble").textContent')

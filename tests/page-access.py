@@ -14,9 +14,9 @@ sys.dont_write_bytecode = True
 
 from support.browsers import ELEMENT, browsers, running
 from support.check import Check
-from support.tables import HAS_KIT, TOP
+from support.opened import PAGE
+from support.tables import TOP
 
-PAGE = os.path.join(TOP, 'fio2070.html' if HAS_KIT else 'dist/fio2070.html')
 VIEWS = ('open', 'messages', 'inputs', 'plan', 'play')
 CONTROLS = 'button, input, select, textarea, summary, a[href], [tabindex="0"]'
 # The role of a control, by its element and type, if it has no role of its own. Firefox has no name for that of a summary.
@@ -40,9 +40,15 @@ def opened(browser, query=''):
     """The page with an example that breaks a rule, and a message of it that is selected."""
     browser.open('file://' + PAGE + query)
     browser.wait('return document.documentElement.dataset.bits')
+    show_near_entries(browser)
+    browser.click('#row-5')
+
+
+def show_near_entries(browser):
+    """Opens an example that breaks a rule."""
+    browser.run('document.getElementById("more-examples").open = true')
     browser.click('[data-example="near-entries.transcript"]')
     browser.wait('return document.documentElement.dataset.opened')
-    browser.click('#row-5')
 
 
 def fault_of_control(browser, found):
@@ -82,6 +88,11 @@ def check_keys(check, browser, kind):
             unmarked += [] if is_marked or number < 0 else [number]
         check.equal('controls that Tab does not reach in the view %s in %s' % (view, kind), [], browser.run(UNNUMBERED, reached))
         check.equal('controls without a mark in the view %s in %s' % (view, kind), [], unmarked)
+    browser.click('#tab-open')
+    browser.run('document.querySelector("[data-example]").focus()')
+    browser.press('enter')
+    check.equal('an example that a key opens takes the focus to its view in %s' % kind, 'tab-messages', browser.run('return document.activeElement.id'))
+    browser.click('#tab-play')
     browser.run('document.querySelector("[data-input=\'5\']").focus()')
     browser.press('enter')
     check.equal('a key changes an input in %s' % kind, 'false',
@@ -126,8 +137,7 @@ def check_older(check, browser, kind, folder):
         check.equal('without memory of 64 bits the other build runs in %s' % kind, ('32', ''),
                     (browser.run('return document.documentElement.dataset.bits'), seen))
         check.holds('and the footer says so in %s' % kind, 'wasm-opt' in browser.run('return document.getElementById("proved").textContent'))
-        browser.click('[data-example="near-entries.transcript"]')
-        browser.wait('return document.documentElement.dataset.opened')
+        show_near_entries(browser)
         check.equal('and judges in %s' % kind, 1, browser.run('return document.querySelectorAll(".line.broken").length'))
     else:
         check.skip('the other build in %s' % kind, 'no wasm-opt here (Debian package binaryen)')
@@ -135,6 +145,56 @@ def check_older(check, browser, kind, folder):
     check.holds('where no build runs the page says it in %s' % kind, all(word in seen for word in (*VERSIONS, 'no memory of 64 bits')), seen)
     seen = older(browser, folder, NO_NUMBERS_64)
     check.holds('without numbers of 64 bits too in %s' % kind, all(word in seen for word in (*VERSIONS, 'cannot pass a BigInt')), seen)
+
+
+# A phone's width and height, as those of a frame in a page: a browser's window is never so narrow.
+PHONE = '<!DOCTYPE html><style>body { margin: 0 } iframe { border: 0; width: 360px; height: 740px; display: block }</style><iframe src="file://%s"></iframe>'
+FITS = 'const it = document.documentElement; return it.scrollWidth - it.clientWidth'
+# Of the message in a row: whether it is a card whose words are seen whole, and no wider than the screen.
+CARD = """const row = document.querySelector(arguments[0]), words = row.querySelector(".words"), box = row.getBoundingClientRect();
+return [box.left >= 0 && box.right <= innerWidth, box.height > 40, words.scrollWidth <= words.clientWidth,
+Math.round(words.getBoundingClientRect().top) >= Math.round(row.querySelector(".way").getBoundingClientRect().bottom)]"""
+SHEET = """const it = document.querySelector(".detail"), box = it.getBoundingClientRect();
+return [it.open, it.open && document.elementFromPoint(innerWidth / 2, innerHeight - 20).closest(".detail") === it, box.bottom === innerHeight && box.top < innerHeight]"""
+
+
+def on_phone(browser, folder):
+    """The page on a phone."""
+    path = os.path.join(folder, 'phone.html')
+    with open(path, 'w', encoding='utf-8') as file:
+        file.write(PHONE % PAGE)
+    browser.open('file://' + path)
+    browser.ask('POST', 'frame', 'WebDriver:SwitchToFrame', {'id': 0})
+    browser.wait('return document.documentElement.dataset.bits')
+
+
+def check_phone(check, browser, kind, folder):
+    """On a phone a message is a card; a tap shows the detail over the list, a key and a button close it; the footer is small."""
+    browser.size(800, 900)
+    on_phone(browser, folder)
+    check.equal('the width of a phone in %s' % kind, 360, browser.run('return innerWidth'))
+    footer = browser.run('return document.querySelector("footer").offsetHeight')
+    check.holds('the footer takes less than a fifteenth of a phone in %s' % kind, footer * 15 < 740, footer)
+    show_near_entries(browser)
+    check.equal('a message is a card in %s' % kind, [True] * 4, browser.run(CARD, '#row-5'))
+    check.equal('no sheet is over the list at first in %s' % kind, [False, False], browser.run(SHEET)[:2])
+    browser.run('document.querySelector("#row-5").scrollIntoView({ block: "center" })')
+    browser.click('#row-5')
+    check.equal('a tap shows the detail over the list in %s' % kind, [True] * 3, browser.run(SHEET))
+    says = browser.run('return document.querySelector(".detail").textContent')
+    check.holds('which says the rule in %s' % kind, 'Breaks apart: input 12' in says, says)
+    browser.click('#sheet-before')
+    check.equal('a button goes to the message above in %s' % kind, 'Line 6', browser.run('return document.querySelector(".detail h2").textContent'))
+    browser.press('escape')
+    check.equal('a key closes it in %s' % kind, [False, 'grid'], browser.run('return [document.querySelector(".detail").open, document.activeElement.getAttribute("role")]'))
+    browser.press('enter')
+    check.equal('a key opens it in %s' % kind, True, browser.run(SHEET)[0])
+    browser.click('#sheet-close')
+    check.equal('and a button closes it in %s' % kind, False, browser.run(SHEET)[0])
+    for view in VIEWS:
+        browser.click('#tab-' + view)
+        check.holds('the view %s fits a phone in %s' % (view, kind), browser.run(FITS) <= 0, browser.run(FITS))
+    browser.size(1280, 900)
 
 
 def main():
@@ -146,6 +206,7 @@ def main():
             opened(browser)
             check_roles(check, browser, kind.name)
             check_keys(check, browser, kind.name)
+            check_phone(check, browser, kind.name, folder)
             check_older(check, browser, kind.name, folder)
     check.end()
 

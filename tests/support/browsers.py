@@ -19,7 +19,7 @@ STARTED_IN = 40
 MIDDLE = """const it = document.querySelector(arguments[0]).getBoundingClientRect();
 return [Math.round(it.left + it.width / 2), Math.round((Math.max(it.top, 0) + Math.min(it.bottom, innerHeight)) / 2)]"""
 KEYS = {'down': '\ue015', 'up': '\ue013', 'left': '\ue012', 'right': '\ue014', 'home': '\ue011', 'end': '\ue010',
-        'enter': '\ue007', 'tab': '\ue004'}
+        'enter': '\ue007', 'tab': '\ue004', 'escape': '\ue00c'}
 
 
 class Browser:
