@@ -14,7 +14,7 @@ use Rattle.fio_ends.proofs.ContentBegun.{begun_input}
 use Rattle.fio_ends.proofs.ContentSteps.{IsInvariant, IsKnown, IsPastBus, Takes}
 use Rattle.fio_ends.proofs.MadeNow.{made_now}
 use Rattle.fio_ends.proofs.ContentFrame.{heard_keeps}
-use Rattle.fio_ends.proofs.ContentRuns.{content_never_accuses}
+use Rattle.fio_ends.proofs.ContentHeld.{content_never_accuses}
 use Rattle.fio_ends.proofs.Following.{IsNoCommand}
 use Rattle.fio_ends.proofs.Sends.{read_back}
 use Rattle.fio_ends.proofs.Taken.{blocks_stay}

@@ -21,7 +21,7 @@ use Rattle.fio_ends.specs.ContentRuns.{Always, ContentNeverAccuses, KeepsRule}
 use Rattle.fio_ends.proofs.Answered.{Says, says_of}
 use Rattle.fio_ends.proofs.Following.{GoesOn, IsSince}
 use Rattle.fio_ends.proofs.ContentLines.{EventsKeep}
-use Rattle.fio_ends.proofs.ContentRuns.{content_never_accuses}
+use Rattle.fio_ends.proofs.ContentHeld.{content_never_accuses}
 use Rattle.fio_ends.proofs.ContentSteps.{Awaits, IsInvariant}
 
 -- ---- a rule that is kept by each answer, and has no state

@@ -11,7 +11,7 @@ use Rattle.fio_ends.proofs.BlockPlaces.{end_at}
 use Rattle.fio_ends.proofs.BlockWalk.{walk}
 use Rattle.fio_ends.proofs.ContentBegun.{begun_input}
 use Rattle.fio_ends.proofs.ContentFrame.{heard_keeps}
-use Rattle.fio_ends.proofs.ContentRuns.{timed_never_accuses}
+use Rattle.fio_ends.proofs.ContentHeld.{timed_never_accuses}
 use Rattle.fio_ends.proofs.ContentSteps.{IsInvariant, IsPastBus}
 use Rattle.fio_ends.proofs.IgnoredKept.{both_begun, both-happens, both-receives, both-sends, item-heard}
 use Rattle.fio_ends.proofs.LeastFilters.{KeepsLeast, least-begins, least-quiet, least-received, least-sent}

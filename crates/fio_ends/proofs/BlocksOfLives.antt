@@ -35,7 +35,7 @@ blocks_keep settings life = each_block (KeepsLimits settings) settings (next_kee
 
 -- ---- after a block with C
 
--- the block after one with C has entries, and where the newest block has C, some may wait and the log goes on after it
+-- the block after one with C has entries, and if the newest block has C, some may wait and the log goes on after it
 pub record LeavesSome (settings : Settings) (blocks : List MadeBlock) (logged : ℕ) : Type 0 where
   pub next : (k : ℕ) (block later : MadeBlock) → slice_get blocks k ≡ Some block
       → slice_get blocks (k + 1) ≡ Some later → block.more ≡ true → 1 ≤ length later.transitions
@@ -58,14 +58,14 @@ module _ (settings : Settings) (some : 1 ≤ settings.per_block) (life : Life)
   abbrev start : ℕ
   start = start_after settings (log_of life) (newest_end settings life)
 
-  -- the next block takes some where some may wait and the log goes on after the newest
+  -- the next block takes some if some may wait and the log goes on after the newest
   takes_some : (1 ≤ settings.waiting) × (newest_end settings life < length (log_of life)) → 1 ≤ length made.transitions
   takes_some (room, less) =
       let log = log_of life in
       let count = count_from settings log start in
       omega (arith, length-take count (drop start log), length-drop start log)
 
-  -- and where it has C, some may wait and the log goes on after it
+  -- and if it has C, some may wait and the log goes on after it
   goes_on : made.more ≡ true → (1 ≤ settings.waiting) × (made.end < length (log_of life))
   goes_on more =
       let over : settings.per_block < length (log_of life) - start = grind (arith, nat_tests) in

@@ -16,7 +16,7 @@ use Rattle.fio_ends.specs.ContentRuns.{ContentNeverAccuses, KeepsRule}
 use Rattle.fio_ends.proofs.Answered.{says_of}
 use Rattle.fio_ends.proofs.AnswersKept.{items_keep}
 use Rattle.fio_ends.proofs.Clocks.{clock, counter_is_clock, not_before, offset_of}
-use Rattle.fio_ends.proofs.ContentRuns.{timed_never_accuses}
+use Rattle.fio_ends.proofs.ContentHeld.{timed_never_accuses}
 use Rattle.fio_ends.proofs.ContentSteps.{HearsAnswer, IsInvariant, IsKnown, IsPastBus, IsSending, Takes}
 use Rattle.fio_ends.proofs.Following.{GoesOn, IsNoCommand, IsSince, goes_on-both}
 use Rattle.fio_ends.proofs.ContentLines.{EventsKeep}

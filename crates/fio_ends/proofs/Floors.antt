@@ -31,7 +31,7 @@ pub scans_after-append : (before : Option ℕ) (blocks : List MadeBlock) (block 
 scans_after-append before [] block = refl
 scans_after-append before (first ∷ blocks) block = scans_after-append (scans_below before first) blocks block
 
--- both premises on the blocks that are taken, below what has so many scans
+-- both premises on the blocks that are taken, by the scans of what is above them
 pub record AreNearAndBrief (above : Option ℕ) (blocks : List MadeBlock) : Type 0 where
   pub brief : AllByRecursion WaitBriefly blocks
   pub near : BlocksAreNear above blocks
@@ -108,7 +108,7 @@ pub record IsBelowClear (settings : Settings) (begin now : Life) (upto round : �
   pub blocks : length (blocks_of settings begin) ≤ round
   pub floor_is : (f : Floor) → floor ≡ Some f → IsFloor (offset_of begin) now upto before f
 
--- what is kept of a machine, below what has so many scans
+-- what is kept of a machine, by the scans of what is above the log
 pub record KeepsFloor (settings : Settings) (begin : Machine) (above : Option ℕ) (loaded : Bool) (machine : Machine) (facts : ContentFacts) : Type 0 where
   pub loaded_is : facts.loaded ≡ loaded
   pub steady : IsSteady loaded (life_of begin.history) (life_of machine.history)

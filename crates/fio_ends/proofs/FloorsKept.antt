@@ -14,7 +14,7 @@ use Rattle.fio_ends.proofs.BlockWalk.{walk}
 use Rattle.fio_ends.proofs.ContentSteps.{IsInvariant, IsPastBus}
 use Rattle.fio_ends.proofs.Clocks.{offset_of}
 use Rattle.fio_ends.proofs.ContentFrame.{heard_keeps}
-use Rattle.fio_ends.proofs.ContentRuns.{timed_never_accuses}
+use Rattle.fio_ends.proofs.ContentHeld.{timed_never_accuses}
 use Rattle.fio_ends.proofs.Steady.{loaded_after, loaded_sent, sends_no_load, steady-happens, steady-receives, unloaded_before}
 use Rattle.fio_ends.proofs.Taken.{Asks, asked_of, asks_on, blocks_stay, taken_stay}
 use Rattle.fio_ends.proofs.Floors.{AreNearAndBrief, IsBehind, IsFloor, KeepsFloor, below-same, below-scan, front_asked, near_last, none_breaks, scans-command, scans_after}

@@ -51,7 +51,7 @@ pub nothing_found : (limits : Limits) (lines : List TranscriptLine) → KeepRule
     → (place : ℕ) → place < length lines → found_at limits lines place ≡ None
 nothing_found limits lines kept place within = none_from limits lines [] lines 0 no_facts refl refl refl kept place (omega arith) within
 
--- where nothing is said at any place, nothing is said first
+-- if nothing is said at any place, nothing is said first
 pub none_earliest : {A : Type 0} (says : ℕ → Option A) (below : ℕ) → ((place : ℕ) → place < below → says place ≡ None)
     → earliest_above says below ≡ None
 none_earliest says zero none = refl
@@ -63,7 +63,7 @@ no_verdict : (found : Option Breach) (line : Option TranscriptLine) → found �
 no_verdict found None none = refl
 no_verdict found (Some line) none = rw none refl
 
--- where a checker with the limits of TEES 2009 finds nothing, the transcript is good
+-- if a checker with the limits of TEES 2009 finds nothing, the transcript is good
 pub good_if_none : (lines : List TranscriptLine)
     → ((place : ℕ) → place < length lines → found_at standard_limits lines place ≡ None) → verdict_on lines ≡ Good (length lines)
 good_if_none lines none =

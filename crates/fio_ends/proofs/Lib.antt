@@ -17,6 +17,7 @@ pub mod ContentFrame
 pub mod ContentBegun
 pub mod FirstLoads
 pub mod ContentRuns
+pub mod ContentHeld
 pub mod Lives
 pub mod MadeNow
 pub mod BlockPlaces

@@ -42,7 +42,7 @@ kept_of broken kept rule = each-at (λ one. broken one ≡ false) rules (rule_nu
 abbrev pub KeepsRules : Limits → Facts → Observation → Type 0
 KeepsRules limits facts observation = (rule : Rule) → breaks_within limits facts observation rule ≡ false
 
--- where no first rule is broken with the limits of TEES 2009, none is
+-- if no first rule is broken with the limits of TEES 2009, none is
 pub rules_kept : (facts : Facts) (observation : Observation) → first_broken facts observation ≡ None
     → KeepsRules standard_limits facts observation
 rules_kept facts observation none =

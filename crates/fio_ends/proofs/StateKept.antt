@@ -12,7 +12,7 @@ use Rattle.fio_ends.proofs.AlternateKept.{watch_begun, watch-happens, watch-rece
 use Rattle.fio_ends.proofs.BlockPlaces.{end_at, ends_within}
 use Rattle.fio_ends.proofs.BlockWalk.{walk}
 use Rattle.fio_ends.proofs.Stamps.{none_since, since-back, since-now}
-use Rattle.fio_ends.proofs.ContentRuns.{timed_never_accuses}
+use Rattle.fio_ends.proofs.ContentHeld.{timed_never_accuses}
 use Rattle.fio_ends.proofs.ContentSteps.{IsInvariant, IsKnown, IsPastBus, IsSending}
 use Rattle.fio_ends.proofs.Following.{GoesOn, IsNoCommand, IsSince, goes_on-both}
 use Rattle.fio_ends.proofs.SeenStates.{WatchAt}

@@ -38,7 +38,7 @@ MayBegin false before later = BeginsWithCommand later
 abbrev pub Premise : Type 1
 Premise = Bool → Settings → ℕ → Machine → List Event → Machine → Type 0
 
--- A rule never accuses, where this holds of a log: what the CPU's end logs of each prompt run keeps the rule, from the start of
+-- A rule never accuses, if this holds of a log: what the CPU's end logs of each prompt run keeps the rule, from the start of
 -- both ends or from any command on.
 unfoldable pub ContentNeverAccuses : ContentRule → Premise → Type 0
 ContentNeverAccuses rule Holds =
@@ -52,7 +52,7 @@ ContentNeverAccuses rule Holds =
 abbrev pub Always : Premise
 Always begun settings first machine later last = Unit {0}
 
--- The checker accuses no right link, where this holds of a log: what the CPU's end logs of each prompt run has no fault, from
+-- The checker accuses no right link, if this holds of a log: what the CPU's end logs of each prompt run has no fault, from
 -- the start of both ends or from any command on.
 unfoldable pub AccusesNone : Premise → Type 0
 AccusesNone Holds =

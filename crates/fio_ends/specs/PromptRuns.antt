@@ -54,7 +54,7 @@ pub record IsPromptRun (settings : Settings) (first : ℕ) (events : List Event)
 
 -- ---- what is found
 
--- limits that a checker may be given for a module: a block of it takes that many entries, and that many may wait, or more
+-- limits that a checker may be given for a module: its own, or those of a module in which fewer entries may wait
 pub record SuitModule (settings : Settings) (limits : Limits) : Type 0 where
   pub per_block : settings.per_block ≡ limits.per_block
   pub waiting : limits.waiting ≤ settings.waiting
@@ -65,7 +65,7 @@ HasNoBreach settings lines =
     (limits : Limits) → SuitModule settings limits →
     (place : ℕ) → place < length lines → found_at limits lines place ≡ None
 
--- and where the limits of TEES 2009 are such limits, the transcript is good
+-- and if those of TEES 2009 are such limits, the transcript is good
 abbrev pub IsGood : Settings → List TranscriptLine → Type 0
 IsGood settings lines = SuitModule settings standard_limits → verdict_on lines ≡ Good (length lines)
 

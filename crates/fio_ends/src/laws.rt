@@ -14,7 +14,7 @@ pub fn good_transcripts_are_of_pollers()
 {}
 
 /// No false accusation: a checker with the limits of the module, whatever they are, finds nothing in the transcript of a prompt
-/// run; where they are those of TEES 2009, or more may wait, the transcript is good.
+/// run; if they are those of TEES 2009, or more may wait, the transcript is good.
 #[tactic(auto, using(crate::proofs::PromptRuns::never_accuses, crate::proofs::PromptRuns::is_good))]
 pub fn prompt_runs_are_good()
     ensures any { NeverAccuses HasNoBreach }
@@ -108,7 +108,7 @@ pub fn state_never_accuses()
     ensures { ContentNeverAccuses State HasNearStates }
 {}
 
-/// So a checker of content accuses no right link, from the start of both ends or from any command on, where all this holds.
+/// So a checker of content accuses no right link, from the start of both ends or from any command on, if all this holds.
 #[tactic(auto, using(crate::proofs::FaultsOfLogs::accuses_none))]
 pub fn content_accuses_no_right_link()
     ensures { AccusesNone HasNearTimes }
