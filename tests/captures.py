@@ -1,6 +1,6 @@
 #!/usr/bin/env python3
-"""What tools/captures/normalize makes of lines of other tools: a table of lines with its options, frames in random
-shapes, random octets, and each file of examples/captures/. Last line: `N passed, M failed`."""
+"""How tools/captures/normalize reads lines of other tools: a table of lines with its options, frames in random shapes,
+random octets, and each file of examples/captures/. Last line: `N passed, M failed`."""
 
 import glob
 import os
@@ -17,7 +17,7 @@ from support.tables import TOP, output_of
 
 NORMALIZE = os.path.join(TOP, 'tools', 'captures', 'normalize')
 
-# For each list of options: a line, and the line that is expected, None where the line cannot be read.
+# For each list of options: a line, and the line that is expected, or None if the line cannot be read.
 LINES = {
     '': [
         ('3605', '3605'), ('36 05', '3605'), ('36\t05', '3605'), ('36:05', '3605'), ('36-05', '3605'),
@@ -99,7 +99,7 @@ def in_some_shape(draw, octets):
 
 
 def fault_of_shapes(seed):
-    """Frames in random shapes, below a byte order mark."""
+    """Frames in random shapes, after a byte order mark."""
     draw, frames = random.Random(seed), random_frames(seed, 800)
     lines = [in_some_shape(draw, octets) for octets in frames]
     text = b'\xef\xbb\xbf' + '\n'.join(lines).encode('latin-1')
@@ -110,7 +110,7 @@ def fault_of_shapes(seed):
 
 
 def fault_of_noise(seed):
-    """Random lines: each gives one, and `show` reports each that is not a frame, with its number."""
+    """Random lines: each gives a line, and `show` reports each that is not a frame, with its number."""
     draw = random.Random(seed)
     letters = b'0123456789abcdefABCDEFx:- ,\t><TXR#;\r.\x00\xff'
     lines = [bytes(draw.choice(letters) for _ in range(draw.randrange(12))) for _ in range(1500)]
@@ -137,7 +137,7 @@ def fault_of_checks():
 
 
 def check_nothing(check):
-    """A capture without a frame is passed on, and is a fault."""
+    """A capture without a frame is passed through, and is a fault."""
     for name, words, text in (('no text', '', b''), ('remarks alone', '', b'# 36\n\n'),
                               ('no message', '--sdlc', b'14 93 A4 5B\n')):
         written, complaints, status = normalized(words, text)

@@ -1,6 +1,6 @@
 #!/usr/bin/env python3
-"""What `fiolog` reads of logs of other tools: each form of tests/support/loggers.py, with frames of the protocol's
-tables and with random ones; damage and noise; the forms of lines, one by one. Last line: `N passed, M failed`."""
+"""How `fiolog` reads logs of other tools: each form of tests/support/loggers.py, with frames of the protocol's tables and
+with random ones; damage and noise; the forms of lines, one by one. Last line: `N passed, M failed`."""
 
 import random
 import sys
@@ -14,7 +14,7 @@ from support.loggers import LOGGERS
 from support.sessions import SESSION, random_session, timed
 from support.strangers import PASSED, READ
 
-# A line, and the frame that it is; no frame where it may be read in several ways or in none.
+# A line, and the frame that it is; no frame if it may be read in several ways or in none.
 LINES = [
     ('3605', '3605'), ('36 05', '3605'), ('  B6 00 00 00 00 00 00 01', 'b600000000000001'), ('0x36, 0x05,', '3605'),
     (r'\x36\x05', '3605'), ('{0x36, 0x05}', '3605'), ('[54, 5]', '3605'), ('36h 05h', '3605'), ('$36 $05', '3605'),
@@ -48,7 +48,7 @@ LINES = [
 
 
 class Read:
-    """What the reader makes of a text."""
+    """How the reader reads a text."""
 
     def __init__(self, text, **settings):
         from fiolog.reader import Reader
@@ -67,7 +67,7 @@ class Read:
 
 
 def check_forms(check):
-    """Each form gives the frames, in order, with their times and directions where it writes them."""
+    """Each form gives the frames, in order, with their times and directions if it writes them."""
     for name, logger in LOGGERS.items():
         for kind, frames in (('the session', timed(SESSION)), ('random frames', timed(random_session(len(name), 300)))):
             if not check.wants('%s: %s' % (name, kind)):
@@ -96,14 +96,14 @@ def check_lines(check):
 
 
 def check_strangers(check):
-    """Each log of a tool: its frames with what it says of their directions, and an event for each line."""
+    """Each log of a tool: its frames with their directions as the log says, and an event for each line."""
     for name, text, expected in READ + PASSED:
         read = Read(text)
         check.equal(name, expected, [(event.direction or '-') + event.octets.hex() for event in read.frames])
         check.equal('%s, each line has an event' % name, list(range(1, read.lines + 1)), read.numbers())
 
 
-# What damage does to a line, at a place in it. A changed character is another octet where Python writes the octet so.
+# What damage does to a line, at a place in it. A changed character is another octet if Python writes the octet so.
 DAMAGES = [lambda line, cut: line[:cut], lambda line, cut: line[cut:], lambda line, cut: line + line, lambda line, cut: '',
            lambda line, cut: line[:cut] + line[cut + 1:], lambda line, cut: line[:cut] + ' ' + line[cut:],
            lambda line, cut: line[:cut] + '?' + line[cut + 1:]]
@@ -113,8 +113,8 @@ NUMBERS = ('Python words', 'JSON of numbers')
 
 
 def fault_of_damage(name, seed):
-    """In a log of which characters were changed, cut or doubled, no frame is read that was not written, but with a
-    remark; each line has an event."""
+    """In a log in which characters were changed, cut or doubled, each frame that was not written is read only with a remark;
+    each line has an event."""
     from fiolog.judge import is_loose
     draw = random.Random(seed)
     frames = timed([octets for octets in random_session(seed, 400) if seed % 2 or octets[0] in (54, 182)])
@@ -139,7 +139,7 @@ def fault_of_damage(name, seed):
 
 
 def fault_of_damaged_stranger(name, text, expected):
-    """No line that is cut, changed, lost or doubled makes another frame in silence."""
+    """No line that is cut, changed, lost or doubled gives another frame silently."""
     from fiolog.judge import is_loose
     draw, known, lines = random.Random(name), {one[1:] for one in expected}, text.splitlines()
     for _ in range(12):
@@ -153,7 +153,7 @@ def fault_of_damaged_stranger(name, text, expected):
 
 
 def fault_of_lost_characters(seed):
-    """A literal in which all is escaped, and which lost characters, makes no other frame in silence."""
+    """A literal in which everything is escaped, and which lost characters, gives no other frame silently."""
     draw = random.Random(seed)
     frames = [octets for octets in random_session(seed, 60) if octets[0] in (0x31, 0x33, 0x36, 0xb3, 0xb5, 0xb6)]
     for _ in range(60):
@@ -170,7 +170,7 @@ def fault_of_lost_characters(seed):
 
 
 def check_damaged(check):
-    """Each kind of damage is refused or remarked."""
+    """Each kind of damage is refused or remarked on."""
     for name, text, count, words in DAMAGED:
         read = Read(text)
         said = [event.note for event in read.events] + read.reader.doubts.remarks + list(read.reader.doubts.words())
@@ -178,7 +178,7 @@ def check_damaged(check):
 
 
 def fault_of_noise(seed):
-    """Random text has no frame that is longer than chance has it, and each line has an event."""
+    """Random text has no frame that is longer than chance explains, and each line has an event."""
     draw = random.Random(seed)
     words = ['link', 'up', '9600', 'baud', 'error', '17', 'TX', 'queue', '0x', 'ok', 'rate:', '--', 'COM3', 'at', '12:30:01']
     lines = [' '.join(draw.choice(words) for _ in range(draw.randrange(9))) for _ in range(2000)]
