@@ -15,7 +15,7 @@ complete -c fiolog -n '__fish_seen_subcommand_from decode' -l sdlc -d 'each fram
 complete -c fiolog -n '__fish_seen_subcommand_from decode' -l no-check -d 'with --sdlc: without the frame check'
 complete -c fiolog -n '__fish_seen_subcommand_from decode' -s v -l verbose -d 'name each line that is passed over, and why'
 complete -c fiolog -n '__fish_seen_subcommand_from decode' -s q -l quiet -d 'say nothing on standard error but faults'
-complete -c fiolog -n '__fish_seen_subcommand_from decode' -l json -d 'one object a line: file, line, time (seconds or null), direction (> or <) and octets; then fault, or type, says, the numbers of that message by name, what its status bits say, and entries or items'
+complete -c fiolog -n '__fish_seen_subcommand_from decode' -l json -d 'one object a line: file, line, time (seconds or null), direction (> or <) and octets; then fault, or type, says, the numbers of that message by name, what its status bits say, of a repeated block that it is one, and entries or items'
 complete -c fiolog -n '__fish_seen_subcommand_from decode' -l csv -d 'a table; an entry a row'
 complete -c fiolog -n '__fish_seen_subcommand_from decode' -l input -x -d 'only messages with this input, and of them its lines'
 complete -c fiolog -n '__fish_seen_subcommand_from decode' -l type -x -d 'only this type: 49 to 60, 177 to 188, poll, block'

@@ -32,7 +32,7 @@ _fiolog() {
             '--verbose[name each line that is passed over, and why]' \
             '-q[say nothing on standard error but faults]' \
             '--quiet[say nothing on standard error but faults]' \
-            '--json[one object a line, file, line, time (seconds or null), direction (> or <) and octets; then fault, or type, says, the numbers of that message by name, what its status bits say, and entries or items]' \
+            '--json[one object a line, file, line, time (seconds or null), direction (> or <) and octets; then fault, or type, says, the numbers of that message by name, what its status bits say, of a repeated block that it is one, and entries or items]' \
             '--csv[a table; an entry a row]' \
             '--input[only messages with this input, and of them its lines]:n:' \
             '--type[only this type, 49 to 60, 177 to 188, poll, block]:n:' \
