@@ -1,6 +1,6 @@
 /* The field I/O transition link of the Model 2070: the header for C++17, above fio2070.h.
  *
- * Sources: 01e7d3c5130c59da797977db0a30779d839f2654b692bb43ee9a73c310eff2fc (SHA-256; packaging/release-files --sources)
+ * Sources: e41587c1c77330d1ebd198753099dd46d5fa972324ca268c8408d220b9c19020 (SHA-256; packaging/release-files --sources)
  * Kit: rattle-kit-13b logic dac8208d650f15bf
  * Proof: logic=proved functions=125 target=wasm64-unknown-unknown sum=dac8208d650f15bf native=nat,char,string
  * Made by `make release-files`: do not edit.
