@@ -389,7 +389,7 @@ class Tester(unittest.TestCase):
     def test_cpu(self):
         self.assertIsNone(tester.run_cpu(ProvedCpu(), events=20_000))
         script = tester.run_cpu(Gapless(), events=20_000)
-        self.assertIn('one gap mark where F is set', script)
+        self.assertIn('one gap mark if F is set', script)
         self.assertIn('\n# transcript:\n', script)
 
 
