@@ -7,4 +7,5 @@ pub mod Written
 pub mod Runs
 pub mod Checks
 pub mod Sayings
+pub mod Said
 pub mod Lines

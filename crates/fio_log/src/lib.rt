@@ -38,8 +38,11 @@ mod literals;
 mod marks;
 mod numbers;
 mod octets;
+mod places;
 mod runs;
+mod said;
 mod sayings;
+mod ways;
 
 pub use checks::frame_check;
 pub use clock::{Time, time_in};
@@ -48,5 +51,6 @@ pub use literals::{Literal, literal_at};
 pub use marks::{MARKS, Mark};
 pub use numbers::numbers_at;
 pub use octets::{Octets, RUN_OCTETS};
+pub use places::{Notation, Place};
 pub use runs::{Run, Separator, next_run};
 pub use sayings::{Saying, read_saying};
