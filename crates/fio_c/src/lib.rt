@@ -35,6 +35,7 @@ mod content;
 mod counter;
 mod faults;
 mod filters;
+mod log_batch;
 mod parts;
 mod poller;
 mod show;

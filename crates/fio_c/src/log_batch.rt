@@ -1,0 +1,144 @@
+//! What the reader of logs says of lines, in memory of the caller.
+ghost use Rattle.std.specs.Prelude.{◌≡◌, ◌≤◌, ◌<◌, true, false, length};
+ghost use Rattle.fio_message.specs.declared.limits.TheConstants.{FRAME_OCTETS};
+
+use fio_message::FRAME_OCTETS;
+
+/// The most verdicts of a batch.
+pub const LOG_VERDICTS: usize = 4_096;
+
+/// The most frames of a verdict, and the most places: each frame has an octet, and each place has one.
+pub const VERDICT_OCTETS: usize = 16_384;
+
+/// The most frames of a batch.
+pub const LOG_FRAMES: usize = LOG_VERDICTS + VERDICT_OCTETS;
+
+/// The most places of a batch.
+pub const LOG_PLACES: usize = LOG_VERDICTS + VERDICT_OCTETS;
+
+/// The most octets of the frames of a batch.
+pub const LOG_OCTETS: usize = 4 * VERDICT_OCTETS;
+
+/// What the reader says of a line of a log.
+#[derive(Clone, Copy)]
+#[repr(C)]
+pub struct LogVerdict {
+    /// The number of the line, from 1.
+    pub line: u64,
+    /// The time in microseconds, since 1970, or since midnight or a start if the log has no date; 0 if there is none.
+    pub time: u64,
+    /// How many frames the line gives, with those of the lines after it that are part of them.
+    pub frames: u32,
+    /// At how many places the octets of these frames are written.
+    pub places: u32,
+    /// What the line is: one of `FIO2070_LOG_BLANK` and those after it.
+    pub kind: u8,
+    /// Why it gives no frame: one of `FIO2070_LOG_NO_OCTETS` and those after it, else 0.
+    pub reason: u8,
+    /// 1 if there is a time, else 0.
+    pub has_time: u8,
+    /// 0 in each octet that the library writes.
+    pub reserved: [u8; 5],
+}
+
+/// Where octets are written in a log. Colour sequences, NUL and byte order marks are no characters of a line.
+#[derive(Clone, Copy)]
+#[repr(C)]
+pub struct LogPlace {
+    /// The number of the line, from 1.
+    pub line: u64,
+    /// The index of the first character, with its mark, bracket or quote.
+    pub start: u32,
+    /// The index after the last character.
+    pub end: u32,
+}
+
+/// Verdicts on lines of a log, with their frames and places, each at the front of its array and in their order.
+#[derive(Clone, Copy)]
+#[repr(C)]
+pub struct LogBatch {
+    /// How many verdicts there are.
+    pub verdict_count: u32,
+    /// How many frames these have.
+    pub frame_count: u32,
+    /// How many octets the frames have.
+    pub octet_count: u32,
+    /// How many places there are.
+    pub place_count: u32,
+    /// The verdicts.
+    pub verdicts: [LogVerdict; LOG_VERDICTS],
+    /// The places of all verdicts, those of each after those of the one before.
+    pub places: [LogPlace; LOG_PLACES],
+    /// How many octets each frame has.
+    pub lengths: [u16; LOG_FRAMES],
+    /// The octets of all frames, those of each after those of the one before.
+    pub octets: [u8; LOG_OCTETS],
+}
+
+impl LogBatch {
+    ghost use Rattle.fio_c.specs.Logs.{batch_in, empty_batch, with_frame, with_place, with_verdict};
+
+    /// Takes all out.
+    pub(crate) fn clear(&mut self)
+        ensures { batch_in self.new ≡ empty_batch }
+    {
+        self.verdict_count = 0;
+        self.frame_count = 0;
+        self.octet_count = 0;
+        self.place_count = 0;
+    }
+
+    /// Returns whether there is room for any verdict.
+    pub(crate) fn has_room(&self) -> bool {
+        (self.verdict_count as usize) < LOG_VERDICTS
+            && self.frame_count as usize <= LOG_VERDICTS
+            && self.place_count as usize <= LOG_VERDICTS
+            && self.octet_count as usize <= LOG_OCTETS - VERDICT_OCTETS
+    }
+
+    /// Adds a verdict if there is room, and returns whether there was.
+    pub(crate) fn push_verdict(&mut self, verdict: LogVerdict) -> bool
+        ensures added { result ≡ true → batch_in self.new ≡ with_verdict (batch_in self.old) verdict }
+        ensures refused { result ≡ false → self.new ≡ self.old }
+    {
+        let at = self.verdict_count as usize;
+        if at >= LOG_VERDICTS {
+            return false;
+        }
+        self.verdicts[at] = verdict;
+        self.verdict_count += 1;
+        true
+    }
+
+    /// Adds the octets of a frame if there is room, and returns whether there was.
+    pub(crate) fn push_frame(&mut self, octets: &[u8]) -> bool
+        ensures added { result ≡ true → batch_in self.new ≡ with_frame (batch_in self.old) octets.now }
+        ensures refused { result ≡ false → self.new ≡ self.old }
+    {
+        let at = self.frame_count as usize;
+        let start = self.octet_count as usize;
+        let end = start + octets.len();
+        if at >= LOG_FRAMES || end > LOG_OCTETS || octets.len() > FRAME_OCTETS {
+            return false;
+        }
+        self.lengths[at] = octets.len() as u16;
+        self.octets[start..end].copy_from_slice(octets);
+        self.frame_count += 1;
+        self.octet_count = end as u32;
+        true
+    }
+
+    /// Adds a place if there is room, and returns whether there was.
+    pub(crate) fn push_place(&mut self, place: LogPlace) -> bool
+        ensures added { result ≡ true → batch_in self.new ≡ with_place (batch_in self.old) place }
+        ensures refused { result ≡ false → self.new ≡ self.old }
+    {
+        let at = self.place_count as usize;
+        if at >= LOG_PLACES {
+            return false;
+        }
+        self.places[at] = place;
+        self.place_count += 1;
+        true
+    }
+}
