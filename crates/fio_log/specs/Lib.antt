@@ -8,3 +8,4 @@ pub mod Runs
 pub mod Checks
 pub mod Sayings
 pub mod Lines
+pub mod Telling

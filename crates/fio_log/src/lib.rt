@@ -38,8 +38,10 @@ mod literals;
 mod marks;
 mod numbers;
 mod octets;
+mod reader;
 mod runs;
 mod sayings;
+mod verdict;
 
 pub use checks::frame_check;
 pub use clock::{Time, time_in};
@@ -48,5 +50,7 @@ pub use literals::{Literal, literal_at};
 pub use marks::{MARKS, Mark};
 pub use numbers::numbers_at;
 pub use octets::{Octets, RUN_OCTETS};
+pub use reader::Reader;
 pub use runs::{Run, Separator, next_run};
 pub use sayings::{Saying, read_saying};
+pub use verdict::{Form, Kind, Reason, Verdict};
