@@ -7,5 +7,6 @@ pub mod Written
 pub mod Runs
 pub mod Checks
 pub mod Sayings
+pub mod Said
 pub mod Lines
 pub mod Telling

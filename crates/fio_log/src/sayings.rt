@@ -15,9 +15,10 @@ const FLAG: u8 = 0x7e;
 const FRAMED_OCTETS: usize = FRAME_OCTETS + 6;
 
 /// What octets say.
-#[derive(Clone, Copy, Debug, PartialEq, Eq)]
+#[derive(Clone, Copy, Debug, Default, PartialEq, Eq)]
 pub enum Saying {
     /// They spell no message and begin none.
+    #[default]
     NoMessage,
     /// They begin a message or a frame.
     Begins {
