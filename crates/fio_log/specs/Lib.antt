@@ -10,3 +10,4 @@ pub mod Sayings
 pub mod Said
 pub mod Lines
 pub mod Telling
+pub mod Chains

@@ -29,6 +29,7 @@
 //! ```
 #![tactic(auto)]
 
+mod chains;
 mod checks;
 mod clock;
 mod digits;
@@ -36,6 +37,7 @@ pub mod laws;
 mod lines;
 mod literals;
 mod marks;
+mod messages;
 mod numbers;
 mod octets;
 mod places;
@@ -43,6 +45,7 @@ mod reader;
 mod runs;
 mod said;
 mod sayings;
+mod shapes;
 mod verdict;
 mod ways;
 
