@@ -9,3 +9,5 @@ pub mod Checks
 pub mod Sayings
 pub mod Said
 pub mod Lines
+pub mod Telling
+pub mod Chains
