@@ -1,14 +1,14 @@
 //! What the reader of logs says of lines, in memory of the caller.
-ghost use Rattle.std.specs.Prelude.{◌≡◌, ◌≤◌, ◌<◌, true, false, length};
-ghost use Rattle.fio_message.specs.declared.limits.TheConstants.{FRAME_OCTETS};
+ghost use Rattle.std.specs.Prelude.{◌≡◌, ◌<◌, true, false};
 
+use crate::written::write_at;
 use fio_message::FRAME_OCTETS;
 
 /// The most verdicts of a batch.
 pub const LOG_VERDICTS: usize = 4_096;
 
-/// The most frames of a verdict, and the most places: each frame has an octet, and each place has one.
-pub const VERDICT_OCTETS: usize = 16_384;
+/// The most octets that several lines say together, and so the most frames and places of a verdict.
+const VERDICT_OCTETS: usize = 16_384;
 
 /// The most frames of a batch.
 pub const LOG_FRAMES: usize = LOG_VERDICTS + VERDICT_OCTETS;
@@ -25,9 +25,9 @@ pub const LOG_OCTETS: usize = 4 * VERDICT_OCTETS;
 pub struct LogVerdict {
     /// The number of the line, from 1.
     pub line: u64,
-    /// The time in microseconds, since 1970, or since midnight or a start if the log has no date; 0 if there is none.
+    /// The time in microseconds since 1970, or since midnight or a start if the log has no date; 0 if there is none.
     pub time: u64,
-    /// How many frames the line gives, with those of the lines after it that are part of them.
+    /// How many frames the line gives, with those of the lines below that go on with it.
     pub frames: u32,
     /// At how many places the octets of these frames are written.
     pub places: u32,
@@ -53,7 +53,7 @@ pub struct LogPlace {
     pub end: u32,
 }
 
-/// Verdicts on lines of a log, with their frames and places, each at the front of its array and in their order.
+/// Verdicts on lines of a log, with their frames and places, each at the front of its array and in order.
 #[derive(Clone, Copy)]
 #[repr(C)]
 pub struct LogBatch {
@@ -76,11 +76,12 @@ pub struct LogBatch {
 }
 
 impl LogBatch {
-    ghost use Rattle.fio_c.specs.Logs.{batch_in, empty_batch, with_frame, with_place, with_verdict};
+    ghost use Rattle.std.specs.Prelude.{[], ◌∷◌, ◌++◌};
+    ghost use Rattle.fio_c.specs.Logs.{Content, Holds};
 
     /// Takes all out.
     pub(crate) fn clear(&mut self)
-        ensures { batch_in self.new ≡ empty_batch }
+        ensures { Holds self.new (record { verdicts = []; frames = []; places = [] }) }
     {
         self.verdict_count = 0;
         self.frame_count = 0;
@@ -89,40 +90,44 @@ impl LogBatch {
     }
 
     /// Returns whether there is room for any verdict.
-    pub(crate) fn has_room(&self) -> bool {
+    pub(crate) fn has_room(&self) -> bool
+        ensures { result ≡ true → self.now.verdict_count < LOG_VERDICTS }
+    {
         (self.verdict_count as usize) < LOG_VERDICTS
             && self.frame_count as usize <= LOG_VERDICTS
             && self.place_count as usize <= LOG_VERDICTS
             && self.octet_count as usize <= LOG_OCTETS - VERDICT_OCTETS
     }
 
-    /// Adds a verdict if there is room, and returns whether there was.
-    pub(crate) fn push_verdict(&mut self, verdict: LogVerdict) -> bool
-        ensures added { result ≡ true → batch_in self.new ≡ with_verdict (batch_in self.old) verdict }
-        ensures refused { result ≡ false → self.new ≡ self.old }
+    /// Adds a verdict.
+    pub(crate) fn push_verdict(&mut self, verdict: LogVerdict)
+        requires { self.old.verdict_count < LOG_VERDICTS }
+        ensures { (content : Content) → Holds self.old content
+            → Holds self.new (record content { verdicts = content.verdicts ++ verdict ∷ [] }) }
     {
         let at = self.verdict_count as usize;
-        if at >= LOG_VERDICTS {
-            return false;
-        }
         self.verdicts[at] = verdict;
         self.verdict_count += 1;
-        true
     }
 
-    /// Adds the octets of a frame if there is room, and returns whether there was.
+    /// Adds a frame if there is room, and returns whether there was.
     pub(crate) fn push_frame(&mut self, octets: &[u8]) -> bool
-        ensures added { result ≡ true → batch_in self.new ≡ with_frame (batch_in self.old) octets.now }
+        ensures added { result ≡ true → (content : Content) → Holds self.old content
+            → Holds self.new (record content { frames = content.frames ++ octets.now ∷ [] }) }
         ensures refused { result ≡ false → self.new ≡ self.old }
+        ensures verdicts { self.new.verdict_count ≡ self.old.verdict_count }
     {
         let at = self.frame_count as usize;
         let start = self.octet_count as usize;
+        if at >= LOG_FRAMES || start > LOG_OCTETS || octets.len() > FRAME_OCTETS {
+            return false;
+        }
         let end = start + octets.len();
-        if at >= LOG_FRAMES || end > LOG_OCTETS || octets.len() > FRAME_OCTETS {
+        if end > LOG_OCTETS {
             return false;
         }
         self.lengths[at] = octets.len() as u16;
-        self.octets[start..end].copy_from_slice(octets);
+        write_at(start, octets, &mut self.octets);
         self.frame_count += 1;
         self.octet_count = end as u32;
         true
@@ -130,8 +135,10 @@ impl LogBatch {
 
     /// Adds a place if there is room, and returns whether there was.
     pub(crate) fn push_place(&mut self, place: LogPlace) -> bool
-        ensures added { result ≡ true → batch_in self.new ≡ with_place (batch_in self.old) place }
+        ensures added { result ≡ true → (content : Content) → Holds self.old content
+            → Holds self.new (record content { places = content.places ++ place ∷ [] }) }
         ensures refused { result ≡ false → self.new ≡ self.old }
+        ensures verdicts { self.new.verdict_count ≡ self.old.verdict_count }
     {
         let at = self.place_count as usize;
         if at >= LOG_PLACES {
