@@ -28,7 +28,7 @@ pub use mir.Syntax.{named}
 pub use mir.Val.{vint, vptr, vunit}
 pub use prog.Wp.{WpFn}
 pub use types.ByLocal.{alloc_all, free_all, get, lands_as, look_at, pass_all, sets, through}
-pub use types.Kit.{!, ◌$◌, ◌∵◌, ◌⊛◌, ‵, await, done, drop, feq_i, feq_l, fpack, fsplit, group, join, keep, later, move, pick, prop, qed, raw, regoal, some, split, suffices, use1, use2, use3}
+pub use types.Kit.{ !, ◌$◌, ◌∵◌, ◌⊛◌, ‵, await, done, drop, feq_i, feq_l, fpack, fsplit, group, join, keep, later, move, pick, prop, qed, raw, regoal, some, split, suffices, use1, use2, use3}
 pub use types.Run.{addr, and_then, assigns, enter, init, no_more, of_opd, returns, stop, unit_lit}
 pub use types.SemTy.{Body}
 pub use types.Tokens.{lft_end, lft_new}
