@@ -1,5 +1,5 @@
 -- What the reader of logs says of lines, as C sees it.
-use Rattle.std.specs.Prelude.{◌≡◌, ℕ, ◌+◌, ◌≤◌, ◌<◌, ◌-◌, ◌^◌, true, false, List, [], ◌∷◌, ◌++◌, length, map, take, Option, unwrap_or, is_some}
+use Rattle.std.specs.Prelude.{◌≡◌, ℕ, ◌+◌, ◌≤◌, ◌<◌, ◌-◌, ◌^◌, true, false, List, [], ◌∷◌, ◌++◌, length, map, take, unwrap_or, is_some}
 use Rattle.std.specs.List.{All, concat, sum_by}
 use Rattle.fio_message.specs.Bits.{bit_of}
 use Rattle.fio_log.specs.Sayings.{spells}

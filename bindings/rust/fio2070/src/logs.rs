@@ -18,9 +18,7 @@ impl LogReader {
     /// batch then has the verdicts that were due.
     pub fn read(&mut self, octets: &[u8], batch: &mut LogBatch) -> usize {
         // SAFETY: a slice is initialised memory of its length; the reader was begun by `_start`.
-        unsafe {
-            raw::fio2070_log_read(&mut self.0, octets.as_ptr(), octets.len(), &mut batch.0)
-        }
+        unsafe { raw::fio2070_log_read(&mut self.0, octets.as_ptr(), octets.len(), &mut batch.0) }
     }
 
     /// Ends the log. Read no octets then, until the batch has no verdicts.
@@ -73,22 +71,28 @@ impl LogBatch {
     pub fn verdicts(&self) -> impl Iterator<Item = Verdict<'_>> + '_ {
         let (mut lengths, mut octets) = (&self.0.lengths[..], &self.0.octets[..]);
         let mut places = &self.0.places[..];
-        self.0.verdicts[..self.0.verdict_count as usize].iter().map(move |verdict| {
-            let (counts, more) = lengths.split_at(verdict.frames as usize);
-            let (said, rest) = octets.split_at(counts.iter().map(|count| usize::from(*count)).sum());
-            let (here, below) = places.split_at(verdict.places as usize);
-            lengths = more;
-            octets = rest;
-            places = below;
-            Verdict {
-                line: verdict.line,
-                kind: verdict.kind,
-                reason: verdict.reason,
-                time: Some(verdict.time).filter(|_| verdict.has_time != 0),
-                frames: Frames { lengths: counts, octets: said },
-                places: here,
-            }
-        })
+        self.0.verdicts[..self.0.verdict_count as usize]
+            .iter()
+            .map(move |verdict| {
+                let (counts, more) = lengths.split_at(verdict.frames as usize);
+                let (said, rest) =
+                    octets.split_at(counts.iter().map(|count| usize::from(*count)).sum());
+                let (here, below) = places.split_at(verdict.places as usize);
+                lengths = more;
+                octets = rest;
+                places = below;
+                Verdict {
+                    line: verdict.line,
+                    kind: verdict.kind,
+                    reason: verdict.reason,
+                    time: Some(verdict.time).filter(|_| verdict.has_time != 0),
+                    frames: Frames {
+                        lengths: counts,
+                        octets: said,
+                    },
+                    places: here,
+                }
+            })
     }
 }
 

@@ -1,4 +1,4 @@
-use Rattle.fio_c.proofs.Lent.{ℕ, List, [], ◌∷◌, ◌++◌, refl, ap, w8, w64, MutBor, proved, full_share, flent, fex, flft, ftrue, id⊢, part_in, fact, tables, RefMutOf, SliceRefOf, u8, unit, usize, yes, Is, shows, LentAgain, comes_back, lends_again, lends_ref, ref_back, mem, part_at, uint_Lawful, uint_Makes, uint_Tells, uint_vals, Ptr, RawPtr, block_ptr, in_a_block, lies_at, ptr_val, rawptr_Tells, rawptr_vals, room_at, MutRef, mut_Tells, mut_vals, plain, ShrSlice, shr_slice_Lawful, shr_slice_Tells, shr_slice_vals, heard, nothing, only, owned, peeks, calls_at, lasts, on_entry, triple_of, framed, Goes-dropped, Goes-ref, Stays, ends_at, stay_dropped, stay_ref, walk_of, named, vint, vptr, vunit, WpFn, alloc_all, free_all, get, lands_as, look_at, pass_all, sets, through, !, ◌$◌, ◌∵◌, ◌⊛◌, ‵, await, done, drop, feq_i, feq_l, fpack, fsplit, group, join, keep, later, move, pick, prop, qed, raw, regoal, some, split, suffices, use1, use2, use3, addr, and_then, assigns, enter, init, no_more, of_opd, returns, stop, unit_lit, Body, lft_end, lft_new}
+use Rattle.fio_c.proofs.Lent.{ℕ, List, [], ◌∷◌, ◌++◌, refl, w64, MutBor, proved, full_share, flent, fex, flft, ftrue, id⊢, fact, tables, SliceRefOf, u8, usize, yes, Is, shows, LentAgain, comes_back, lends_again, lends_ref, ref_back, mem, uint_Lawful, Ptr, RawPtr, block_ptr, in_a_block, lies_at, rawptr_Tells, rawptr_vals, MutRef, mut_Tells, mut_vals, plain, ShrSlice, shr_slice_Lawful, shr_slice_Tells, shr_slice_vals, heard, nothing, peeks, calls_at, lasts, triple_of, framed, Goes-dropped, Goes-ref, Stays, ends_at, stay_dropped, stay_ref, walk_of, named, vptr, WpFn, alloc_all, free_all, get, lands_as, look_at, pass_all, sets, through, !, ◌$◌, ◌∵◌, ◌⊛◌, ‵, await, done, drop, fpack, fsplit, group, join, keep, later, move, pick, prop, qed, raw, regoal, some, split, suffices, use1, use2, use3, addr, and_then, enter, no_more, of_opd, returns, stop, Body, lft_end, lft_new}
 use Rattle.fio_log.specs.Telling.{Telling}
 use Rattle.fio_log.specs.contracts.reader.Reader.{the_row as R}
 use Rattle.fio_c.specs.Logs.{HasRead}

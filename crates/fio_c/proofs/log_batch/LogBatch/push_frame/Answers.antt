@@ -1,4 +1,4 @@
-use Rattle.std.proofs.Common.{◌∙◌, ap, take, ◌+◌, length, arith, rules}
+use Rattle.std.proofs.Common.{◌∙◌, ap, take, ◌+◌, length, rules}
 use Rattle.fio_c.proofs.Batches.{lengths_more, octets_more}
 use Rattle.fio_c.proofs.log_batch.LogBatch.push_frame.Goals as goal
 
