@@ -11,3 +11,4 @@ pub mod Said
 pub mod Lines
 pub mod Telling
 pub mod Chains
+pub mod OwnTexts
