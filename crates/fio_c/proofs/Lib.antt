@@ -7,3 +7,5 @@ pub mod Checkers
 pub mod Decoded
 mod Rings
 mod Replies
+pub mod Batches
+pub mod Lent

@@ -29,6 +29,7 @@
 //! ```
 #![tactic(auto)]
 
+mod chains;
 mod checks;
 mod clock;
 mod digits;
@@ -36,10 +37,18 @@ pub mod laws;
 mod lines;
 mod literals;
 mod marks;
+mod messages;
 mod numbers;
 mod octets;
+mod own_texts;
+mod places;
+mod reader;
 mod runs;
+mod said;
 mod sayings;
+mod shapes;
+mod verdict;
+mod ways;
 
 pub use checks::frame_check;
 pub use clock::{Time, time_in};
@@ -48,5 +57,9 @@ pub use literals::{Literal, literal_at};
 pub use marks::{MARKS, Mark};
 pub use numbers::numbers_at;
 pub use octets::{Octets, RUN_OCTETS};
+pub use own_texts::{OwnForm, OwnLine, read_own_line};
+pub use places::{Notation, Place};
+pub use reader::Reader;
 pub use runs::{Run, Separator, next_run};
 pub use sayings::{Saying, read_saying};
+pub use verdict::{Form, Kind, Reason, Verdict};
