@@ -1,12 +1,14 @@
 #!/usr/bin/env python3
-"""Many logs: `fiolog check` and `stats` of several files, and summaries in Python, which add: of parts of a log, of files side by
-side, and by Dask over 500 files. Last line: `N passed, M failed`."""
+"""Many logs: `fiolog check` and `stats` of several files, what their summaries say is not judged, and summaries in Python, which
+add: of parts of a log, of files side by side, and by Dask over 500 files. Last line: `N passed, M failed`."""
 
 import json
 import os
+import re
 import subprocess
 import sys
 import tempfile
+from collections import Counter
 
 sys.dont_write_bytecode = True
 
@@ -26,7 +28,7 @@ FILES = 500
 def counted(summary):
     """What a summary counts, as two are compared."""
     return summary.counts.in_short(), summary.counts.entries, dict(summary.counts.types), summary.counts.responses.at(0.5), \
-        summary.lines, dict(summary.broken)
+        summary.lines, dict(summary.broken), dict(summary.left_out)
 
 
 def check_parts(check):
@@ -70,7 +72,8 @@ def check_files(check, paths):
     check.equal('the worst first', set(doubled), {row['file'] for row in rows[:len(doubled)]})
     check.equal('then those that lost an answer', set(lost), {row['file'] for row in rows[len(doubled):len(doubled) + len(lost)]})
     table = fiolog('check', *paths[:14]).out.splitlines()
-    check.equal('a table', (17, '14 logs, the worst first', True), (len(table), table[0], paths[7] in table[2]))
+    check.equal('a table', (18, '14 logs, the worst first', True, True),
+                (len(table), table[0], paths[7] in table[2], table[-1].startswith('not judged: ')))
     done = fiolog('stats', paths[1], paths[7])
     check.equal('stats of two files', (0, True), (done.status, 'all 2 ' in done.out))
     done = fiolog('check', paths[1], 'no-such-file')
@@ -93,10 +96,62 @@ def check_dask(check, folder):
     check.equal('Dask over %d files' % FILES, '%d breaches in %d files\n' % (breaches, FILES), done.stdout or done.stderr)
 
 
+# The entries of a full block.
+FULL = ''.join('%02x%04x' % (place % 64 | place // 64 % 2 << 7, place + 1) for place in range(255))
+# A log of the CPU's end: a line that is none, a breach, and what is not judged up to the next poll; a gap mark; a restart of the
+# module, which it says in a 177 below one that does not; with SDLC a frame with a wrong check.
+UNJUDGED = {
+    'a line of other text': (['> 3605', 'link up', '< b60500000000000a'], {'lines_passed_over': 1}),
+    'a lost place': (['> 3605', '< b60500000000000a', '> 3607', '< b60700000000000b', '> 34', '< b4' + '00' * 12, '> 3608'],
+                     {'lost_places': 1, 'frames_at_lost_places': 3}),
+    'a gap': (['> 3605', '< b605ff%s0c00000100' % FULL], {'gaps': 1}),
+    'a restart': (['> 3180', '< b1000000' + '00000001', '> 3180', '< b1800000' + '00000002', '> 3180', '< b1800000' + '00000003'],
+                  {'restarts': 1}),
+    'a wrong check': (['7E 14 83 36 05 C4 1B 7E', '7E 14 83 36 06 C4 1B 7E', '7E 14 83 36 05 C4 1B 7E'],
+                      {'damaged_lines': 1, 'lost_places': 1}),
+}
+WORDS = {'damaged_lines': '1 damaged line', 'lines_passed_over': '1 line passed over (1 no octets)', 'lost_places': '1 lost place',
+         'frames_at_lost_places': '3 frames from a lost place to the next poll',
+         'gaps': '1 gap mark, above which transitions are lost', 'restarts': '1 restart of the module'}
+
+
+def check_unjudged(check):
+    """The summaries of one log and of many say what is not judged, and why; `stats` says what is not counted."""
+    with tempfile.TemporaryDirectory() as folder:
+        paths, totals = [], Counter()
+        for name, (lines, expected) in UNJUDGED.items():
+            paths.append(os.path.join(folder, '%d.log' % len(paths)))
+            with open(paths[-1], 'w', encoding='ascii') as file:
+                file.write('\n'.join(lines) + '\n')
+            totals.update(expected)
+            last = json.loads(fiolog('check', '--json', paths[-1]).out.splitlines()[-1])['summary']
+            check.equal('what is not judged: ' + name, expected, {key: count for key, count in last['not_judged'].items() if count})
+            said = re.findall('^not judged: .*', fiolog('check', paths[-1]).out, re.M)
+            words = ', '.join(words for key, words in WORDS.items() if key in expected)
+            check.equal('words on what is not judged: ' + name, ['not judged: ' + words], said)
+            counted = json.loads(fiolog('stats', '--json', paths[-1]).out)['not_counted']
+            check.equal('what is not counted: ' + name, {key: count for key, count in expected.items() if 'place' not in key},
+                        {key: count for key, count in counted.items() if count})
+        for command, key in (('check', 'not_judged'), ('stats', 'not_counted')):
+            rows = [json.loads(line) for line in fiolog(command, '--json', *paths).out.splitlines()]
+            found = {name: count for name, count in rows[-1]['summary'][key].items() if count}
+            check.equal('%s of many logs, %s' % (command, key),
+                        {name: count for name, count in totals.items() if command == 'check' or 'place' not in name}, found)
+            by_file = {row['file']: row[key] for row in rows[:-1]}
+            check.equal('%s of each log, %s' % (command, key), [1] * 3,
+                        [by_file[paths[place]][name] for place, name in ((0, 'lines_passed_over'), (2, 'gaps'), (3, 'restarts'))])
+            words = fiolog(command, *paths).out.splitlines()[-1]
+            check.holds('%s of many logs says it' % command, words.startswith(key.replace('_', ' ') + ': 1 damaged line, 1 line passed over'), words)
+    above = json.loads(fiolog('check', '--json', '--start-at-poll', text='< b3 00\n< b3 00\n> 36 05\n').out.splitlines()[-1])
+    check.equal('what is above the first poll', 2, above['summary']['not_judged']['frames_above_a_poll'])
+    check.holds('a log that is judged whole', 'not judged' not in fiolog('check', text='> 3605\n< b60500000000000a\n').out)
+
+
 def main():
     check = Check()
     use_library(check, 'many logs')
     check_parts(check)
+    check_unjudged(check)
     with tempfile.TemporaryDirectory() as folder:
         paths = write_logs(folder)
         check_files(check, paths)

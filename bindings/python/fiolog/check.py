@@ -4,16 +4,17 @@ means."""
 import argparse
 import json
 import sys
+from collections import Counter
 
-from . import log, many, terminal
+from . import log, many, terminal, unjudged
 from .counts import Counts
 from .decode import clock_of
-from .events import DAMAGED, FRAME
+from .events import BAD, DAMAGED, FRAME, PASSED
 from .late import LateRules
 from .message import POLL, message_of
 from .options import number_in
 from .protocol import BLOCK_ENTRIES, MOST_WAITING, STANDARD_WAITING
-from .rules import NineRules, Rules, is_lost
+from .rules import NineRules, Rules
 
 
 def add_place(parser):
@@ -84,8 +85,8 @@ def _place(event):
 
 
 def frames_judged(read, option, late=None):
-    """Each frame of a log with its breach and the rules that judged it, new ones for each file; with --start-at-poll from the
-    first poll on. If late answers are left out, they are counted in `late`."""
+    """Each frame of a log with its breach and the rules that judged it, new ones for each file, and each damaged line; with
+    --start-at-poll from the first poll on. If late answers are left out, they are counted in `late`."""
     def begin():
         if late:
             return LateRules(option.at, option.limits, late)
@@ -93,15 +94,19 @@ def frames_judged(read, option, late=None):
         return judged(option.at, not option.start_at_poll, option.whole, option.limits)
     judge, name, is_open = begin(), None, not option.start_at_poll
     for event in read.events():
-        if is_lost(event):
-            judge.lose()
-        if event.kind not in (FRAME, DAMAGED):
+        if event.kind not in (FRAME, BAD, DAMAGED):
             continue
         if name != read.name:
             judge, name, is_open = begin(), read.name, not option.start_at_poll
+        if event.kind == DAMAGED:
+            judge.lose(event)
+            yield event, None, judge
+            continue
         is_open = is_open or event.octets[:1] == bytes([POLL])
         if is_open:
             yield event, judge.breach(read, event), judge
+        else:
+            read.above += 1
 
 
 def run(option):
@@ -109,10 +114,12 @@ def run(option):
     if len(option.files) > 1:
         return many.run(option)
     paint, read, counts = terminal.painter('auto'), log.Log(option, sys.stdout.flush, writes=option.json), Counts()
-    excused, breaches, spans = 0, 0, Spans()
+    rules, breaches, spans = None, 0, Spans()
     for event, found, rules in frames_judged(read, option, counts if option.late_answers else None):
-        counts.add(event, message_of(event.octets) if event.kind == FRAME else None)
-        excused = rules.excused
+        if event.kind == DAMAGED:
+            counts.lose()
+        else:
+            counts.add(event, message_of(event.octets) if event.kind == FRAME else None)
         if found:
             breaches += 1
             spans.add(found.rule, event)
@@ -124,7 +131,7 @@ def run(option):
         return 1
     for words in () if option.quiet else spans.words():
         terminal.say(words)
-    return end(option, read, counts, excused, breaches)
+    return end(option, read, counts, rules, breaches)
 
 
 def say_excused(excused):
@@ -134,15 +141,19 @@ def say_excused(excused):
                      'are right where the CPU did not hear it, and what comes behind a damaged frame where it did' % excused)
 
 
-def end(option, read, counts, excused, breaches):
+def end(option, read, counts, rules, breaches):
     """The summary, and the hints."""
+    left_out = counts.unjudged() + (rules.unjudged if rules else Counter()) + Counter(
+        lines_passed_over=read.kinds[PASSED], frames_above_a_poll=read.above)
     late = {'late_answers': counts.late_answers} if option.late_answers else {}
     numbers = {**counts.in_short(), **late, 'breaches': breaches}
     if option.json:
-        print(json.dumps({'summary': numbers}))
+        print(json.dumps({'summary': {**numbers, 'not_judged': unjudged.numbers(left_out)}}))
     else:
         print(', '.join('%s %d' % (name.replace('_', ' '), number) for name, number in numbers.items()))
-    say_excused(excused)
+        if left_out:
+            print('not judged: ' + unjudged.words(left_out, read.reasons))
+    say_excused(left_out['frames_not_at_the_cpu'])
     if read.is_reversed and option.at in ('cpu', 'bus'):
         terminal.say('the directions are those of the other end: try --at module')
     if breaches and not option.start_at_poll and not counts.begins_with_poll:

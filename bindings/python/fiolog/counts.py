@@ -2,14 +2,14 @@
 
 from collections import Counter
 
-from .events import DAMAGED
-from .message import AGAIN, BLOCK, LOST, POLL
+from .events import BAD
+from .message import AGAIN, BLOCK, LOST, MODULE_STATUS, POLL, RESET
 
 # How many response times are kept for the median and the 99th percentile: beyond, every second one, and so on.
 MOST_TIMES = 1 << 16
 # What two counts have together is the sum of what each has.
-SUMS = ('frames', 'damaged', 'polls', 'repeats', 'lost_answers', 'marks', 'entries', 'late_answers', 'types', 'inputs', 'fill',
-        'responses')
+SUMS = ('frames', 'damaged', 'polls', 'repeats', 'lost_answers', 'marks', 'entries', 'late_answers', 'restarts', 'types',
+        'inputs', 'fill', 'responses')
 
 
 class Sample:
@@ -52,6 +52,7 @@ class Counts:
         self.responses, self.entries = Sample(), 0
         self.first = self.last = self.open_poll = self.number = self.sent_at = self.command = None
         self.begins_with_poll = self.block = None
+        self.restarts, self.first_reset, self.last_reset = 0, None, None     # P of the first 177 and of the last
         self.late_answers = 0   # those that late.py leaves out
 
     def __add__(self, other):
@@ -63,6 +64,10 @@ class Counts:
         both.lost_answers += self.open_poll is not None
         both.open_poll = other.open_poll
         both.begins_with_poll = other.begins_with_poll if self.begins_with_poll is None else self.begins_with_poll
+        # The first 177 of the second may be the first to say a restart.
+        both.restarts += self.last_reset is False and other.first_reset is True
+        both.first_reset = other.first_reset if self.first_reset is None else self.first_reset
+        both.last_reset = self.last_reset if other.last_reset is None else other.last_reset
         times = [time for one in (self, other) for time in (one.first, one.last) if time is not None]
         both.first, both.last = min(times, default=None), max(times, default=None)
         return both
@@ -73,7 +78,7 @@ class Counts:
         if event.time is not None:
             self.first, self.last = event.time if self.first is None else self.first, event.time
         if message is None:
-            self.damaged += event.kind == DAMAGED
+            self.damaged += event.kind == BAD
             return
         self.types[message.code] += 1
         if self.begins_with_poll is None:
@@ -82,6 +87,11 @@ class Counts:
             self._answer(event, message)
         else:
             self._command(event, message)
+
+    def lose(self):
+        """A frame may be lost here: whether the last poll was answered is not known."""
+        self.damaged += 1
+        self.open_poll = self.command = None
 
     def _command(self, event, message):
         if self.open_poll is not None:
@@ -98,6 +108,8 @@ class Counts:
             if event.time is not None and self.sent_at is not None and event.time >= self.sent_at:
                 self.responses.add(event.time - self.sent_at)
             self.command = None
+        if message.code == MODULE_STATUS:
+            self._reset(bool(message.fields['flags'] & RESET))
         if message.code == BLOCK:
             self.open_poll = None
             is_repeat = message.fields['status'] & AGAIN and message.fields['block'] == self.block
@@ -105,11 +117,21 @@ class Counts:
             if not is_repeat:
                 self._block(message)
 
+    def _reset(self, is_set):
+        """Counts a restart: the module says that it was reset, and did not say so in the 177 before."""
+        self.restarts += is_set and self.last_reset is False
+        self.first_reset = is_set if self.first_reset is None else self.first_reset
+        self.last_reset = is_set
+
     def _block(self, message):
         self.marks += bool(message.fields['status'] & LOST)
         self.fill.add(len(message.parts))
         self.entries += len(message.parts)
         self.inputs.update(part['input'] for part in message.parts)
+
+    def unjudged(self):
+        """What is missing by what the module says, by its reason."""
+        return Counter(gaps=self.marks, restarts=self.restarts, late_answers=self.late_answers)
 
     def end(self):
         """A poll at the end has no answer."""

@@ -72,18 +72,19 @@ class LateRules(Rules):
         self.late = LateAnswers(counts)
         self.judge = Judge(at, limits, self.late)
 
+    def lose(self, event):
+        """A frame was damaged here: an answer to a command above can still come."""
+        self.late.is_settled = False
+        super().lose(event)
+
     def breach(self, read, event):
         """The breach of a frame; None where it keeps all rules."""
         found, octets = self.judge.breach(read, event), event.octets
         if found or not self.late.is_settled:
-            self.content = None
+            self.lose_place()
         if found:
             return found
-        if self.judge.direction(read, event) == '<':
+        if event.direction == '<':
             return self.heard(octets) if octets[:1] == bytes([BLOCK]) else None
-        if self.content is None and self.late.begins(octets):
-            self.begin()
-        self.note_load(octets)
-        if self.content is not None:
-            self.content.sent(octets)
+        self.sent(octets, self.late.begins(octets))
         return None

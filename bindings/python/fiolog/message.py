@@ -5,14 +5,17 @@ from typing import NamedTuple
 import fio2070
 from fio2070 import _library as c
 from fio2070.constants import BIT_AGAIN as AGAIN, BIT_LOST as LOST, BIT_MORE as MORE, BIT_OUT_OF_SEQUENCE as OUT_OF_SEQUENCE
+from fio2070.constants import BIT_WAS_RESET as RESET, TYPE_STATUS
 from fio2070.constants import TYPE_ANSWER, TYPE_CONFIGURE_INPUTS as CONFIGURATION, TYPE_POLL as POLL
 
 from . import judge
 from .fields import BITS, FIELDS
 
-BLOCK = POLL + TYPE_ANSWER
+BLOCK, MODULE_STATUS = POLL + TYPE_ANSWER, TYPE_STATUS + TYPE_ANSWER
 # The bits of a block's status.
 LETTERS = {'C': MORE, 'F': LOST, 'E': AGAIN, 'G': OUT_OF_SEQUENCE}
+# What the row of a repeated block says.
+SENT_AGAIN = 'E: sent again'
 
 _items, _entries = (c.CItem * c.MOST_ENTRIES)(), (c.CEntry * c.MOST_ENTRIES)()
 _widen = c.library.fio2070_widen
@@ -34,6 +37,11 @@ class Message(NamedTuple):
         """Returns what the bits of its flags or its status that are 1 say, by their letters."""
         return {letter: says for name, value in self.fields.items()
                 for letter, bit, says in BITS.get((self.code, name), ()) if value & bit}
+
+    @property
+    def is_repeat(self):
+        """Returns whether it is a block that is sent again, by its own word."""
+        return self.code == BLOCK and bool(self.fields['status'] & AGAIN)
 
     @property
     def is_answer(self):

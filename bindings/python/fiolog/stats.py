@@ -2,10 +2,11 @@
 
 import json
 import sys
+from collections import Counter
 
-from . import log, many, terminal
+from . import log, many, terminal, unjudged
 from .counts import Counts
-from .events import DAMAGED, FRAME
+from .events import BAD, DAMAGED, FRAME, PASSED
 from .message import message_of
 
 MILLI = 1000
@@ -53,13 +54,19 @@ def run(option):
         return many.run(option, counts_alone=True)
     read, counts = log.Log(option, writes=False), Counts()
     for event in read.events():
-        if event.kind in (FRAME, DAMAGED):
+        if event.kind == DAMAGED:
+            counts.lose()
+        elif event.kind in (FRAME, BAD):
             counts.add(event, message_of(event.octets) if event.kind == FRAME else None)
     if not read.summary():
         return 1
+    missing = counts.unjudged() + Counter(damaged_lines=read.kinds[DAMAGED], lines_passed_over=read.kinds[PASSED])
     if option.json:
-        json.dump(numbers(counts), sys.stdout, indent=1)
+        json.dump({**numbers(counts), 'not_counted': unjudged.numbers(missing, unjudged.OF_LINES)}, sys.stdout, indent=1)
         print()
     else:
         terminal.table('Frames of %s' % ', '.join(option.files), ['what', 'number'], list(flat(numbers(counts))))
+        words = unjudged.words(missing, read.reasons, unjudged.OF_LINES)
+        if words:
+            print('not counted: ' + words)
     return 0

@@ -9,11 +9,11 @@ import os
 from collections import Counter
 
 from .counts import Counts
-from .events import DAMAGED, FRAME, PASSED
+from .events import BAD, DAMAGED, FRAME
 from .message import message_of
 from .reader import Reader
-from .rules import Rules, is_lost
-from .source import CHUNK, lines_in
+from .rules import Rules
+from .source import CHUNK, decoded
 
 
 class Summary:
@@ -23,26 +23,29 @@ class Summary:
 
     def __init__(self):
         self.counts, self.broken, self.first_breach = Counts(), Counter(), None
-        self.lines = self.passed = self.excused = 0
+        self.lines, self.unjudged, self.reasons = 0, Counter(), Counter()
 
     @property
     def breaches(self):
         """How often rules are broken."""
         return sum(self.broken.values())
 
+    @property
+    def left_out(self):
+        """What is not judged, by its reason."""
+        return self.unjudged + self.counts.unjudged()
+
     def __add__(self, other):
         both = Summary()
         both.counts, both.broken = self.counts + other.counts, self.broken + other.broken
         both.first_breach = self.first_breach or other.first_breach
-        both.lines, both.passed = self.lines + other.lines, self.passed + other.passed
-        both.excused = self.excused + other.excused
+        both.lines, both.unjudged = self.lines + other.lines, self.unjudged + other.unjudged
+        both.reasons = self.reasons + other.reasons
         return both
 
     def add(self, event, found):
-        """Counts a line, and the breach in it if there is one."""
-        self.passed += event.kind == PASSED
-        if event.kind in (FRAME, DAMAGED):
-            self.counts.add(event, message_of(event.octets) if event.kind == FRAME else None)
+        """Counts a frame, and the breach in it if there is one."""
+        self.counts.add(event, message_of(event.octets) if event.kind == FRAME else None)
         if found:
             self.broken[found.rule] += 1
             self.first_breach = self.first_breach or (event.number, found.rule, found.says)
@@ -64,18 +67,19 @@ def summary_of(source, at='auto', whole=False, limits=(), **settings):
     that it begins with the start of both ends, `limits` those of the module; further settings are the reader's."""
     summary, rules = Summary(), Rules(at, whole=whole, limits=limits)
     summary.reader = reader = Reader(**settings)
-    for number, text in enumerate(lines_in(chunks_of(source)), 1):
-        summary.lines = number
-        for event in reader.feed(number, text):
-            _judge(summary, rules, event)
-    for event in reader.end():
-        _judge(summary, rules, event)
+    for chunk in decoded(iter(chunks_of(source))):
+        _judge(summary, rules, reader.feed(chunk))
+    _judge(summary, rules, reader.end())
     del summary.reader      # a summary is handed from process to process
-    summary.excused = rules.excused
+    summary.lines, summary.reasons = reader.texts.count, reader.reasons
+    summary.unjudged = rules.unjudged + Counter(lines_passed_over=sum(summary.reasons.values()))
     return summary
 
 
-def _judge(summary, rules, event):
-    if is_lost(event):
-        rules.lose()
-    summary.add(event, rules.breach(summary, event) if event.kind in (FRAME, DAMAGED) else None)
+def _judge(summary, rules, events):
+    for event in events:
+        if event.kind == DAMAGED:
+            rules.lose(event)
+            summary.counts.lose()
+        elif event.kind in (FRAME, BAD):
+            summary.add(event, rules.breach(summary, event))

@@ -1,0 +1,41 @@
+"""What of a log is not judged or not counted, and why. Each number adds over logs."""
+
+from collections import Counter
+
+# By reason: the words of one, and of several.
+REASONS = {
+    'damaged_lines': ('damaged line', 'damaged lines'),
+    'lines_passed_over': ('line passed over', 'lines passed over'),
+    'lost_places': ('lost place', 'lost places'),
+    'frames_at_lost_places': ('frame from a lost place to the next poll', 'frames from a lost place to the next poll'),
+    'frames_above_a_poll': ('frame above the first poll', 'frames above the first poll'),
+    'frames_not_at_the_cpu': ('frame that the CPU may not have heard so', 'frames that the CPU may not have heard so'),
+    'late_answers': ('late answer', 'late answers'),
+    'gaps': ('gap mark, above which transitions are lost', 'gap marks, above which transitions are lost'),
+    'restarts': ('restart of the module', 'restarts of the module'),
+}
+# What is of lines, and so is not counted either.
+OF_LINES = ('damaged_lines', 'lines_passed_over', 'gaps', 'restarts')
+# How many reasons of lines that are passed over are named.
+MOST_REASONS = 3
+
+
+def numbers(unjudged, names=tuple(REASONS)):
+    """Returns each number by its name, those that are 0 too."""
+    return {name: unjudged[name] for name in names}
+
+
+def reasons_in_words(reasons):
+    """Returns the most frequent reasons why lines are passed over."""
+    return ', '.join('%d %s' % (count, reason) for reason, count in reasons.most_common(MOST_REASONS))
+
+
+def words(unjudged, reasons=Counter(), names=tuple(REASONS)):
+    """Returns what is not judged, in words; empty if all is."""
+    parts = []
+    for name in names:
+        count = unjudged[name]
+        if count:
+            why = ' (%s)' % reasons_in_words(reasons) if name == 'lines_passed_over' and reasons else ''
+            parts.append('%d %s%s' % (count, REASONS[name][count > 1], why))
+    return ', '.join(parts)
