@@ -194,7 +194,7 @@ def many_messages(path):
         for number in range(MANY // 2):
             stamp += 10
             entries = b''
-            for place in chosen.sample(range(64), chosen.choice((0, 1, 2, 20))):
+            for place in sorted(chosen.sample(range(64), chosen.choice((0, 1, 2, 20)))):
                 state[place] ^= 1
                 entries += bytes([place | state[place] << 7]) + ((stamp - 5) & 0xffff).to_bytes(2, 'big')
             block = bytes([182, number & 255, len(entries) // 3]) + entries + b'\0' + stamp.to_bytes(4, 'big')
@@ -237,6 +237,7 @@ def check_many(check, browser, name, folder):
     print('%s: %d messages open in %.2f s' % (name, MANY, seconds))
     check.holds('%d messages open within %d s in %s' % (MANY, MOST_SECONDS, name), seconds < MOST_SECONDS, seconds)
     check.equal('their number in %s' % name, '100,000 messages', browser.run('return document.querySelector("[data-fact=messages]").textContent'))
+    check.equal('their verdict in %s' % name, 'good', browser.run('return document.getElementById("verdict").dataset.kind'))
     passes = scrolled(browser)
     work, step, _ = min(passes)
     print('%s: the longest frame of a pass over all rows has %.1f ms of work, and takes %.1f ms' % (name, work, step))

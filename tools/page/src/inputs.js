@@ -76,7 +76,7 @@ export class InputsView {
     this.legend.replaceChildren(...LEGEND.filter(([, , , test]) => test(record)).flatMap(([sign, kind, words]) =>
       [element('span', { class: kind }, sign), ` ${words}   `]));
     this.canvas.setAttribute('aria-label', 'Waveforms of ' + this.note.textContent);
-    this.reading.textContent = '';
+    this.reading.textContent = 'Click or tap a transition to read it, and to go to its message.';
     this.shown.hidden = !log.isOfCpu;
     this.shown.open = false;
     this.text.textContent = '';

@@ -71,7 +71,7 @@ export class PlayView {
     this.read(text);
     this.story.textContent = text.split('\n').slice(1).filter((line) => line.startsWith('#')).map((line) => line.slice(2)).join(' ');
     this.ladder.scrollTop = 0;
-    this.ladder.scrollIntoView({ block: 'nearest' });
+    if (this.ladder.getBoundingClientRect().top > innerHeight * 0.7) this.ladder.scrollIntoView({ block: 'center' });
   }
 
   button(words, act, id = false) {

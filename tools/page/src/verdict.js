@@ -1,6 +1,7 @@
 // The verdict on a log, by all rules: what is said first, where the first breach is, and what was not judged, with the reason.
 
 import { counted, withCommas } from './dom.js';
+import { POLL } from './library.js';
 import { ENDS, ruleOf } from './rules.js';
 
 export const VERDICTS = { good: 'good', partly: 'partly', broken: 'broken', none: 'none' };
@@ -35,6 +36,10 @@ function sentencesOf(log) {
   if (withoutContent > 0) {
     said.push(`${counted(withoutContent, 'answer')} below a breach or damage, up to the next poll, ${are(withoutContent)} not judged by content: `
       + 'what the entries are compared with is not sure there.');
+  }
+  const [first] = log.breaches.keys();
+  if (first !== undefined && first < log.codes.indexOf(POLL)) {
+    said.push('The log begins in the middle of traffic: what breaks a rule above the first poll may be right.');
   }
   if (!hasDirections) said.push('The log does not say who sent a message: each is judged as sent by the end that its type belongs to.');
   else if (end === ENDS.bus) said.push('On the bus a message may be logged that the other end did not receive, so less can be judged than at the CPU.');
