@@ -10,11 +10,10 @@ import time
 
 from . import log, terminal
 from .events import BAD, DAMAGED, FRAME, POSSIBLE
+from .log_words import POSSIBLE as UNSURE
 from .message import BLOCK, LETTERS, SENT_AGAIN, message_of
 from .options import line_range, message_type, number_in, status_letters
 
-# What is said of a message that nothing makes sure.
-UNSURE = 'possible: nothing makes it sure'
 # The most characters of a damaged line that are shown.
 MOST_SHOWN = 100
 # Times from here on are of a date.

@@ -3,7 +3,10 @@
 import re
 
 from . import judge
+from .log_words import DOUBTS
 
+# Numbers in brackets, and octets of one digit.
+_NUMBERS = re.compile(r'[\[({<]+\s*-?\d+(?:\s*[,;]|\s+-?\d)')
 _SINGLE = re.compile(r'(?<![0-9A-Za-z])(?:0[xX])?[0-9A-Fa-f](?![0-9A-Za-z])')
 
 
@@ -18,13 +21,10 @@ class Doubts:
         self.loose += judge.is_loose(event.octets)
         self.rows += len(event.places) > 1 and len(event.places) == len(event.octets)
         begin, end = event.places[0][1:] if event.places else (0, 0)
-        self.numbers += event.text[begin:begin + 1] in tuple('[({<') or bool(_SINGLE.search(event.text, begin, end))
+        self.numbers += bool(_NUMBERS.match(event.text, begin, end) or _SINGLE.search(event.text, begin, end))
 
     def words(self):
         """What is said of them."""
-        if self.rows:
-            yield 'an octet is in each row: where a row is missing, the rest may spell another message'
-        if self.numbers:
-            yield '%d frames have octets as numbers without zeros before them: a digit that is lost is not seen' % self.numbers
-        if self.loose:
-            yield '%d frames are of types that have any length: a cut in one of them is not seen' % self.loose
+        for kind, words in DOUBTS.items():
+            if getattr(self, kind):
+                yield words.format(count=getattr(self, kind))

@@ -9,6 +9,7 @@ import fio2070
 from . import judge, sdlc
 from .doubts import Doubts
 from .events import BAD, BLANK, DAMAGED, FRAME, PART, PASSED, POSSIBLE, Line
+from .log_words import REASONS
 from .rules import WRONG_CHECK
 from .sides import side_in, side_of
 
@@ -19,9 +20,6 @@ LONGEST_TEXT = 1 << 16
 # The year 10000, which no time of a log has.
 END_OF_TIME = 253_402_300_800
 KINDS = {'blank': BLANK, 'part': PART, 'possible': POSSIBLE, 'damaged': DAMAGED, 'passed over': PASSED, 'frames': FRAME}
-WORDS = {'no message': 'octets that spell no message', 'short message': 'a short message in a line unlike those of other messages',
-         'several messages': 'more than one message', 'too long': 'longer than a line with a frame can be',
-         'may be longer': 'it may be one message with the line below or above, or one by itself'}
 _DIGITS = r'(?<![0-9A-Za-z])(?P<octets>(?:(?:0x)?[0-9A-Fa-f]{2}[ ,:;|-]*)+)\s*$'
 _OWN_LINES = re.compile(rb'[^\n]*\n|[^\n]+')
 _NO_DIGIT = re.compile(r'0[xX]|\\x|[^0-9A-Fa-f]')
@@ -102,7 +100,7 @@ class Reader:
         """The events of a verdict: one, or one for each frame."""
         number, text = verdict.line, self.texts.of(verdict.line)
         time = None if verdict.time is None or verdict.time >= END_OF_TIME * 1_000_000 else verdict.time / 1_000_000
-        kind, note = KINDS[verdict.kind], WORDS.get(verdict.reason, verdict.reason)
+        kind, note = KINDS[verdict.kind], REASONS.get(verdict.reason, verdict.reason)
         line = Line(number, kind, text, b'', time, '', note, '', verdict.places)
         if self.pattern:
             line = line._replace(**self.given.pop(number, {}))

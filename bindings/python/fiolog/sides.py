@@ -3,9 +3,9 @@ log was taken."""
 
 import re
 
-SENT = {'tx', 'sent', 'send', 'out', 'write', 'wrote', 'cpu', 'outgoing', '>', '->', '-->', '>>', '=>', '\u2192'}
-HEARD = {'rx', 'received', 'recv', 'in', 'read', 'fio', 'incoming', '<', '<-', '<--', '<<', '<=', '\u2190'}
-_WORD = re.compile('[A-Za-z]+|[<>=-]*[<>]+[-=]*|[\u2190\u2192]')
+from .log_words import HEARD, SENT
+
+_WORD = re.compile('[A-Za-z]+|[<>=-]+|[\u2190\u2192]')
 
 
 def side_of(text, places, form='auto'):

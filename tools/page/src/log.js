@@ -2,14 +2,12 @@
 // counts of what was found.
 
 import { LOG_FORMS } from './constants.js';
-import { BLOCK, POLL, STATUS_BITS } from './library.js';
+import { BLOCK, FIRST_ANSWER, POLL, STATUS_BITS } from './library.js';
 import { DIRECTION } from './messagelist.js';
 import { recordOf } from './record.js';
 import { breachWords, ENDS, ruleOf, Rules } from './rules.js';
 import { verdictOf } from './verdict.js';
 import { wordsOf } from './words.js';
-
-const FIRST_ANSWER = 128;
 
 export class Log {
   // `read` is what readLog gives. `end` says where the log was taken: what was sent there is what the CPU sent or heard. If it is

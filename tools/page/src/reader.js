@@ -3,12 +3,12 @@
 
 import { LOG_FORMS, LOG_KINDS } from './constants.js';
 import { Doubts } from './doubts.js';
+import { FIRST_ANSWER } from './library.js';
 import { REASONS } from './log_words.js';
 import { DIRECTION, MessageList } from './messagelist.js';
 import { isOwnSide, sideOf } from './sides.js';
 import { clockOf } from './times.js';
 
-const FIRST_ANSWER = 128;
 // The year 10000, which no time of a log has.
 const END_OF_TIME = 253_402_300_800;
 // What is no character of a line.
