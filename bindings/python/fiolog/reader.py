@@ -23,6 +23,7 @@ WORDS = {'no message': 'octets that spell no message', 'short message': 'a short
          'several messages': 'more than one message', 'too long': 'longer than a line with a frame can be',
          'may be longer': 'it may be one message with the line below or above, or one by itself'}
 _DIGITS = r'(?<![0-9A-Za-z])(?P<octets>(?:(?:0x)?[0-9A-Fa-f]{2}[ ,:;|-]*)+)\s*$'
+_UNSEEN = re.compile('\x1b\\[[^A-Za-z]*[A-Za-z]|[\0\ufeff]')
 _OWN_LINES = re.compile(rb'[^\n]*\n|[^\n]+')
 _NO_DIGIT = re.compile(r'0[xX]|\\x|[^0-9A-Fa-f]')
 # A frame that the library takes in any log: it serves to read the time before it.
@@ -63,8 +64,9 @@ class Texts:
 
 
 def text_of(octets):
-    """A line as text; octets that are no UTF-8 can be written again as they were."""
-    return octets[:LONGEST_TEXT].rstrip(b'\r\n').decode('utf-8', 'surrogateescape')
+    """A line as text, without colours and marks; octets that are no UTF-8 can be written again as they were."""
+    text = octets[:LONGEST_TEXT].rstrip(b'\r\n').decode('utf-8', 'surrogateescape')
+    return text if text.isprintable() else _UNSEEN.sub('', text)
 
 
 class Reader:
