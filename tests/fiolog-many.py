@@ -107,7 +107,7 @@ UNJUDGED = {
     'a gap': (['> 3605', '< b605ff%s0c00000100' % FULL], {'gaps': 1}),
     'a restart': (['> 3180', '< b1000000' + '00000001', '> 3180', '< b1800000' + '00000002', '> 3180', '< b1800000' + '00000003'],
                   {'restarts': 1}),
-    'a wrong check': (['7E 14 83 36 05 C4 1B 7E', '7E 14 83 36 06 C4 1B 7E', '7E 14 83 36 05 C4 1B 7E'],
+    'a wrong check': (['14 83 36 05 C4 1B', '14 83 36 06 C4 1B', '14 83 36 05 C4 1B'],
                       {'damaged_lines': 1, 'lost_places': 1}),
 }
 WORDS = {'damaged_lines': '1 damaged line', 'lines_passed_over': '1 line passed over (1 no octets)', 'lost_places': '1 lost place',

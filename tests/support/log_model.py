@@ -4,7 +4,7 @@
 import re
 from typing import NamedTuple, Optional, Tuple
 
-from support.log_clock import DIGITS, HEX, without_time
+from support.log_clock import DIGITS, HEX, MONTHS, without_time
 from support.log_runs import (BLANK, HELD, LATER, LINE, LOOSE, MOST, ROW, SHAPES, WORD, YOUNG, frames_of, hex_runs, is_pair, lacks,
                               runs, spells)
 
@@ -54,6 +54,27 @@ def masked(text, letters=False):
             out.append(text[place])
         place = max(end, place + 1)
     return ''.join(out).strip()
+
+
+def words_of(text):
+    """The words of a text."""
+    return ''.join(char if char.isalnum() else ' ' for char in text).split()
+
+
+def beginning(text, heads):
+    """What of a text is the beginning of one of these masked texts, and the rest; of a word the beginning is that too."""
+    end = 0
+    while end < len(text):
+        stop = end + 1
+        while stop < len(text) and all(one.isalnum() or one in WORD for one in text[stop - 1:stop + 1]):
+            stop += 1
+        if not any(head.startswith(masked(text[:stop])) for head in heads):
+            stop -= 1
+            while stop > end and not any(head.startswith(masked(text[:stop])) for head in heads):
+                stop -= 1
+            return text[:stop].strip(), text[stop:]
+        end = stop
+    return text.strip(), ''
 
 
 def rest_of(text, octets):
@@ -109,7 +130,7 @@ class Entry:
     def __init__(self, line, said, join=None, heading=None):
         self.numbers, self.said, self.fits, self.join = [line.number], said, [one for one in said if one.frames], join
         self.time, self.kind, self.reason, self.frames, self.until, self.places = line.time, None, '', [], None, []
-        self.head = masked(line.masked)
+        self.text = line.masked
         self.time = heading if self.time is None else self.time
         self.chosen = None
 
@@ -136,7 +157,8 @@ class Reader:
     """Gives a verdict of each line, in order."""
     def __init__(self):
         self.shapes, self.widths, self.tallies, self.queue, self.open, self.step = {}, {}, {}, [], None, None
-        self.ways, self.heads = set(), set()    # the marks and separators of frames, and what is before their octets
+        # The marks and separators of frames, what is before their octets, and the words after them.
+        self.ways, self.heads, self.tails = set(), set(), set()
         self.count, self.others, self.above, self.heading = 0, 0, None, None
 
     def feed(self, number, text):
@@ -340,8 +362,9 @@ class Reader:
         for same in entry.fits:
             if same.sure and len(same.octets) > 1 and any(same.frames == one.frames for one in found) and (
                     len(self.shapes) < SHAPES):
-                self.ways |= {(same.run.mark, way) for way in same.ways or ('one',)}
+                self.ways |= {(same.run.mark, way) for way in (None, *(same.ways or ()))}
                 self.heads.add(same.before)
+                self.tails.add(tuple(words_of(masked(same.after))))
                 ways = self.shapes.setdefault(same.shape, set())
                 size = len(ways)
                 ways |= {(2, way[1]) if (2, way[1]) in same.ways else way for way in same.ways or ()}
@@ -362,16 +385,21 @@ class Reader:
             entry.settle('possible', SHORT, [one for one in entry.fits if tuple(one.frames) in told][:1])
 
     def is_damaged(self, entry):
-        """Whether a line may have held a frame: its shape is known; a run that is written as the frames are begins a message,
-        says one, or is what is left of one; or it is what is before the octets of others, alone or with one octet."""
+        """Whether a line may have held a frame: its shape is known; a run that is written as the frames are says or begins a
+        message; or the line is what is left of one after a cut."""
         octets = [one for one in entry.said if len(one.octets) > 1]
-        if any(self.is_known(one) for one in octets):
-            return True
-        if not octets:
-            return len(entry.head) > 1 and any(head.startswith(entry.head) for head in self.heads) or any(
-                one.before in self.heads and one.before and not one.after for one in entry.said)
-        written = [one for one in octets if any((one.run.mark, way) in self.ways for way in one.ways or ())]
-        return any(one.frames or lacks(one.octets) or len(one.before) < 2 and not one.after for one in written)
+        written = [one for one in entry.said if (one.run.mark, None) in self.ways and one.before in self.heads and not one.ways or any(
+            (one.run.mark, way) in self.ways for way in one.ways or ())]
+        return any(self.is_known(one) for one in octets) or any(one.frames or lacks(one.octets) for one in written) or (
+            self.is_left(entry.text))
+
+    def is_left(self, text):
+        """Whether a text is the beginning of what is before the octets of others, perhaps nothing, then words of digits, of which one
+        may be a piece of a time, then the end of what is after them."""
+        head, rest = beginning(text, self.heads)
+        words = [word for word in words_of(rest) if not any(word.lower() in tail for tail in self.tails)]
+        digits = [word for word in words if set(word) <= HEX | set('xXTZ') or any(month.startswith(word.lower()) for month in MONTHS)]
+        return digits == words and bool(words or words_of(head))
 
     def certain(self):
         """The verdicts of the lines that are decided, in order."""

@@ -26,10 +26,9 @@ def spells(octets):
 
 
 def lacks(octets):
-    """Whether octets are a proper beginning of a message, or of a frame with a flag before it and none at its end."""
+    """Whether octets are a proper beginning of a message, or of a frame with a flag before it."""
     length = length_of(octets) if octets else 0
-    is_open = octets[:1] == b'\x7e' and octets[1:][-1:] != b'\x7e'
-    return length is None or length > len(octets) or is_open and len(octets) < LONGEST + 8
+    return length is None or length > len(octets) or octets[:1] == b'\x7e' and len(octets) < LONGEST + 8
 
 
 def check_of(octets):

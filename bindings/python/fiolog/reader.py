@@ -21,6 +21,7 @@ LONGEST_TEXT = 1 << 16
 END_OF_TIME = 253_402_300_800
 KINDS = {'blank': BLANK, 'part': PART, 'possible': POSSIBLE, 'damaged': DAMAGED, 'passed over': PASSED, 'frames': FRAME}
 _DIGITS = r'(?<![0-9A-Za-z])(?P<octets>(?:(?:0x)?[0-9A-Fa-f]{2}[ ,:;|-]*)+)\s*$'
+_UNSEEN = re.compile('\x1b\\[[^A-Za-z]*[A-Za-z]|[\0\ufeff]')
 _OWN_LINES = re.compile(rb'[^\n]*\n|[^\n]+')
 _NO_DIGIT = re.compile(r'0[xX]|\\x|[^0-9A-Fa-f]')
 # A frame that the library takes in any log: it serves to read the time before it.
@@ -61,8 +62,9 @@ class Texts:
 
 
 def text_of(octets):
-    """A line as text; octets that are no UTF-8 can be written again as they were."""
-    return octets[:LONGEST_TEXT].rstrip(b'\r\n').decode('utf-8', 'surrogateescape')
+    """A line as text, without colours and marks; octets that are no UTF-8 can be written again as they were."""
+    text = octets[:LONGEST_TEXT].rstrip(b'\r\n').decode('utf-8', 'surrogateescape')
+    return text if text.isprintable() else _UNSEEN.sub('', text)
 
 
 class Reader:
