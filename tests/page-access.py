@@ -87,6 +87,11 @@ def check_keys(check, browser, kind):
             unmarked += [] if is_marked or number < 0 else [number]
         check.equal('controls that Tab does not reach in the view %s in %s' % (view, kind), [], browser.run(UNNUMBERED, reached))
         check.equal('controls without a mark in the view %s in %s' % (view, kind), [], unmarked)
+    browser.click('#tab-open')
+    browser.run('document.querySelector("[data-example]").focus()')
+    browser.press('enter')
+    check.equal('an example that a key opens takes the focus to its view in %s' % kind, 'tab-messages', browser.run('return document.activeElement.id'))
+    browser.click('#tab-play')
     browser.run('document.querySelector("[data-input=\'5\']").focus()')
     browser.press('enter')
     check.equal('a key changes an input in %s' % kind, 'false',

@@ -29,7 +29,8 @@ def check_verdict(check, browser, name):
             ('a log without directions', '36ff\nb6ff010000010200000001\n', 'good', 'does not say who sent'),
             ('a log with a bad line', '> 36ff\n> 36f\n< b6ff010000010200000001\n', 'partly', '1 line could not be read as a message and is not judged'),
             ('a log of the bus', '3605\nb605000000000001\n3605\n', 'partly', '1 message is not judged, since this log was not taken at the CPU'),
-            ('answers below a breach', '> 36ff\n< b605000000000001\n< b605000000000001\n', 'broken', 'not judged by content'),
+            ('answers below a breach', '> 36ff\n< b605000000000001\n< b605000000000001\n', 'broken', '1 message below a breach, up to the next poll, is not judged'),
+            ('a log of another link', ''.join('01 03 00 %02X 00 0A C5 CD\n' % number for number in range(6)), 'broken', '5 messages below a breach'),
             ('a log that begins in the middle', '< b605000000000001\n> 3606\n< b606000000000002\n', 'broken', 'in the middle of traffic'),
             ('a log of the other end', '07:15:02.100 RX 36 05\n07:15:02.106 TX B6 05 00 00 00 00 00 01\n', 'good', '')]:
         pasted(browser, text)

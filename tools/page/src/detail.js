@@ -1,11 +1,11 @@
 // One message whole: its words and octets, with what belongs together marked under the pointer and under the keys.
 
 import { BITS } from './bits.js';
+import { dateOf, laterWords } from './clocks.js';
 import { element } from './dom.js';
 import { fieldsOf, wordsIn } from './fields.js';
 import { hexText } from './hex.js';
 import { DIRECTION } from './messagelist.js';
-import { dateOf, laterWords } from './times.js';
 
 const WAYS = { [DIRECTION.none]: 'No direction', [DIRECTION.sent]: 'Sent by the CPU', [DIRECTION.heard]: 'Heard by the CPU' };
 const LONGEST = 4096;

@@ -119,8 +119,8 @@ export class Log {
       const breach = rules.judge(place);
       if (breach) this.breaches.set(place, breach);
     }
-    this.excused = rules.excused;
-    this.withoutContent = rules.withoutContent;
+    const { excused, belowDamage, skipped, withoutContent } = rules;
+    Object.assign(this, { excused, belowDamage, skipped, withoutContent });
   }
 
   // The breach of a rule on content of a message; undefined if it has none.

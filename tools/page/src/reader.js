@@ -1,13 +1,13 @@
 // Reads a log. The library finds the frames in its lines; here they become messages, with the time and the side that their lines
 // say.
 
+import { clockOf } from './clocks.js';
 import { LOG_FORMS, LOG_KINDS } from './constants.js';
 import { Doubts } from './doubts.js';
 import { FIRST_ANSWER } from './library.js';
 import { REASONS } from './log_words.js';
 import { DIRECTION, MessageList } from './messagelist.js';
 import { isOwnSide, sideOf } from './sides.js';
-import { clockOf } from './times.js';
 
 // The year 10000, which no time of a log has.
 const END_OF_TIME = 253_402_300_800;

@@ -21,9 +21,10 @@ const DUE = {
 // below damage, at the next poll; a load of the counter that was sent above still counts then.
 export class Rules {
   constructor(log) {
-    Object.assign(this, { log, checker: log.checker, content: log.contentChecker, isOpen: true, load: -1, polled: -1, isBelowDamage: false });
-    // How many messages are not judged, or not by their content.
-    Object.assign(this, { excused: 0, withoutContent: 0 });
+    Object.assign(this, { log, checker: log.checker, content: log.contentChecker, isOpen: true, load: -1, polled: -1,
+      isBelowDamage: false, isBelowBreach: false });
+    // How many messages are not judged: since the log is of the bus, since they are below damage or a breach, and not by their content.
+    Object.assign(this, { excused: 0, belowDamage: 0, skipped: 0, withoutContent: 0 });
     this.checker.start();
     this.content.start();
   }
@@ -51,11 +52,19 @@ export class Rules {
   frame(place) {
     const { log, checker } = this, isAtCpu = log.endOf(place) === ENDS.cpu, isPoll = log.codes[place] === POLL;
     const { polled, isBelowDamage } = this;
-    if (isPoll && isBelowDamage && !isAtCpu) checker.start();
+    if (isPoll && isBelowDamage) checker.start();
+    // Below a breach the checker goes on at the next poll.
+    if (isPoll) this.isBelowBreach = false;
+    else if (this.isBelowBreach) this.skipped += 1;
     const found = checker.judge(log.judgedWay(place) === DIRECTION.sent, log.address(place), log.lengths[place]);
     if (isPoll) [this.polled, this.isBelowDamage] = [log.blocks[place], false];
     if (!found) return null;
-    if (!isAtCpu && (isBelowDamage || found.rule === ADVANCE && this.polled === polled)) {
+    this.isBelowBreach = true;
+    if (isBelowDamage) {
+      this.belowDamage += 1;
+      return null;
+    }
+    if (!isAtCpu && found.rule === ADVANCE && this.polled === polled) {
       // Whether the CPU heard the answer is not known here: to ask again, or for the next block, may be right.
       this.excused += 1;
       return null;
@@ -76,7 +85,7 @@ export class Rules {
   heard(place) {
     const { log } = this;
     if (!this.isOpen) {
-      this.withoutContent += 1;
+      this.withoutContent += this.isBelowBreach ? 0 : 1;
       return null;
     }
     const found = this.content.heard(log.address(place), log.lengths[place]);

@@ -1,13 +1,12 @@
-// Times of messages, in seconds: since 1970 if the log has dates, else since midnight or as the log counts them.
+// How times are shown, which are in seconds since 1970 if the log has dates, else since midnight or as the log counts them: those of
+// rows, their dates, and how long one is after another.
 
 // Times from here on have a date.
 const DATED = 1e8;
-const DAY = 86_400, HALF_DAY = DAY / 2;
+const DAY = 86_400;
 // Zones differ by multiples of this.
 const QUARTER = 900;
 const OF_DAY = /\d{1,2}:(\d\d):(\d\d)(?:[.,:]\d{1,9})?(?: ?[ap]\.?m\b\.?)?/gi;
-
-const dateText = (time) => new Date(time * 1000).toISOString();
 
 // A time as a row shows it: the time of the day as one of these lines writes it, else that of a date in UTC, else seconds.
 export function clockOf(lines, time) {
@@ -17,16 +16,16 @@ export function clockOf(lines, time) {
       if ((Number(minute) * 60 + Number(second) - Math.floor(time)) % QUARTER === 0) return written;
     }
   }
-  return time >= DATED ? dateText(time).replace(/.*T(.*)Z$/, '$1') : time.toFixed(6);
+  return time >= DATED ? new Date(time * 1000).toISOString().replace(/.*T(.*)Z$/, '$1') : time.toFixed(6);
 }
 
 // The date of a time; empty if it has none.
-export const dateOf = (time) => time >= DATED ? dateText(time).replace(/T.*/, '') : '';
+export const dateOf = (time) => time >= DATED ? new Date(time * 1000).toISOString().replace(/T.*/, '') : '';
 
 // How long after one time another is, in words. A log without dates may go on at midnight.
 export function laterWords(from, to) {
   let seconds = to - from;
-  if (seconds < -HALF_DAY && to < DAY) seconds += DAY;
+  if (seconds < -DAY / 2 && to < DAY) seconds += DAY;
   if (seconds < 0) return 'its time is before that of the command';
   return seconds < 10 ? `${(seconds * 1000).toFixed(3)} ms after the command` : `${seconds.toFixed(1)} s after the command`;
 }
