@@ -187,7 +187,7 @@ install-tools:
 ifneq ($(shared),)
 	install -d '$(share)/python/fio2070' '$(share)/python/fiolog' '$(bash)' '$(zsh)' '$(fish)'
 	install -m 644 bindings/python/fio2070/*.py bindings/python/fio2070/py.typed $(shared) '$(share)/python/fio2070'
-	install -m 644 bindings/python/fiolog/*.py bindings/python/fiolog/forms.json '$(share)/python/fiolog'
+	install -m 644 bindings/python/fiolog/*.py '$(share)/python/fiolog'
 	ln -sf '../$(TOOLS)/tools/fiolog' '$(bin)/fiolog'
 	install -m 644 man/fiolog.1 '$(man)'
 	install -m 644 completions/fiolog.bash '$(bash)/fiolog'

@@ -110,7 +110,26 @@ def check_unsure(check, browser, name):
     check.holds('a breach below is found in %s' % name, kind == 'broken' and 'Line 10' in says, (kind, says))
 
 
+# A text, and the first cell of words of each line by the form in which it is read.
+BY_ORDER = '> 3605\n> 33\nx\n< b605000000000001\n'
+AS_TRANSCRIPT = ['poll block 5', 'wrong length needed 2 got 1', BAD_LINE, 'block 5 entries 0 status 00 stamp 1']
+
+
+def check_order(check, browser, name):
+    """A log is read as `check` reads it by order, or if it is named as a transcript; else by the definition."""
+    chosen = 'const it = document.getElementById("form"); it.value = arguments[0]; it.dispatchEvent(new Event("change"))'
+    for form, words in (('transcript', AS_TRANSCRIPT), ('frames', [BAD_LINE] * 4), ('auto', None)):
+        browser.run(chosen, form)
+        pasted(browser, BY_ORDER)
+        rows = browser.run(CELLS)
+        if words:
+            check.equal('a text by order as %s in %s' % (form, name), words, [row[3] for row in rows])
+        else:
+            check.equal('and again as any log in %s' % name, by_model(BY_ORDER)[0], by_page({'rows': rows, 'note': ''})[0])
+
+
 def rows(check, browser, name):
     """Each of these checks but those of captures."""
     check_lines(check, browser, name)
+    check_order(check, browser, name)
     check_unsure(check, browser, name)

@@ -61,9 +61,9 @@ function startViews(library) {
     messages.goTo(place);
   }, () => tabs.show('open'));
   tabs.whenShown((name) => name === 'inputs' && inputs.draw());
-  const open = (name, octets, end) => {
+  const open = (name, octets, end, form) => {
     trouble('');
-    const log = new Log(library, arena, name, readLog(library, logReader, octets, formOf(name)), end);
+    const log = new Log(library, arena, name, readLog(library, logReader, octets, formOf(name, form)), end);
     tabs.show('messages');
     messages.open(log, octets);
     inputs.open(log);

@@ -1,5 +1,6 @@
 // The view Messages: the verdict, what was counted, a search, the table, and the message that is selected.
 
+import { LOG_REASONS } from './constants.js';
 import { counted, element, say, select, withCommas } from './dom.js';
 import { detailOf } from './detail.js';
 import { kindOf, CAN_READ } from './foreign.js';
@@ -104,9 +105,10 @@ export class MessagesView {
 
   // Says what a text is that is no log, and what can be read.
   showNoMessage(file) {
-    const { log } = this;
-    this.showNone(element('h2', {}, `No message was found in ${log.name}`), element('p', { id: 'no-log-kind' }, kindOf(file)),
+    const { log } = this, hasOctets = log.passed.some((count, reason) => count > 0 && reason !== LOG_REASONS.noOctets);
+    this.showNone(element('h2', {}, `No message was found in ${log.name}`), element('p', { id: 'no-log-kind' }, kindOf(file, hasOctets)),
       ...log.count === 0 ? [] : [element('p', {}, `${counted(log.count, 'line')} may have octets and could not be read, the first in line ${log.lines[0]}.`)],
+      element('p', { id: 'no-log-passed' }, passedWords(log.passed)),
       element('p', {}, 'What can be read:'), element('dl', { class: 'readable' },
         ...CAN_READ.flatMap(([what, text]) => [element('dt', {}, what), element('dd', {}, element('pre', {}, text))])));
   }

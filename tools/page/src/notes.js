@@ -16,11 +16,13 @@ export function statusNotes(code, status) {
     .map(([letter, , says]) => `${letter}: ${code === BLOCK && IN_SHORT[letter] || says}`);
 }
 
+// Why a message is not judged, or a line gave none; empty if neither is so.
+export const doubtOf = (log, place) => log.isPossible[place] ? POSSIBLE : log.damaged.get(place) || '';
+
 export function noteOf(log, place) {
   const reason = log.reason(place), notes = statusNotes(log.codes[place], log.status[place]);
   if (reason) notes.unshift(reason);
-  if (log.isPossible[place]) notes.push(POSSIBLE);
-  if (log.damaged.has(place)) notes.push(log.damaged.get(place));
+  if (doubtOf(log, place)) notes.push(doubtOf(log, place));
   if (log.isUnanswered(place)) notes.push('no answer');
   return notes.join('; ');
 }

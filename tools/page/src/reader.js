@@ -11,14 +11,17 @@ import { isOwnSide, sideOf } from './sides.js';
 
 // The year 10000, which no time of a log has.
 const END_OF_TIME = 253_402_300_800;
+// Of a damaged line the beginning is shown.
+const LONGEST_SHOWN = 100;
 // What is no character of a line.
 const UNSEEN = /\x1b\[[^A-Za-z]*[A-Za-z]?|[\0\ufeff]/g;
 const BYTE_ORDER_MARKS = { 0xfffe: 'utf-16le', 0xfeff: 'utf-16be' };
 
-// The form that the name of a file says: that of the project's own texts, else any log's.
-export function formOf(name) {
+// The form in which a file is read: the one that is asked for or, if that is `auto`, that of the project's own texts if it is named as
+// one, else that of any log.
+export function formOf(name, asked) {
   const ending = /\.(frames|transcript)$/.exec(name);
-  return ending ? LOG_FORMS[ending[1]] : LOG_FORMS.auto;
+  return LOG_FORMS[asked === 'auto' && ending ? ending[1] : asked];
 }
 
 // The octets of a file in UTF-8.
@@ -52,7 +55,7 @@ class Found {
   add(verdict) {
     const { line, kind, reason } = verdict;
     if (kind === LOG_KINDS.says || kind === LOG_KINDS.possible) this.addFrames(verdict);
-    else if (kind === LOG_KINDS.damaged) this.messages.addBad(line, REASONS[reason], true);
+    else if (kind === LOG_KINDS.damaged) this.messages.addBad(line, `damaged: ${REASONS[reason]}: ${this.textOf(line).slice(0, LONGEST_SHOWN)}`);
     else if (kind === LOG_KINDS.passedOver && this.form !== LOG_FORMS.auto) this.messages.addBad(line);
     else if (kind === LOG_KINDS.passedOver) this.passed[reason] += 1;
   }
