@@ -152,7 +152,7 @@ FITS = 'const it = document.documentElement; return it.scrollWidth - it.clientWi
 # Of the message in a row: whether it is a card whose words are seen whole, and no wider than the screen.
 CARD = """const row = document.querySelector(arguments[0]), words = row.querySelector(".words"), box = row.getBoundingClientRect();
 return [box.left >= 0 && box.right <= innerWidth, box.height > 40, words.scrollWidth <= words.clientWidth,
-words.getBoundingClientRect().top >= row.querySelector(".way").getBoundingClientRect().bottom]"""
+Math.round(words.getBoundingClientRect().top) >= Math.round(row.querySelector(".way").getBoundingClientRect().bottom)]"""
 SHEET = """const it = document.querySelector(".detail"), box = it.getBoundingClientRect();
 return [it.open, it.open && document.elementFromPoint(innerWidth / 2, innerHeight - 20).closest(".detail") === it, box.bottom === innerHeight && box.top < innerHeight]"""
 
