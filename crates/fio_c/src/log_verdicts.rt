@@ -30,7 +30,7 @@ fn add(verdict: &Verdict, reader: &Reader, batch: &mut LogBatch)
 {
     let frames = add_frames(reader, batch);
     let places = add_places(reader, batch);
-    batch.push_verdict(flat_from(verdict, frames, places));
+    batch.push_verdict(told_from(verdict, frames, places));
 }
 
 /// Adds the frames of the last verdict, and returns how many they are.
@@ -66,7 +66,7 @@ fn add_places(reader: &Reader, batch: &mut LogBatch) -> u32
 }
 
 /// Returns a verdict as C sees it.
-fn flat_from(verdict: &Verdict, frames: u32, places: u32) -> LogVerdict
+fn told_from(verdict: &Verdict, frames: u32, places: u32) -> LogVerdict
     ensures { result ≡ flat_verdict verdict.now frames places }
 {
     LogVerdict {
