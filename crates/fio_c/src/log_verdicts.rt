@@ -8,8 +8,11 @@ use fio_log::{Kind, Place, Reader, Reason, Verdict};
 
 /// Puts the verdicts that are due into a batch, until it has no room for another one.
 pub(crate) fn fill(reader: &mut Reader, batch: &mut LogBatch)
-    ensures { (first : ℕ) → HasVerdicts first batch.old reader.old.told
+    ensures verdicts { (first : ℕ) → HasVerdicts first batch.old reader.old.told
         → HasVerdicts first batch.new reader.new.told }
+    ensures making { reader.new.making ≡ reader.old.making }
+    ensures read { reader.new.read ≡ reader.old.read }
+    ensures is_ended { reader.new.is_ended ≡ reader.old.is_ended }
 {
     'verdicts: for _ in 0..LOG_VERDICTS {
         if !batch.has_room() {
