@@ -32,7 +32,11 @@
 mod chains;
 mod checks;
 mod clock;
+mod deciding;
 mod digits;
+mod entries;
+mod joins;
+mod judge;
 pub mod laws;
 mod lines;
 mod literals;
@@ -40,12 +44,15 @@ mod marks;
 mod messages;
 mod numbers;
 mod octets;
+mod openings;
 mod places;
+mod queue;
 mod reader;
 mod runs;
 mod said;
 mod sayings;
 mod shapes;
+mod styles;
 mod verdict;
 mod ways;
 
