@@ -392,6 +392,16 @@ impl Entry {
         }
     }
 
+    /// Returns what one of its lines is, and why it gave no frame.
+    pub(crate) fn verdict(&self, line: u64) -> (Kind, Reason) {
+        match self.state {
+            State::Passed(kind, reason) => (kind, reason),
+            State::Waiting => (Kind::PassedOver, Reason::ShortMessage),
+            _ if line == self.from => (Kind::Frames, Reason::None),
+            _ => (Kind::Part, Reason::None),
+        }
+    }
+
     /// Returns whether it is nothing but one message.
     pub(crate) fn is_bare(&self) -> bool {
         match self.kept.as_slice() {

@@ -53,6 +53,7 @@ mod said;
 mod sayings;
 mod shapes;
 mod styles;
+mod telling;
 mod verdict;
 mod ways;
 
