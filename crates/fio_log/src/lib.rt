@@ -32,16 +32,21 @@
 mod checks;
 mod clock;
 mod digits;
+mod directions;
+mod glance;
 pub mod laws;
+mod line_runs;
 mod lines;
 mod literals;
 mod marks;
+mod masks;
 mod numbers;
 mod octets;
 mod places;
 mod runs;
 mod said;
 mod sayings;
+mod surroundings;
 mod ways;
 
 pub use checks::frame_check;
