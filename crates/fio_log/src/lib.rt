@@ -42,6 +42,7 @@ mod marks;
 mod masks;
 mod numbers;
 mod octets;
+mod offsets;
 mod places;
 mod runs;
 mod said;

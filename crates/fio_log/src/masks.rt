@@ -10,6 +10,13 @@ fn summed(sum: u64, character: u8) -> u64 {
     (sum ^ u64::from(character)).wrapping_mul(FACTOR)
 }
 
+/// Returns the sum of a text.
+pub(crate) fn sum_of(text: &[u8]) -> u64 {
+    let mut mask = Mask::new();
+    mask.add_all(text);
+    mask.sum()
+}
+
 /// Sums a text character by character. Each word that has a digit counts as `0`, capitals as small letters, several
 /// blanks as one, and those at the ends as none.
 #[derive(Clone, Copy)]
@@ -61,7 +68,7 @@ impl Mask {
     }
 
     /// Reads all characters of a text.
-    pub(crate) fn add_all(&mut self, text: &[u8]) {
+    fn add_all(&mut self, text: &[u8]) {
         for character in text {
             self.add(*character);
         }

@@ -1,7 +1,7 @@
 //! What surrounds a run in its line.
 ghost use Rattle.std.specs.Prelude.{◌≤◌, length};
 
-use crate::masks::Mask;
+use crate::masks::{Mask, sum_of};
 
 /// The part of a line that is its time; empty at its end if it has none.
 #[derive(Clone, Copy, Debug)]
@@ -69,10 +69,8 @@ pub(crate) fn read_after(text: &[u8], octets: &[u8]) -> After {
     } else {
         within_separators(text)
     };
-    let mut mask = Mask::new();
-    mask.add_all(rest);
     After {
-        sum: mask.sum(),
+        sum: sum_of(rest),
         has_tail: has_tail(text),
         is_last: rest.is_empty(),
     }
