@@ -2,3 +2,4 @@ pub mod Standing
 pub mod WrittenLemmas
 pub mod SayingLemmas
 pub mod ReadingLemmas
+pub mod RunLemmas

@@ -1,6 +1,8 @@
 //! Octets on several lines: a dump, the rows of a message, or rows of one octet.
 use crate::chains::{CHAIN_OCTETS, Chain};
 use crate::entries::Around;
+use crate::octets::Octets;
+use crate::offsets::{OffsetRow, offset_row};
 use crate::said::{LineRuns, Said};
 use crate::sayings::{Saying, read_saying};
 use crate::shapes::{Shapes, front_key};
@@ -84,15 +86,20 @@ impl Join {
 
     /// Begins with the first row, and returns whether there was room for it.
     pub(crate) fn begin(&mut self, joining: Joining, said: &Said, time: Option<u64>) -> bool {
-        self.joining = joining;
-        self.around = Around::of(said);
-        self.chain.clear();
-        self.rows.clear();
-        self.width = said.octets.len();
-        self.is_bad = false;
-        self.is_same = false;
+        self.clear(joining, Around::of(said), said.octets.len());
         self.is_begun = matches!(said.saying, Saying::Begins { .. });
         self.add(said, time)
+    }
+
+    /// Begins with no row.
+    fn clear(&mut self, joining: Joining, around: Around, width: usize) {
+        self.joining = joining;
+        self.around = around;
+        self.chain.clear();
+        self.rows.clear();
+        self.width = width;
+        self.is_bad = false;
+        self.is_same = false;
     }
 
     /// Appends a row, and returns whether there was room for it.
@@ -102,14 +109,19 @@ impl Join {
 
     /// Appends where a row is written, and returns whether there was room for it.
     fn add_place(&mut self, said: &Said, time: Option<u64>) -> bool {
-        let Some(length) = said.end.checked_sub(said.start) else {
-            return false;
-        };
-        let (Ok(start), Ok(length)) = (u16::try_from(said.start), u16::try_from(length)) else {
-            return false;
-        };
         self.last = said.octets.len();
         self.time = time;
+        self.add_row(said.start, said.end)
+    }
+
+    /// Appends the characters of a row, and returns whether there was room for them.
+    fn add_row(&mut self, start: usize, end: usize) -> bool {
+        let Some(length) = end.checked_sub(start) else {
+            return false;
+        };
+        let (Ok(start), Ok(length)) = (u16::try_from(start), u16::try_from(length)) else {
+            return false;
+        };
         self.rows.try_push(Row { start, length }).is_ok()
     }
 
@@ -220,14 +232,42 @@ impl Join {
         }
     }
 
-    /// Begins with the first row of a dump, and returns whether a line is one.
-    pub(crate) fn begin_dump(&mut self, _text: &[u8]) -> bool {
-        false
+    /// Begins with the first row of a dump; `None` if a line is none. Returns whether it has octets.
+    pub(crate) fn begin_dump(&mut self, text: &[u8]) -> Option<bool> {
+        let mut octets = Octets::new();
+        let row = offset_row(text, &mut octets)?;
+        if !row.offset.may_be(0) {
+            return None;
+        }
+        let around = Around {
+            shape: row.shape,
+            has_before: true,
+            ..Default::default()
+        };
+        self.clear(Joining::Dump, around, octets.len());
+        Some(row.has_octets && self.add_dump_row(&octets, row))
     }
 
     /// Reads the next line as a row of the dump.
-    pub(crate) fn dump_line(&mut self, _text: &[u8]) -> Going {
-        Going::No
+    pub(crate) fn dump_line(&mut self, text: &[u8]) -> Going {
+        let mut octets = Octets::new();
+        match offset_row(text, &mut octets) {
+            Some(row) if row.offset.may_be(self.chain.octets().len() as u64) => {
+                if !row.has_octets {
+                    Going::Over
+                } else if self.add_dump_row(&octets, row) {
+                    Going::On
+                } else {
+                    Going::No
+                }
+            }
+            _ => Going::No,
+        }
+    }
+
+    /// Appends a row of a dump, and returns whether there was room for it.
+    fn add_dump_row(&mut self, octets: &Octets, row: OffsetRow) -> bool {
+        self.chain.extend(octets.as_slice()) && self.add_row(row.start, row.end)
     }
 }
 

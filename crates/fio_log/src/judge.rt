@@ -177,8 +177,8 @@ impl Judge {
 
     /// Returns whether a line may go on in the next one, and begins with it.
     fn opens(&mut self, line: Line, runs: &LineRuns) -> bool {
-        if self.join.begin_dump(line.text) {
-            return true;
+        if let Some(is_open) = self.join.begin_dump(line.text) {
+            return is_open;
         }
         if let Some(row) = first_row(runs) {
             return self.join.begin(Joining::Rows, row, runs.time);

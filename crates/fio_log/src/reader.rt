@@ -5,9 +5,10 @@ ghost use Rattle.fio_log.specs.Sayings.{spells};
 ghost use Rattle.fio_log.specs.Telling.{HasNoMore, HasTaken, HasTold, read_after};
 
 use crate::judge::{Judge, Line};
+use crate::line_runs::read_line;
 use crate::lines::LineMaker;
 use crate::places::Place;
-use crate::said::{LineRuns, read_line};
+use crate::said::LineRuns;
 use crate::telling::Frames;
 use crate::verdict::{Form, Verdict};
 use std::marker::Model;
@@ -134,11 +135,7 @@ impl Reader {
             text: self.maker.octets(),
             is_long: self.maker.is_long(),
         };
-        if line.is_long {
-            self.runs.clear();
-        } else {
-            read_line(line.text, &mut self.runs);
-        }
+        read_line(if line.is_long { &[] } else { line.text }, &mut self.runs);
         self.is_held = !self.judge.goes_on(line, &self.runs);
         self.refresh();
     }
@@ -186,8 +183,8 @@ impl Reader {
         }
         self.told += 1;
         let told = self.judge.tell(self.told, &mut self.frames);
-        self.is_ready =
-            self.told < self.read && (self.is_ended || self.judge.is_decided(self.told + 1));
+        self.is_ready = self.told < self.read
+            && (self.is_ended || self.judge.is_decided(self.told + 1));
         Some(Verdict {
             line: self.told,
             kind: told.kind,
