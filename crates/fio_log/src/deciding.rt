@@ -335,6 +335,7 @@ impl Judge {
             self.is_news |= self.shapes.learn(whole, around.ways);
         }
         self.settle(slot, State::Chain);
+        self.chain = Some(slot);
         self.judge(slot);
         self.give_up_all();
     }

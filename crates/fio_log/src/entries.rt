@@ -1,8 +1,9 @@
 //! Entries: lines of a log that stand or fall together, and what of them is kept until that is decided.
+use crate::directions::Direction;
 use crate::joins::Row;
 use crate::messages::{Brief, Message, has_open_length};
 use crate::places::Notation;
-use crate::said::{Direction, LITERAL_MARK, NUMBERS_MARK, Said, Shape};
+use crate::said::{LITERAL_MARK, NUMBERS_MARK, Said, Shape};
 use crate::sayings::Saying;
 use crate::shapes::{Shapes, front_key, whole_key};
 use crate::verdict::{Kind, Reason};

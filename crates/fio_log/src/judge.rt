@@ -32,7 +32,16 @@ pub(crate) struct Line<'a> {
     pub is_long: bool,
 }
 
-impl Line<'_> {
+impl<'a> Line<'a> {
+    /// Returns the characters whose runs are read: none of a line that is too long.
+    pub(crate) fn read_part(&self) -> &'a [u8] {
+        if self.is_long {
+            &self.text[..0]
+        } else {
+            self.text
+        }
+    }
+
     /// Returns whether it has nothing but blanks.
     fn is_blank(&self) -> bool {
         !self.is_long && self.text.iter().all(|octet| octet.is_ascii_whitespace())
@@ -56,6 +65,8 @@ pub(crate) struct Judge {
     pub seen: ArrayVec<Seen, LINE_RUNS>,
     /// The slot of the entry whose lines may go on.
     pub open: Option<usize>,
+    /// The slot of the entry whose frames are those of the chain.
+    pub chain: Option<usize>,
     /// How many frames were taken.
     pub count: u64,
     /// Whether there was a line that is not a bare message.
@@ -83,6 +94,7 @@ impl Judge {
             },
             seen: ArrayVec::new(),
             open: None,
+            chain: None,
             count: 0,
             has_others: false,
             is_news: false,
@@ -178,16 +190,34 @@ impl Judge {
     /// Returns whether a line may go on in the next one, and begins with it.
     fn opens(&mut self, line: Line, runs: &LineRuns) -> bool {
         if let Some(is_open) = self.join.begin_dump(line.text) {
+            self.forget_chain();
             return is_open;
         }
         if let Some(row) = first_row(runs) {
+            self.forget_chain();
             return self.join.begin(Joining::Rows, row, runs.time);
         }
         match last_run(runs) {
             Some(row) if is_octet_row(row, runs, &self.shapes) => {
+                self.forget_chain();
                 self.join.begin(Joining::Octets, row, runs.time)
             }
             _ => false,
+        }
+    }
+}
+
+impl Judge {
+    /// Forgets the frames of the chain, whose octets are no longer kept: its verdict was fetched, or is lost.
+    fn forget_chain(&mut self) {
+        let Some(slot) = self.chain else {
+            return;
+        };
+        self.chain = None;
+        if let Some(entry) = self.queue.get_mut(slot)
+            && entry.state == State::Chain
+        {
+            entry.state = State::Passed(Kind::PassedOver, Reason::TooLong);
         }
     }
 }

@@ -65,10 +65,10 @@ pub(crate) fn read_line(line: &[u8], runs: &mut LineRuns)
     };
     let glance = Glance::of(line);
     let mut octets = Octets::new();
-    find_words(line, glance, &mut octets, &mut finder, runs);
     if glance.has_any(b"\"'[({<") {
         find_in_brackets(line, &mut octets, &mut finder, runs);
     }
+    find_words(line, glance, &mut octets, &mut finder, runs);
     keep_lone(line, &mut octets, &mut finder, runs);
 }
 
@@ -85,8 +85,8 @@ fn find_words(
 {
     for mark in 0..LITERAL_MARK {
         if glance.may_have(MARKS[usize::from(mark)]) {
-            find_marked(line, mark, false, octets, finder, runs);
             find_marked(line, mark, true, octets, finder, runs);
+            find_marked(line, mark, false, octets, finder, runs);
         }
     }
 }
@@ -233,6 +233,17 @@ fn is_later(found: Found, start: usize, end: usize) -> bool {
     found.end > end || found.end == end && found.start < start
 }
 
+/// Returns whether a run is within a longer one that is kept.
+fn is_covered(found: Found, runs: &LineRuns) -> bool {
+    for said in runs.said.as_slice() {
+        let is_longer = said.start < found.start || found.end < said.end;
+        if said.start <= found.start && found.end <= said.end && is_longer {
+            return true;
+        }
+    }
+    false
+}
+
 /// Appends a run to those that are kept, if there is room.
 fn push(
     line: &[u8],
@@ -248,7 +259,7 @@ fn push(
     ensures { All (IsSaidIn line.now) runs.new.said.items }
 {
     if runs.said.is_full() {
-        runs.is_over = true;
+        runs.is_over |= !is_covered(found, runs);
         return;
     }
     let text = &line[..found.start];

@@ -96,14 +96,18 @@ impl Reader {
         if self.is_ready || self.is_ended || self.read == u64::MAX || octets.is_empty() {
             return 0;
         }
+        self.judge_held();
         let count = self.maker.take(octets);
         if self.maker.is_whole() {
             self.read_line();
+        } else {
+            self.refresh();
         }
         count
     }
 
-    /// Ends the log: the line that is made is its last one, if it has octets. Then each line has its verdict.
+    /// Ends the log: the line that is made is its last one, if it has octets. Then each line has its verdict. Of the verdicts
+    /// that can be fetched before, one with several frames of several lines may be lost: it is fetched as `TooLong`.
     pub fn end(&mut self)
         ensures ended { self.new.is_ended ≡ true }
         ensures line { self.old.is_ended ≡ false → self.old.read < u64.MAX
@@ -112,18 +116,21 @@ impl Reader {
         ensures told { self.new.told ≡ self.old.told }
     {
         if !self.is_ended && self.read < u64::MAX {
+            self.judge_held();
             self.maker.finish();
             if self.maker.is_whole() {
                 self.read_line();
             }
         }
         self.is_ended = true;
+        self.is_ready = self.told < self.read;
         self.refresh();
     }
 
     /// Reads the line that is whole.
     fn read_line(&mut self)
-        requires { self.old.read < u64.MAX }
+        requires room { self.old.read < u64.MAX }
+        requires open { self.old.is_ended ≡ false }
         ensures line { self.new.making ≡ self.old.making }
         ensures read { self.new.read ≡ self.old.read + 1 }
         ensures told { self.new.told ≡ self.old.told }
@@ -135,9 +142,27 @@ impl Reader {
             text: self.maker.octets(),
             is_long: self.maker.is_long(),
         };
-        read_line(if line.is_long { &[] } else { line.text }, &mut self.runs);
+        read_line(line.read_part(), &mut self.runs);
         self.is_held = !self.judge.goes_on(line, &self.runs);
         self.refresh();
+    }
+
+    /// Judges the line that is held.
+    fn judge_held(&mut self)
+        ensures line { self.new.making ≡ self.old.making }
+        ensures read { self.new.read ≡ self.old.read }
+        ensures told { self.new.told ≡ self.old.told }
+        ensures ended { self.new.is_ended ≡ self.old.is_ended }
+    {
+        if self.is_held {
+            self.is_held = false;
+            let line = Line {
+                number: self.read,
+                text: self.maker.octets(),
+                is_long: self.maker.is_long(),
+            };
+            self.judge.begin(line, &self.runs);
+        }
     }
 
     /// Judges the line that is held, and after the end what waits, once no verdict is left to be fetched; then finds
@@ -153,14 +178,8 @@ impl Reader {
             return;
         }
         let next = self.told + 1;
-        if self.is_held && !self.judge.is_decided(next) {
-            self.is_held = false;
-            let line = Line {
-                number: self.read,
-                text: self.maker.octets(),
-                is_long: self.maker.is_long(),
-            };
-            self.judge.begin(line, &self.runs);
+        if !self.judge.is_decided(next) {
+            self.judge_held();
         }
         self.judge.give_up_old();
         if self.is_ended && !self.judge.is_decided(next) {
