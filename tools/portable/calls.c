@@ -63,7 +63,6 @@ SAME(size_of_content_checker, sizeof(struct fio2070_content_checker), 632);
 SAME(size_of_counter, sizeof(struct fio2070_counter), 12);
 SAME(size_of_filters, sizeof(struct fio2070_filters), 216);
 SAME(size_of_sized_module, sizeof(struct fio2070_sized_module), 1056);
-SAME(size_of_log_reader, sizeof(struct fio2070_log_reader), 393216);
 SAME(size_of_log_batch, sizeof(struct fio2070_log_batch), 565264);
 SAME(size_of_slot, sizeof(struct fio2070_slot), 3);
 SAME(size_of_outputs, sizeof(struct fio2070_outputs), 16);

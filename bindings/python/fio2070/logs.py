@@ -1,7 +1,8 @@
 """The reader of logs: the frames of the link in a log of any logger."""
 
+import itertools
 import struct
-from typing import Iterator, List, NamedTuple, Optional, Tuple
+from typing import List, NamedTuple, Optional, Tuple
 
 from . import _library as c
 from . import constants
@@ -47,8 +48,8 @@ class LogReader:
     def read(self, octets: Octets) -> List[Verdict]:
         """Takes the next octets of the log, and returns the verdicts that are due, in the order of the lines. A line gets its
         verdict once it is decided, which can be lines later."""
-        octets, verdicts = bytes(octets), []
-        taken = 0
+        octets, taken = bytes(octets), 0
+        verdicts: List[Verdict] = []
         while taken < len(octets):
             piece = octets[taken:] if taken else octets
             taken += c.library.fio2070_log_read(self._reader, piece, len(piece), self._batch)
@@ -65,17 +66,18 @@ class LogReader:
                 return verdicts
             verdicts += self._told()
 
-    def _told(self) -> Iterator[Verdict]:
+    def _told(self) -> List[Verdict]:
         """The verdicts of the batch."""
-        batch = self._batch
+        batch, verdicts = self._batch, []
         lengths = iter(batch.lengths[:batch.frame_count])
         places = _PLACE.iter_unpack(self._places[:_PLACE.size * batch.place_count])
         octets, end = bytes(self._octets[:batch.octet_count]), 0
         for line, time, frame_count, place_count, kind, reason, has_time in _VERDICT.iter_unpack(
                 self._verdicts[:_VERDICT.size * batch.verdict_count]):
             frames = []
-            for _ in range(frame_count):
-                begin, end = end, end + next(lengths)
+            for length in itertools.islice(lengths, frame_count):
+                begin, end = end, end + length
                 frames.append(octets[begin:end])
-            yield Verdict(line, _KINDS[kind], _REASONS[reason], tuple(frames),
-                          tuple(next(places) for _ in range(place_count)) if place_count else (), time if has_time else None)
+            verdicts.append(Verdict(line, _KINDS[kind], _REASONS[reason], tuple(frames),
+                                    tuple(itertools.islice(places, place_count)), time if has_time else None))
+        return verdicts

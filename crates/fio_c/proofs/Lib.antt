@@ -9,3 +9,4 @@ mod Rings
 mod Replies
 pub mod Batches
 pub mod Lent
+pub mod TakenOctets

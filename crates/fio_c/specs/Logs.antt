@@ -3,7 +3,7 @@ use Rattle.std.specs.Prelude.{◌≡◌, ℕ, ◌+◌, ◌≤◌, ◌<◌, ◌-�
 use Rattle.std.specs.List.{All, concat, sum_by}
 use Rattle.fio_message.specs.Bits.{bit_of}
 use Rattle.fio_log.specs.Sayings.{spells}
-use Rattle.fio_log.specs.Lines.{finished, no_line}
+use Rattle.fio_log.specs.Lines.{Text, finished, lines_after, no_line, only}
 use Rattle.fio_log.specs.Telling.{Telling, read_after}
 use Rattle.fio_log.specs.declared.verdict.Kind.{Kind}
 use Rattle.fio_log.specs.declared.verdict.Kind.TheVariants as kinds
@@ -102,7 +102,15 @@ pub record HasEnded (before after : Telling) : Type 0 where
       before.is_ended ≡ false → before.read < 2 ^ 64 - 1
       → (after.making ≡ finished before.making) × (after.read ≡ read_after before.read after.making)
 
+-- A reader has taken octets: they made these lines whole, which are read, and the line that is made.
+pub record HasTakenAll (before : Telling) (octets : List ℕ) (after : Telling) : Type 0 where
+  pub whole : List Text
+  pub lines : lines_after (only before.making) octets ≡ record { whole = whole; making = after.making }
+  pub read : after.read ≡ before.read + length whole
+  pub is_ended : after.is_ended ≡ before.is_ended
+
 -- A reader has taken so many octets of a text, and has told all verdicts that are in a batch.
 pub record HasRead (before : Telling) (text : List ℕ) (taken : ℕ) (after : Telling) (batch : LogBatch) : Type 0 where
   pub within : taken ≤ length text
+  pub octets : HasTakenAll before (take taken text) after
   pub verdicts : HasVerdicts before.told batch after.told

@@ -8,8 +8,11 @@ use fio_log::{Kind, Place, Reader, Reason, Verdict};
 
 /// Puts the verdicts that are due into a batch, until it has no room for another one.
 pub(crate) fn fill(reader: &mut Reader, batch: &mut LogBatch)
-    ensures { (first : ℕ) → HasVerdicts first batch.old reader.old.told
+    ensures verdicts { (first : ℕ) → HasVerdicts first batch.old reader.old.told
         → HasVerdicts first batch.new reader.new.told }
+    ensures making { reader.new.making ≡ reader.old.making }
+    ensures read { reader.new.read ≡ reader.old.read }
+    ensures is_ended { reader.new.is_ended ≡ reader.old.is_ended }
 {
     'verdicts: for _ in 0..LOG_VERDICTS {
         if !batch.has_room() {
@@ -30,7 +33,7 @@ fn add(verdict: &Verdict, reader: &Reader, batch: &mut LogBatch)
 {
     let frames = add_frames(reader, batch);
     let places = add_places(reader, batch);
-    batch.push_verdict(flat_from(verdict, frames, places));
+    batch.push_verdict(told_from(verdict, frames, places));
 }
 
 /// Adds the frames of the last verdict, and returns how many they are.
@@ -66,7 +69,7 @@ fn add_places(reader: &Reader, batch: &mut LogBatch) -> u32
 }
 
 /// Returns a verdict as C sees it.
-fn flat_from(verdict: &Verdict, frames: u32, places: u32) -> LogVerdict
+fn told_from(verdict: &Verdict, frames: u32, places: u32) -> LogVerdict
     ensures { result ≡ flat_verdict verdict.now frames places }
 {
     LogVerdict {

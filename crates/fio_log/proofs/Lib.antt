@@ -3,3 +3,4 @@ pub mod WrittenLemmas
 pub mod SayingLemmas
 pub mod ReadingLemmas
 pub mod OwnTextLemmas
+pub mod RunLemmas

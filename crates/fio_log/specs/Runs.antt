@@ -23,14 +23,17 @@ pub record AreWords (line : List ℕ) (start end : ℕ) (octets : List ℕ) : Ty
   pub within : end ≤ length line
   pub all : octets ≡ take RUN_OCTETS (octets_of (slice_range line start end))
 
--- A run stands in a line at or behind a place, and its octets are all those that its characters spell, up to the most
--- that are kept. Where the next one may begin is behind the place where it begins.
-pub record IsRun (line : List ℕ) (from : ℕ) (kept : List ℕ) (run : Run) : Type 0 where
+-- A run stands in a line at or behind a place. Where the next one may begin is behind the place where it begins.
+pub record IsSpan (line : List ℕ) (from : ℕ) (run : Run) : Type 0 where
   pub above : from ≤ run.start
   pub forward : run.start < run.next
   pub order : run.next ≤ run.end
   pub within : run.end ≤ length line
-  pub octets : kept ≡ take RUN_OCTETS (octets_of (slice_range line run.start run.end))
+
+-- A run stands in a line at or behind a place, and its octets are those that are written there.
+pub record IsRun (line : List ℕ) (from : ℕ) (kept : List ℕ) (run : Run) : Type 0 where
+  pub span : IsSpan line from run
+  pub words : AreWords line run.start run.end kept
 
 -- A string literal is in a line from a place to an end, and its octets are all its characters, between its quotes.
 pub record IsLiteral (line : List ℕ) (place : ℕ) (octets : List ℕ) (end : ℕ) : Type 0 where

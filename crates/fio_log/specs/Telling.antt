@@ -1,5 +1,5 @@
 -- What a reader has read of a log, and of which lines it has told.
-use Rattle.std.specs.Prelude.{◌≡◌, ℕ, ◌+◌, ◌≤◌, Bool, true, if◌then◌else◌, List, []}
+use Rattle.std.specs.Prelude.{◌≡◌, ℕ, ◌+◌, ◌≤◌, Bool, true, false, if◌then◌else◌, List, []}
 use Rattle.fio_log.specs.Lines.{Making, is_whole, lines_after, only, with_making}
 use Rattle.fio_log.specs.declared.verdict.Verdict.{Verdict}
 
@@ -33,3 +33,11 @@ pub record HasTold (before : Telling) (verdict : Verdict) (after : Telling) : Ty
   pub making : after.making ≡ before.making
   pub read : after.read ≡ before.read
   pub is_ended : after.is_ended ≡ before.is_ended
+
+-- A reader has no verdict to tell: nothing that it tells of has changed.
+pub record HasNoMore (before after : Telling) : Type 0 where
+  pub told : after.told ≡ before.told
+  pub making : after.making ≡ before.making
+  pub read : after.read ≡ before.read
+  pub is_ended : after.is_ended ≡ before.is_ended
+  pub is_ready : after.is_ready ≡ false

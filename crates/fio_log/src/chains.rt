@@ -118,6 +118,9 @@ impl Chain {
             is_sure |= next.is_sure;
             place = next.end;
         }
+        if self.parts.is_empty() {
+            return None;
+        }
         Some(is_sure)
     }
 }

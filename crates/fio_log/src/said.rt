@@ -1,7 +1,5 @@
 //! What one line of a log says: its runs of octets, what they say, and what judging needs of what surrounds them.
-ghost use Rattle.std.specs.List.{All};
-ghost use Rattle.fio_log.specs.Said.{IsSaidIn};
-
+use crate::directions::Direction;
 use crate::octets::Octets;
 use crate::places::Notation;
 use crate::sayings::Saying;
@@ -10,15 +8,6 @@ use arrayvec::ArrayVec;
 
 /// The most runs of a line that are kept.
 pub(crate) const LINE_RUNS: usize = 8;
-
-/// Who sends, by the words of a log.
-#[derive(Clone, Copy, Debug, PartialEq, Eq)]
-pub(crate) enum Direction {
-    /// The controller: `TX`, `SENT`, `OUT`, `WRITE`, `CPU` or `>`.
-    Command,
-    /// The module: `RX`, `RECEIVED`, `IN`, `READ`, `FIO` or `<`.
-    Answer,
-}
 
 /// The shape of a run: what surrounds it, without what differs between the lines of a log.
 ///
@@ -89,13 +78,4 @@ impl LineRuns {
             time: None,
         }
     }
-}
-
-/// Finds the runs of a line. A line with more octets than `LINE_OCTETS` is not looked at.
-pub(crate) fn read_line(line: &[u8], runs: &mut LineRuns)
-    ensures { All (IsSaidIn line.now) runs.new.said.items }
-{
-    runs.said.clear();
-    runs.is_over = false;
-    runs.time = None;
 }

@@ -1,4 +1,8 @@
 //! Ways of writing octets: how many digits the words have, and what separates them.
+ghost use Rattle.std.specs.Prelude.{◌<◌};
+
+use crate::literals::Literal;
+use crate::runs::{Run, Separator};
 
 /// A set of ways of writing, a bit each. Without any it is that of one word, which can be of all ways.
 ///
@@ -14,10 +18,53 @@ const TWO_DIGITS: u64 = 0x0011_1111_1111_1111;
 /// The bits of words of one or two digits.
 const ONE_DIGIT: u64 = 0x0088_8888_8888_8888;
 
+/// The bit of a single word that is not of two digits.
+const ONE_WORD: u64 = 1 << 56;
+
+/// The bit of literals that write printable characters as themselves.
+const PLAIN: u64 = 1 << 57;
+
+/// The bit of literals that write them as escapes.
+const ESCAPED: u64 = 1 << 58;
+
+/// The bit of several decimal numbers.
+const NUMBERS: u64 = 1 << 59;
+
 impl Ways {
-    /// Returns the set of some bits.
-    pub(crate) fn of(bits: u64) -> Ways {
-        Ways { bits }
+    /// Returns the ways that a run of hexadecimal words can be of.
+    pub(crate) fn of_run(run: Run) -> Ways {
+        let Some(separator) = run.separator else {
+            let bits = if run.width > 2 { ONE_WORD } else { 0 };
+            return Ways { bits };
+        };
+        let bits: u64 = match run.width {
+            2 if run.is_bare => 0b1001,
+            2 => 0b0001,
+            4 => 0b0010,
+            8 => 0b0100,
+            _ => 0b1000,
+        };
+        Ways {
+            bits: bits << (4 * index_of(separator)),
+        }
+    }
+
+    /// Returns the ways that a string literal can be of.
+    pub(crate) fn of_literal(literal: Literal) -> Ways {
+        Ways {
+            bits: match (literal.is_plain, literal.is_escaped) {
+                (true, _) => PLAIN,
+                (false, true) => ESCAPED,
+                (false, false) => PLAIN | ESCAPED,
+            },
+        }
+    }
+
+    /// Returns the ways that decimal numbers in brackets can be of.
+    pub(crate) fn of_numbers(count: usize) -> Ways {
+        Ways {
+            bits: if count > 1 { NUMBERS } else { 0 },
+        }
     }
 
     /// Returns whether a run with these ways can be of all ways.
@@ -51,5 +98,26 @@ impl Ways {
         Ways {
             bits: self.bits | other.bits & !doubtful,
         }
+    }
+}
+
+/// Returns the index of a separator, from 0 to 13. Blanks before a sign count as blanks after it.
+fn index_of(separator: Separator) -> u32
+    ensures { result < 14 }
+{
+    let sign = match separator.sign {
+        0 => return 0,
+        b' ' => return 1,
+        b'\t' => 2,
+        b',' => 4,
+        b';' => 6,
+        b':' => 8,
+        b'-' => 10,
+        _ => 12,
+    };
+    if separator.before || separator.behind {
+        sign + 1
+    } else {
+        sign
     }
 }

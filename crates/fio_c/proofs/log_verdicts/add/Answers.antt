@@ -9,4 +9,4 @@ returns c = λ first told has here.
     (flat_verdict c.args.verdict.now c.add_frames-frames.result c.add_places-places.result) has here
     c.add_frames-frames.ensures.more c.add_places-places.ensures.more
     (subst (λ verdict. (content : Content) → Holds c.add_places-places.new.batch content → Holds c.push_verdict.new.self (record content { verdicts = content.verdicts ++ verdict ∷ [] }))
-    c.flat_from.ensures c.push_verdict.ensures)
+    c.told_from.ensures c.push_verdict.ensures)
