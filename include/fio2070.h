@@ -765,7 +765,7 @@ struct fio2070_log_batch {
 
 /** A reader of a log. Its octets are the library's own. */
 struct fio2070_log_reader {
-    uint64_t words[49152];
+    uint64_t words[65536];
 };
 
 /** Begins a log, in a form of `enum fio2070_log_form`; any other number is FIO2070_LOG_AUTO. */
@@ -1119,7 +1119,7 @@ FIO2070_SAME(configured, sizeof(struct fio2070_configured) == 16 &&
              offsetof(struct fio2070_configured, reserved) == 1 &&
              offsetof(struct fio2070_configured, place) == 8);
 
-FIO2070_SAME(log_reader, sizeof(struct fio2070_log_reader) == 393216);
+FIO2070_SAME(log_reader, sizeof(struct fio2070_log_reader) == 524288);
 
 FIO2070_SAME(log_verdict, sizeof(struct fio2070_log_verdict) == 32 &&
              offsetof(struct fio2070_log_verdict, time) == 8 &&

@@ -409,7 +409,7 @@ private:
     ::fio2070_content_checker content_{};
 };
 
-/// A reader of a log, which takes its octets in pieces of any length. It is some 400 KB: make it static or on the heap.
+/// A reader of a log, which takes its octets in pieces of any length. It has half a megabyte: make it static or on the heap.
 class LogReader {
 public:
     explicit LogReader(::fio2070_log_form form = FIO2070_LOG_AUTO) {

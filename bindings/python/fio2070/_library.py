@@ -116,7 +116,7 @@ class CLogBatch(ctypes.Structure):
 
 class CLogReader(ctypes.Structure):
     """The octets of struct fio2070_log_reader."""
-    _fields_ = [('words', c_uint64 * 49152)]
+    _fields_ = [('words', c_uint64 * 65536)]
 
 
 class CFilters(ctypes.Structure):

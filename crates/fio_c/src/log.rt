@@ -15,7 +15,7 @@ use crate::log_verdicts::fill;
 use fio_log::{Form, Reader};
 
 /// How many words of 64 bits a reader has room in.
-const LOG_READER_WORDS: usize = 49_152;
+const LOG_READER_WORDS: usize = 65_536;
 
 /// A reader of logs, or room for one. Its octets are the library's own.
 #[derive(Clone, Copy)]

@@ -12,7 +12,7 @@ export const SIZE = {
   contentBreach: 4,
   fault: 16,
   configured: 16,
-  logReader: 393216,
+  logReader: 524288,
   logVerdict: 32,
   logPlace: 16,
   logBatch: 565264,

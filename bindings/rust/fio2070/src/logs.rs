@@ -2,7 +2,7 @@
 
 use crate::raw::{self, LogPlace, LogVerdict, RawLogBatch, RawLogReader};
 
-/// A reader of a log, which takes its octets in pieces of any length. It is some 400 KB: keep it in a static or a box.
+/// A reader of a log, which takes its octets in pieces of any length. It has half a megabyte: keep it in a static or a box.
 pub struct LogReader(RawLogReader);
 
 impl LogReader {

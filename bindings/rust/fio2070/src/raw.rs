@@ -226,7 +226,7 @@ macro_rules! opaque {
 opaque! {
     RawContentChecker: 79,
     RawFilters: 27,
-    RawLogReader: 49152,
+    RawLogReader: 65536,
     RawSizedModule: 132,
 }
 
