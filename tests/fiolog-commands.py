@@ -304,11 +304,13 @@ def check_plot(check, folder):
 
 
 def fault_of_following():
-    """`decode` answers each line at once, as with `tail -f`."""
+    """`decode` answers each line at once, as with `tail -f`, but a short one of a form that nothing has made sure."""
     command = subprocess.Popen([sys.executable, '-m', 'fiolog', 'decode', '-q'], stdin=subprocess.PIPE,
                                stdout=subprocess.PIPE, env=ENVIRONMENT)
     try:
-        for line, expected in [(b'TX 36 05\n', b'poll block 5'), (b'RX B6 05 00 00 00 00 00 01\n', b'block 5 entries 0')]:
+        command.stdin.write(b'TX 36 04\n')
+        for line, expected in [(b'RX B6 04 00 00 00 00 00 01\n', b'poll block 4'), (b'', b'block 4 entries 0'), (b'TX 36 05\n', b'poll block 5'),
+                               (b'RX B6 05 00 00 00 00 00 01\n', b'block 5 entries 0'), (b'TX 36 06\n', b'poll block 6')]:
             command.stdin.write(line)
             command.stdin.flush()
             found = command.stdout.readline()
