@@ -1,6 +1,6 @@
 #!/usr/bin/env python3
 """Many logs: `fiolog check` and `stats` of several files, what their summaries say is not judged, and summaries in Python, which
-add: of parts of a log, of files side by side, and by Dask over 500 files. Last line: `N passed, M failed`."""
+can be added: of parts of a log, of files side by side, and by Dask over 500 files. Last line: `N passed, M failed`."""
 
 import json
 import os
@@ -16,7 +16,7 @@ from support.check import Check
 from support.fiolog import ENVIRONMENT, fiolog, use_library
 from support.pages import text_of
 
-# A round each: a poll, and a block with one entry of input 12, each 10 ms; and the round with an answer that is lost.
+# One round each: a poll, and a block with one entry of input 12, 10 ms apart; and the round with an answer that is lost.
 START = '> 33020c05030d0503\n< b300\n'
 ROUNDS = ['> 36%02x\n< b6%02x01%s%04x00%08x\n' % (number, number, ('0c', '8c')[number % 2], 10 * number + 9, 10 * number + 10)
           for number in range(20)]
@@ -26,13 +26,14 @@ FILES = 500
 
 
 def counted(summary):
-    """What a summary counts, as two are compared."""
+    """What a summary counts, for the comparison of two."""
     return summary.counts.in_short(), summary.counts.entries, dict(summary.counts.types), summary.counts.responses.at(0.5), \
         summary.lines, dict(summary.broken), dict(summary.left_out)
 
 
 def check_parts(check):
-    """A log that is cut where all is answered sums to the whole; a path, a file and pieces of any length are the same log."""
+    """A log that is cut where everything is answered sums to the whole; a path, a file and pieces of any length are the same
+    log."""
     from fiolog.summary import Summary, summary_of
     whole = START + ''.join(ROUNDS)
     octets = whole.encode()

@@ -1,7 +1,7 @@
 #!/bin/sh
-# Installs with `make install` into a new folder, runs what is there, looks for its manual pages and its
-# completions, and takes it away with `make uninstall`. Without the Rattle kit the program is not installed. The
-# last line is `N passed, M failed`.
+# Installs with `make install` into a new folder, runs what is installed, looks for its manual pages and its completions, and
+# removes it with `make uninstall`. Without the Rattle kit the program is not installed. The last line is `N passed, M
+# failed`.
 
 . "$(dirname -- "$(readlink -f -- "$0")")/support/check.sh"
 
@@ -48,7 +48,7 @@ is_empty() {
     [ -z "$(find "$1" ! -type d)" ]
 }
 
-# has_pages PREFIX: each command has a manual page, or is one of fio2070-tools.1, and each page is of a command.
+# has_pages PREFIX: each command has a manual page, or is one of fio2070-tools.1, and each page belongs to a command.
 has_pages() {
     pages=$1/share/man/man1
     for file in "$1"/bin/*; do
@@ -68,19 +68,19 @@ runs_alone() {
     env -i PATH="$folder/bin:/usr/bin:/bin" "$@" --help
 }
 
-# is_whole FOLDER: no link of the folder hangs.
+# is_whole FOLDER: no link of the folder dangles.
 is_whole() {
     find "$1" -type l ! -exec test -e '{}' ';' -print | grep . && return 1
     return 0
 }
 
-# without_library: `make install` where there is no shared library puts no fiolog in place, and says so.
+# without_library: if there is no shared library, `make install` installs no fiolog, and says so.
 without_library() {
     run_make install-tools shared= PREFIX="$room/bare" >said && [ ! -e "$room/bare/bin/fiolog" ] &&
         [ ! -e "$room/bare/share/man/man1/fiolog.1" ] && grep -q 'fiolog is not installed' said
 }
 
-# Of a folder whose name has a blank, with PREFIX alone.
+# For a folder whose name has a blank, with PREFIX alone.
 prefix="$room/a folder"
 first 'make install' run_make install PREFIX="$prefix"
 cp "$room/log" "$room/installing"
@@ -139,7 +139,7 @@ first 'make uninstall' run_make uninstall PREFIX="$prefix"
 holds 'nothing is left' is_empty "$prefix"
 first 'make uninstall where nothing is' run_make uninstall PREFIX="$prefix"
 
-# Of a package, whose files are put below DESTDIR.
+# For a package, whose files are put below DESTDIR.
 first 'make install for a package' run_make install DESTDIR="$room/package" PREFIX=/usr
 holds 'fiolog of the package' runs_alone "$room/package/usr" "$room/package/usr/bin/fiolog"
 first 'make uninstall of a package' run_make uninstall DESTDIR="$room/package" PREFIX=/usr

@@ -1,7 +1,8 @@
 #!/usr/bin/env python3
-"""The page that `make page` writes without a pointer, and in older browsers, in headless Chromium, with `--all` in Firefox too:
-the role and the name that each control has in the browser's accessibility tree; that the key Tab reaches each, with a mark around it;
-and what is said where the browser has no memory of 64 bits, or passes no numbers of 64 bits. Last line: `N passed, M failed`."""
+"""The page that `make page` writes without a pointer, and in older browsers, in headless Chromium, with `--all` in Firefox
+too: the role and the name that each control has in the browser's accessibility tree; that the key Tab reaches each, with a
+mark around it; and what is said if the browser has no memory of 64 bits, or passes no numbers of 64 bits. Last line: `N
+passed, M failed`."""
 
 import os
 import shutil
@@ -13,23 +14,23 @@ sys.dont_write_bytecode = True
 
 from support.browsers import ELEMENT, browsers, running
 from support.check import Check
-from support.tables import HAS_KIT, TOP
+from support.opened import PAGE
+from support.tables import TOP
 
-PAGE = os.path.join(TOP, 'fio2070.html' if HAS_KIT else 'dist/fio2070.html')
 VIEWS = ('open', 'messages', 'inputs', 'plan', 'play')
 CONTROLS = 'button, input, select, textarea, summary, a[href], [tabindex="0"]'
-# The role of a control, by its element and type, where it has no role of its own. Firefox has no name for that of a summary.
+# The role of a control, by its element and type, if it has no role of its own. Firefox has no name for that of a summary.
 ROLES = {'button': {'button'}, 'select': {'combobox'}, 'textarea': {'textbox'}, 'input search': {'searchbox'},
          'input range': {'slider'}, 'input file': {'button'}, 'input number': {'spinbutton'}, 'summary': {'DisclosureTriangle', ''}}
 OWN_ROLES = {'tab': 'tab', 'grid': 'grid', 'application': 'application', 'img': 'image', 'group': 'group'}
-# What a control is, in words; nothing where it is not seen.
+# What a control is, in words; nothing if it is not seen.
 KIND = '''const it = arguments[0]; if (!it.checkVisibility()) return "";
 return (it.getAttribute("role") || it.localName + (it.localName === "input" ? " " + it.type : "")) + "|" + it.outerHTML.slice(0, 100)'''
 # Numbers each control that a key can reach, and says how many they are.
 NUMBER = '''let count = 0; document.querySelectorAll("[data-stop]").forEach((it) => delete it.dataset.stop);
 document.querySelectorAll(arguments[0]).forEach((it) => { if (it.checkVisibility() && !it.disabled && it.tabIndex >= 0) it.dataset.stop = String(count++); });
 document.querySelector("[data-stop]").focus(); return count'''
-# Of the control that has the focus: its number, and whether a mark is around it.
+# For the control that has the focus: its number, and whether a mark is around it.
 FOCUS = '''const it = document.activeElement, style = getComputedStyle(it);
 return [it.dataset.stop === undefined ? -1 : Number(it.dataset.stop), style.outlineStyle !== "none" && parseFloat(style.outlineWidth) > 0]'''
 UNNUMBERED = 'return [...document.querySelectorAll("[data-stop]")].filter((it) => !arguments[0].includes(Number(it.dataset.stop))).map((it) => it.outerHTML.slice(0, 100))'
@@ -39,13 +40,19 @@ def opened(browser, query=''):
     """The page with an example that breaks a rule, and a message of it that is selected."""
     browser.open('file://' + PAGE + query)
     browser.wait('return document.documentElement.dataset.bits')
-    browser.click('[data-example="near-entries.transcript"]')
-    browser.wait('return document.documentElement.dataset.opened')
+    show_near_entries(browser)
     browser.click('#row-5')
 
 
+def show_near_entries(browser):
+    """Opens an example that breaks a rule."""
+    browser.run('document.getElementById("more-examples").open = true')
+    browser.click('[data-example="near-entries.transcript"]')
+    browser.wait('return document.documentElement.dataset.opened')
+
+
 def fault_of_control(browser, found):
-    """What is wrong with the role or the name of a control; nothing where all is right."""
+    """What is wrong with the role or the name of a control; nothing if all is right."""
     kind, _, text = browser.run(KIND, {ELEMENT: found}).partition('|')
     if not kind:
         return None
@@ -73,7 +80,7 @@ def check_keys(check, browser, kind):
     for view in VIEWS:
         browser.click('#tab-' + view)
         count, reached, unmarked = browser.run(NUMBER, CONTROLS), [0], []
-        # No further than the last one: behind it the browser has the focus.
+        # No further than the last one: after it the browser has the focus.
         while count - 1 not in reached and len(reached) < count + 3:
             browser.press('tab')
             number, is_marked = browser.run(FOCUS)
@@ -81,6 +88,11 @@ def check_keys(check, browser, kind):
             unmarked += [] if is_marked or number < 0 else [number]
         check.equal('controls that Tab does not reach in the view %s in %s' % (view, kind), [], browser.run(UNNUMBERED, reached))
         check.equal('controls without a mark in the view %s in %s' % (view, kind), [], unmarked)
+    browser.click('#tab-open')
+    browser.run('document.querySelector("[data-example]").focus()')
+    browser.press('enter')
+    check.equal('an example that a key opens takes the focus to its view in %s' % kind, 'tab-messages', browser.run('return document.activeElement.id'))
+    browser.click('#tab-play')
     browser.run('document.querySelector("[data-input=\'5\']").focus()')
     browser.press('enter')
     check.equal('a key changes an input in %s' % kind, 'false',
@@ -94,7 +106,7 @@ const isWide = (octets) => { let at = 8; const number = () => { let value = 0, b
   while (at < octets.length) { const kind = octets[at++], size = number(); if (kind === 5) { number(); return (octets[at] & 4) !== 0; } at += size; } return false; };
 WebAssembly.instantiate = (octets, given) => isWide(octets) ? Promise.reject(new WebAssembly.CompileError('no memory of 64 bits'))
   : real.call(WebAssembly, octets, given); }'''
-# One that passes no numbers of 64 bits to WebAssembly.
+# A browser that passes no numbers of 64 bits to WebAssembly.
 NO_NUMBERS_64 = '''{ const real = WebAssembly.instantiate; WebAssembly.instantiate = async (octets, given) => {
   const made = await real.call(WebAssembly, octets, given), exports = {};
   const refuse = (call) => (...words) => { if (words.some((it) => typeof it === 'bigint')) throw new TypeError('cannot pass a BigInt'); return call(...words); };
@@ -105,7 +117,7 @@ VERSIONS = ('too old', 'Chromium', '97', 'Firefox', '102', 'Safari', '16')
 
 
 def older(browser, folder, script, query=''):
-    """The page in a browser that this script makes older: the words of its trouble, once it has tried to start."""
+    """The page in a browser that this script makes older: the text of its trouble, after it has tried to start."""
     with open(PAGE, encoding='utf-8') as file:
         page = file.read()
     begin = "<script>\n'use strict';"
@@ -125,8 +137,7 @@ def check_older(check, browser, kind, folder):
         check.equal('without memory of 64 bits the other build runs in %s' % kind, ('32', ''),
                     (browser.run('return document.documentElement.dataset.bits'), seen))
         check.holds('and the footer says so in %s' % kind, 'wasm-opt' in browser.run('return document.getElementById("proved").textContent'))
-        browser.click('[data-example="near-entries.transcript"]')
-        browser.wait('return document.documentElement.dataset.opened')
+        show_near_entries(browser)
         check.equal('and judges in %s' % kind, 1, browser.run('return document.querySelectorAll(".line.broken").length'))
     else:
         check.skip('the other build in %s' % kind, 'no wasm-opt here (Debian package binaryen)')
@@ -134,6 +145,56 @@ def check_older(check, browser, kind, folder):
     check.holds('where no build runs the page says it in %s' % kind, all(word in seen for word in (*VERSIONS, 'no memory of 64 bits')), seen)
     seen = older(browser, folder, NO_NUMBERS_64)
     check.holds('without numbers of 64 bits too in %s' % kind, all(word in seen for word in (*VERSIONS, 'cannot pass a BigInt')), seen)
+
+
+# A phone's width and height, as those of a frame in a page: a browser's window is never so narrow.
+PHONE = '<!DOCTYPE html><style>body { margin: 0 } iframe { border: 0; width: 360px; height: 740px; display: block }</style><iframe src="file://%s"></iframe>'
+FITS = 'const it = document.documentElement; return it.scrollWidth - it.clientWidth'
+# Of the message in a row: whether it is a card whose words are seen whole, and no wider than the screen.
+CARD = """const row = document.querySelector(arguments[0]), words = row.querySelector(".words"), box = row.getBoundingClientRect();
+return [box.left >= 0 && box.right <= innerWidth, box.height > 40, words.scrollWidth <= words.clientWidth,
+Math.round(words.getBoundingClientRect().top) >= Math.round(row.querySelector(".way").getBoundingClientRect().bottom)]"""
+SHEET = """const it = document.querySelector(".detail"), box = it.getBoundingClientRect();
+return [it.open, it.open && document.elementFromPoint(innerWidth / 2, innerHeight - 20).closest(".detail") === it, box.bottom === innerHeight && box.top < innerHeight]"""
+
+
+def on_phone(browser, folder):
+    """The page on a phone."""
+    path = os.path.join(folder, 'phone.html')
+    with open(path, 'w', encoding='utf-8') as file:
+        file.write(PHONE % PAGE)
+    browser.open('file://' + path)
+    browser.ask('POST', 'frame', 'WebDriver:SwitchToFrame', {'id': 0})
+    browser.wait('return document.documentElement.dataset.bits')
+
+
+def check_phone(check, browser, kind, folder):
+    """On a phone a message is a card; a tap shows the detail over the list, a key and a button close it; the footer is small."""
+    browser.size(800, 900)
+    on_phone(browser, folder)
+    check.equal('the width of a phone in %s' % kind, 360, browser.run('return innerWidth'))
+    footer = browser.run('return document.querySelector("footer").offsetHeight')
+    check.holds('the footer takes less than a fifteenth of a phone in %s' % kind, footer * 15 < 740, footer)
+    show_near_entries(browser)
+    check.equal('a message is a card in %s' % kind, [True] * 4, browser.run(CARD, '#row-5'))
+    check.equal('no sheet is over the list at first in %s' % kind, [False, False], browser.run(SHEET)[:2])
+    browser.run('document.querySelector("#row-5").scrollIntoView({ block: "center" })')
+    browser.click('#row-5')
+    check.equal('a tap shows the detail over the list in %s' % kind, [True] * 3, browser.run(SHEET))
+    says = browser.run('return document.querySelector(".detail").textContent')
+    check.holds('which says the rule in %s' % kind, 'Breaks apart: input 12' in says, says)
+    browser.click('#sheet-before')
+    check.equal('a button goes to the message above in %s' % kind, 'Line 6', browser.run('return document.querySelector(".detail h2").textContent'))
+    browser.press('escape')
+    check.equal('a key closes it in %s' % kind, [False, 'grid'], browser.run('return [document.querySelector(".detail").open, document.activeElement.getAttribute("role")]'))
+    browser.press('enter')
+    check.equal('a key opens it in %s' % kind, True, browser.run(SHEET)[0])
+    browser.click('#sheet-close')
+    check.equal('and a button closes it in %s' % kind, False, browser.run(SHEET)[0])
+    for view in VIEWS:
+        browser.click('#tab-' + view)
+        check.holds('the view %s fits a phone in %s' % (view, kind), browser.run(FITS) <= 0, browser.run(FITS))
+    browser.size(1280, 900)
 
 
 def main():
@@ -145,6 +206,7 @@ def main():
             opened(browser)
             check_roles(check, browser, kind.name)
             check_keys(check, browser, kind.name)
+            check_phone(check, browser, kind.name, folder)
             check_older(check, browser, kind.name, folder)
     check.end()
 

@@ -2,7 +2,7 @@
 """Drives the page that `make page` writes, in headless Chromium, with `--all` in Firefox too, as a person would: the examples give what
 `show`, `check` and `simulate` give, letter for letter; 100,000 messages open within two seconds and scroll; hostile files
 change nothing but the table; the views follow pointer and keys; the planning table is that of docs/PLANNING.md. With
-`--pictures` the pictures of tools/page/ are taken anew. Last line: `N passed, M failed`."""
+`--pictures` the pictures of tools/page/, and that of *Play* in docs/pictures/, are taken anew. Last line: `N passed, M failed`."""
 
 import glob
 import os
@@ -16,16 +16,18 @@ import time
 
 sys.dont_write_bytecode = True
 
+from support import page_views
 from support.browsers import KEYS, Chromium, browsers, running
 from support.check import Check
 from support.damage import DAMAGED
 from support.loggers import LOGGERS
+from support.opened import CELLS, OPEN_ALL, PAGE, RANGE, TROUBLE, address, example, is_message, opened, saved, text_of
 from support.sessions import SESSION, timed
 from support.strangers import PASSED, READ
-from support.tables import HAS_KIT, TOP, output_of
+from support.tables import TOP, output_of
 
-PAGE = os.path.join(TOP, 'fio2070.html' if HAS_KIT else 'dist/fio2070.html')
 PICTURES = os.path.join(TOP, 'tools', 'page')
+PLAYED_PICTURE = os.path.join(TOP, 'docs', 'pictures', 'play.png')
 MOST_OCTETS = 400_000
 MANY = 100_000
 MOST_SECONDS = 2
@@ -36,58 +38,12 @@ ARROWS = {'>': '→ module', '<': '← CPU'}
 # How many octets a row shows.
 SHOWN_OCTETS = 40
 
-TROUBLE = 'return document.getElementById("trouble").textContent'
-CLOSE = 'delete document.documentElement.dataset.opened'
-OPENED = 'return document.documentElement.dataset.opened === arguments[0]'
-# The text that the button saves, caught on its way to a file.
-SAVE = '''const made = URL.createObjectURL; window.saved = null;
-URL.createObjectURL = (blob) => { blob.text().then((text) => { window.saved = text; }); return made.call(URL, blob); };
-HTMLAnchorElement.prototype.click = () => {};
-document.getElementById(arguments[0]).click(); URL.createObjectURL = made;'''
-CELLS = '''return [...document.querySelectorAll(".line:not([hidden])")].sort((a, b) => a.ariaRowIndex - b.ariaRowIndex)
-.map((row) => [...row.children].map((cell) => cell.textContent))'''
-# Opens texts one after the other, as files that were chosen: `window.tables` has the cells of each.
-OPEN_ALL = '''window.tables = null; const [texts] = arguments, input = document.getElementById("file"), root = document.documentElement;
-const opened = async (text) => { delete root.dataset.opened; const chosen = new DataTransfer(); chosen.items.add(new File([text], "log.txt"));
-    input.files = chosen.files; input.dispatchEvent(new Event("change"));
-    while (!root.dataset.opened) await new Promise((done) => setTimeout(done)); return cells(); };
-const cells = () => { %s; };
-(async () => { const tables = []; for (const text of texts) tables.push(await opened(text)); window.tables = tables; })();''' % CELLS
+# The kind of the verdict, and the first rule that it names with its line.
+VERDICT = '''const it = document.getElementById("verdict"), found = /[Ll]ine (\\d+) breaks the rule (\\w+)/.exec(it.textContent);
+return [it.dataset.kind, found && found[1], found && found[2]]'''
 NAMES = '''return [...document.querySelectorAll("button, input, select, textarea, [role], [tabindex='0']")].filter((it) =>
 !(it.getAttribute("aria-label") || it.getAttribute("aria-labelledby") || it.textContent.trim()
 || ["presentation", "status", "alert"].includes(it.getAttribute("role")))).map((it) => it.outerHTML)'''
-
-
-def address(query=''):
-    return 'file://' + PAGE + query
-
-
-def text_of(name):
-    with open(os.path.join(TOP, 'examples', name), encoding='latin-1') as file:
-        return file.read()
-
-
-def example(browser, name):
-    """Opens an example by its button."""
-    browser.click('#tab-open')
-    browser.run(CLOSE)
-    browser.click('[data-example="%s"]' % name)
-    browser.wait(OPENED, name)
-
-
-def saved(browser, button='save'):
-    """The text that a button saves."""
-    browser.run(SAVE, button)
-    browser.wait('return window.saved !== null')
-    return browser.run('return window.saved')
-
-
-def opened(browser, path):
-    """Opens a file as one that was chosen."""
-    browser.click('#tab-open')
-    browser.run(CLOSE)
-    browser.type('#file', path)
-    browser.wait(OPENED, os.path.basename(path))
 
 
 def frames_of(text):
@@ -120,12 +76,19 @@ def contrast(one, other):
 def check_contrast(check, page):
     """Each pair of colours in which words are written, in both themes (WCAG 2: 4.5 to 1)."""
     pairs = [(ink, back) for ink in ('ink', 'soft', 'accent', 'bad', 'warn', 'good') for back in ('back', 'panel', 'lane')]
-    pairs += [('bad', 'bad-back'), ('ink', 'warn-back'), ('ink', 'bad-back'), ('soft', 'bad-back'), ('ink', 'accent-back'),
+    pairs += [('good', 'good-back'), ('ink', 'good-back'), ('warn', 'warn-back'), ('bad', 'bad-back'), ('ink', 'warn-back'), ('ink', 'bad-back'), ('soft', 'bad-back'), ('ink', 'accent-back'),
               ('soft', 'accent-back'), ('accent', 'accent-back'), ('mark-ink', 'mark'), ('panel', 'accent')]
     for theme, block in zip(('light', 'dark'), re.findall(r':root[^{]*\{([^}]*--ink[^}]*)\}', page)):
         colours = dict(re.findall(r'--([\w-]+): (#[0-9a-f]{6})', block))
         low = [pair for pair in pairs if contrast(colours[pair[0]], colours[pair[1]]) < CONTRAST]
         check.equal('the contrast of the %s theme' % theme, [], low)
+
+
+def expected_verdict(base, recorded):
+    """What the page is to say first of a transcript: what `check` says, and `record` of the entries."""
+    verdict = text_of(os.path.splitext(base)[0] + '.verdict')
+    found = re.search(r'^line (\d+) (?:input \d+ )?breaks (\w+)$', verdict + recorded, re.M)
+    return ['broken', *found.groups()] if found else ['good' if verdict.startswith('good') else 'partly', None, None]
 
 
 def check_examples(check, browser, name):
@@ -138,10 +101,8 @@ def check_examples(check, browser, name):
         expected = text_of(shown) if has_shown else output_of('show', frames_of(text_of(base)))[0]
         check.equal('%s in %s' % (base, name), expected, saved(browser))
         if base.endswith('.transcript'):
-            verdict = text_of(os.path.splitext(base)[0] + '.verdict')
-            check.equal('the verdict on %s in %s' % (base, name), verdict,
-                        browser.run('return document.getElementById("verdict").textContent') + '\n')
             recorded = output_of('record', text_of(base))[0]
+            check.equal('the verdict on %s in %s' % (base, name), expected_verdict(base, recorded), browser.run(VERDICT))
             browser.click('#tab-inputs')
             check.equal('the record of %s in %s' % (base, name), recorded, saved(browser, 'save-record'))
             browser.click('#show-record')
@@ -192,15 +153,10 @@ def check_loggers(check, browser, name, folder):
 
 
 def seen(way, digits):
-    """The direction and the octets of a frame as a row shows them. Where the log says no direction, that of the type."""
+    """The direction and the octets of a frame as a row shows them. If the log says no direction, it is that of the type."""
     octets = bytes.fromhex(digits)
     own = '<' if octets[0] >= 128 else '>'
     return [ARROWS[own if way == '-' else way], octets[:SHOWN_OCTETS].hex() + '…' * (len(octets) > SHOWN_OCTETS)]
-
-
-def is_message(row):
-    """Whether a row has a message, and no line or octets that are none."""
-    return row[3] != 'bad line' and not re.match('wrong length|unknown|empty', row[3])
 
 
 def check_strangers(check, browser, name):
@@ -225,7 +181,7 @@ def check_fields(check, browser, name):
     browser.type('.rows', KEYS['home'] + KEYS['down'])
     check.equal('the keys select a row in %s' % name, 'Line 3', browser.run('return document.querySelector(".detail h2").textContent'))
     browser.type('#search', 'block 0')
-    browser.wait('return document.querySelectorAll(".line:not([hidden])").length === 2')
+    browser.wait('return document.querySelectorAll(".line").length === 2')
     check.equal('the search in %s' % name, ['5', '6'], [row[0] for row in browser.run(CELLS)])
     browser.type('#tab-messages', KEYS['right'])
     check.equal('a key goes to the next view in %s' % name, 'tab-inputs', browser.run('return document.activeElement.id'))
@@ -238,8 +194,7 @@ def many_messages(path):
         for number in range(MANY // 2):
             stamp += 10
             entries = b''
-            for _ in range(chosen.choice((0, 1, 2, 20))):
-                place = chosen.randrange(64)
+            for place in sorted(chosen.sample(range(64), chosen.choice((0, 1, 2, 20)))):
                 state[place] ^= 1
                 entries += bytes([place | state[place] << 7]) + ((stamp - 5) & 0xffff).to_bytes(2, 'big')
             block = bytes([182, number & 255, len(entries) // 3]) + entries + b'\0' + stamp.to_bytes(4, 'big')
@@ -282,6 +237,7 @@ def check_many(check, browser, name, folder):
     print('%s: %d messages open in %.2f s' % (name, MANY, seconds))
     check.holds('%d messages open within %d s in %s' % (MANY, MOST_SECONDS, name), seconds < MOST_SECONDS, seconds)
     check.equal('their number in %s' % name, '100,000 messages', browser.run('return document.querySelector("[data-fact=messages]").textContent'))
+    check.equal('their verdict in %s' % name, 'good', browser.run('return document.getElementById("verdict").dataset.kind'))
     passes = scrolled(browser)
     work, step, _ = min(passes)
     print('%s: the longest frame of a pass over all rows has %.1f ms of work, and takes %.1f ms' % (name, work, step))
@@ -329,7 +285,7 @@ def check_hostile(check, browser, name, folder):
 
 
 def check_damaged(check, browser, name, folder):
-    """Each kind of damage is refused or remarked, as fiolog does."""
+    """Each kind of damage is refused or remarked on, as by fiolog."""
     for title, text, count, words in DAMAGED:
         path = os.path.join(folder, title)
         with open(path, 'w', encoding='utf-8') as file:
@@ -339,10 +295,6 @@ def check_damaged(check, browser, name, folder):
         note = browser.run('return document.getElementById("note").textContent')
         check.equal('%s in %s' % (title, name), (count, True), (len(read), ' may be damaged: ' in note or ' is refused: ' in note
                                                                 or 'any length' in note or 'in each row' in note or 'a digit that is lost' in note or len(browser.run(CELLS)) > count or not words))
-
-
-# The first and the last millisecond that are seen.
-RANGE = 'return document.getElementById("range").textContent.match(/-?\\d+/g).map(Number)'
 
 
 def check_touch(check, browser, name, folder):
@@ -454,14 +406,8 @@ def check_play(check, browser, name):
 
 
 def check_access(check, browser, name):
-    """Names of what can be used, and room on a phone."""
+    """Names of what can be used."""
     check.equal('each control has a name in %s' % name, [], browser.run(NAMES))
-    browser.size(360, 760)
-    for view in ('open', 'messages', 'inputs', 'plan', 'play'):
-        browser.click('#tab-' + view)
-        wide = browser.run('const it = document.documentElement; return it.scrollWidth - it.clientWidth')
-        check.holds('the view %s fits a narrow screen in %s' % (view, name), wide <= 0, wide)
-    browser.size(1280, 900)
 
 
 def check_browser(check, kind, folder):
@@ -485,12 +431,13 @@ def check_browser(check, kind, folder):
         check_plan(check, browser, kind.name)
         check_play(check, browser, kind.name)
         check_access(check, browser, kind.name)
+        page_views.rows(check, browser, kind.name, folder)
         check_old(check, browser, kind.name, folder)
     print('%s: %.0f s' % (kind.name, time.monotonic() - begun))
 
 
 def take_pictures(folder):
-    """The pictures of tools/page/, by Chromium."""
+    """The pictures of the page, by Chromium."""
     with running(Chromium) as browser:
         browser.size(1280, 800)
         browser.open(address())
@@ -506,12 +453,11 @@ def take_pictures(folder):
         browser.turn_wheel('#waves', -4000)
         browser.click('#waves')
         browser.picture(os.path.join(PICTURES, 'inputs.png'))
+        browser.size(1180, 1090)
         browser.click('#tab-play')
-        for selector in ('[data-input="5"]', '[data-input="12"]', '#scan', '#scan', '#scan', '#round', '[data-input="5"]', '#scan', '#scan',
-                         '#poll', '#to-module li:first-child button'):
-            browser.click(selector)
-        browser.run('document.querySelector("main").scrollTop = 0')
-        browser.picture(os.path.join(PICTURES, 'play.png'))
+        browser.click('[data-story="lost-answer.script"]')
+        browser.run('document.activeElement.blur(); document.querySelector("main").scrollTop = 0')
+        browser.picture(PLAYED_PICTURE)
 
 
 def main():

@@ -1,5 +1,5 @@
-// The limits, the names of the rules by their numbers, and what a breach of a rule on content means. Written by
-// tools/generate-constants.
+// The limits, the names of the rules by their numbers, and what a line does that breaks it, or what a breach
+// of a rule on content means. Written by tools/generate-constants.
 
 export const INPUTS = 64;
 export const BLOCK_ENTRIES = 255;
@@ -10,6 +10,18 @@ export const MOST_RECORD_ITEMS = 256;
 export const LONGEST_TEXT = 62;
 export const RULES = ['', 'readable', 'pair', 'number', 'advance', 'same', 'sequence', 'limits', 'rest', 'refusal'];
 export const CONTENT_RULES = ['', 'order', 'fresh', 'alternate', 'apart', 'ignored', 'state', 'clock', 'done', 'accepted', 'cleared', 'watchdog'];
+export const RULE_BREACHES = [
+  '',
+  'spells no message of its direction',
+  'is an answer, but not directly below a command whose type is 128 less',
+  'is a block answer with another number than the poll directly above',
+  'is a poll, not the first, with another number than the one due: that of the poll before, plus one modulo 256 if a block answer is directly below that poll',
+  'is a block answer with E, though the poll directly above has another number than the poll before that',
+  'is a block answer with G and E, or with G and a block answer before it',
+  'is a block answer with F and without C, or with C and a count other than 255, or with an input above 63',
+  'is a block answer without entries, and the block answer before it has C',
+  'is an answer 179 that says done (bit 0 is 0) to a configuration 51 that names an input above 63',
+];
 export const CONTENT_BREACHES = [
   '',
   'input {input} is not later than the entry above it: two are swapped, one is doubled, or the module restarted',

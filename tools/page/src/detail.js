@@ -1,12 +1,13 @@
 // One message whole: its words and octets, with what belongs together marked under the pointer and under the keys.
 
 import { BITS } from './bits.js';
+import { dateOf, laterWords } from './clocks.js';
 import { element } from './dom.js';
 import { fieldsOf, wordsIn } from './fields.js';
 import { hexText } from './hex.js';
 import { DIRECTION } from './messagelist.js';
 
-const WAYS = { [DIRECTION.none]: 'no direction', [DIRECTION.sent]: 'sent by the CPU', [DIRECTION.heard]: 'heard by the CPU' };
+const WAYS = { [DIRECTION.none]: 'No direction', [DIRECTION.sent]: 'Sent by the CPU', [DIRECTION.heard]: 'Heard by the CPU' };
 const LONGEST = 4096;
 
 // Marks the words and the octets of the same field.
@@ -57,7 +58,7 @@ function octetSpan(octet, index, names) {
 export function detailOf(log, place, textOf) {
   const head = element('h2', {}, `Line ${log.lines[place]}`);
   const way = element('p', { class: 'soft' }, WAYS[log.directions[place]] + timesOf(log, place));
-  const reason = log.reason(place) ? element('p', { class: 'reason' }, 'Breaks ' + log.reason(place)) : null;
+  const reason = log.reason(place) ? element('p', { class: 'reason' }, `Breaks ${log.reason(place)}.`) : null;
   const lines = log.words(place), octets = log.octets(place).slice(0, LONGEST);
   const all = wordsIn(lines);
   const isMessage = !log.isFaulty[place];
@@ -67,8 +68,10 @@ export function detailOf(log, place, textOf) {
   if (isMessage) new Fields(octetSpans, wordSpans, fields);
   const grid = element('div', { class: 'grid', role: 'group', 'aria-label': 'Octets', onkeydown: (event) => step(event, octetSpans) },
     ...octetSpans.flatMap((it) => [it, '\u200b']));
-  const content = log.contents.get(place);
-  return element('div', {}, head, way, reason, ...(isMessage ? bitsOf(octets[0], lines[0]) : []), linesWith(lines, wordSpans, content && content.entry >= 0 ? content.entry + 1 : -1), grid);
+  const content = log.content(place);
+  const broken = content && content.entry >= 0 ? content.entry + 1 : -1;
+  return element('div', {}, head, way, reason, ...(isMessage ? bitsOf(octets[0], lines[0]) : []), linesWith(lines, wordSpans, broken),
+    element('h3', {}, 'Octets'), grid);
 }
 
 // What the bits that are 1 say, of the flags or the status that the first line has.
@@ -94,7 +97,7 @@ function step(event, spans) {
 // The time of a message, and how long after the command above it came.
 function timesOf(log, place) {
   if (!log.hasTimes || Number.isNaN(log.times[place])) return '';
-  const text = `, at ${log.clocks[place]}`;
+  const date = dateOf(log.times[place]), text = `, at ${log.clocks[place]}${date && ' on ' + date}`;
   const isAnswer = place > 0 && log.directions[place] === DIRECTION.heard && log.directions[place - 1] === DIRECTION.sent;
-  return isAnswer ? text + `, ${((log.times[place] - log.times[place - 1]) * 1000).toFixed(3)} ms after the command` : text;
+  return isAnswer && !Number.isNaN(log.times[place - 1]) ? `${text}, ${laterWords(log.times[place - 1], log.times[place])}` : text;
 }

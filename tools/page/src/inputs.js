@@ -1,21 +1,27 @@
 // The view Inputs: the record of the log that is open as waveforms, moved by wheel, keys and touch.
 
 import { counted, element, say } from './dom.js';
-import { saveText } from './messages.js';
 import { contentLine, recordLines } from './record.js';
+import { saveText } from './save.js';
 import { Waves } from './waves.js';
 
-const HELP = 'Wheel or + and − zoom, dragging or ← → move, ↑ ↓ choose an input, . and , its next and last transition, Enter goes to its message, 0 shows all.';
+const HELP = 'The wheel or + and − zoom; dragging or ← → move; ↑ ↓ choose an input; . and , go to its next and last transition; Enter goes to its message; 0 shows all.';
+const TOUCH_HELP = 'A finger moves the times, two zoom, and a tap reads a transition.';
 const MOST_SHOWN = 2000;
-const LEGEND = [['×', 'warn', 'a poll without an answer'], ['↷', 'bad', 'a block that the CPU left out'],
-  ['▨', 'bad', 'a gap mark: entries are missing'],
-  ['◆', 'bad', 'an entry that breaks a rule on content']];
+// The signs, each with the test of a record that has it.
+const LEGEND = [['×', 'warn', 'a poll without an answer', (record) => record.lostPolls.length > 0],
+  ['↷', 'bad', 'a block that the CPU left out', (record) => record.skips.length > 0],
+  ['▨', 'bad', 'a gap mark: entries are missing', (record) => record.gaps.length > 0],
+  ['◆', 'bad', 'an entry that breaks a rule', (record) => record.broken.length > 0]];
 
 export class InputsView {
-  // `goTo(place)` shows a message.
-  constructor(root, goTo) {
+  // `goTo(place)` shows a message, `back()` the view Open.
+  constructor(root, goTo, back) {
     this.goTo = goTo;
-    this.note = element('p', { id: 'record-note' }, 'No log is open. Open one, or an example.');
+    this.note = element('p', { id: 'record-note' });
+    this.none = element('div', { class: 'none' }, element('h2', {}, 'No log is open'),
+      element('p', {}, 'Here each input of a log has a line: when it went on and off, and where changes are missing.'),
+      element('p', {}, element('button', { class: 'main', onclick: back }, 'Open a log or an example')));
     this.reading = element('p', { class: 'mono', id: 'reading', role: 'status' });
     this.canvas = element('canvas', { class: 'waves', id: 'waves', tabindex: '0', role: 'application', 'aria-label': 'Waveforms',
       'aria-describedby': 'waves-help' });
@@ -23,16 +29,16 @@ export class InputsView {
     this.waves = new Waves(this.head, this.canvas);
     this.buttons = element('div', { class: 'row controls' },
       this.button('Zoom in', () => this.waves.zoom(0.5)), this.button('Zoom out', () => this.waves.zoom(2)),
-      this.button('◀ Back', () => this.waves.pan(-0.4)), this.button('On ▶', () => this.waves.pan(0.4)),
-      this.button('All', () => this.waves.fit()), this.range = element('span', { class: 'soft mono', id: 'range' }));
+      this.button('◀ Earlier', () => this.waves.pan(-0.4)), this.button('Later ▶', () => this.waves.pan(0.4)),
+      this.button('Show all', () => this.waves.fit()), this.range = element('span', { class: 'soft mono', id: 'range' }));
     this.text = element('pre', { class: 'report', id: 'record-text', tabindex: '0', role: 'group', 'aria-label': 'The record as text' });
     this.shown = element('details', { class: 'record', ontoggle: () => this.drawText() },
       element('summary', { id: 'show-record' }, 'The record as text'), this.text,
       element('button', { id: 'save-record', onclick: () => saveText(this.log.name + '.record', this.recordText()) }, 'Save the record'));
-    root.append(this.note, this.buttons, this.reading, element('div', { class: 'wave-box' }, this.head, this.canvas),
-      element('p', { class: 'soft' }, ...LEGEND.flatMap(([sign, kind, words]) =>
-        [element('span', { class: kind }, sign), ` ${words}   `])),
-      element('p', { class: 'soft', id: 'waves-help' }, HELP), this.shown);
+    this.legend = element('p', { class: 'soft', id: 'legend' });
+    this.help = element('p', { class: 'soft', id: 'waves-help' }, matchMedia('(pointer: coarse)').matches ? TOUCH_HELP : HELP);
+    root.append(this.none, this.note, this.buttons, this.reading, element('div', { class: 'wave-box' }, this.head, this.canvas),
+      this.legend, this.help, this.shown);
     this.listen();
     this.setHidden(true);
     this.shown.hidden = true;
@@ -54,36 +60,40 @@ export class InputsView {
   }
 
   setHidden(isHidden) {
-    this.buttons.hidden = this.canvas.parentElement.hidden = isHidden;
+    for (const part of [this.buttons, this.reading, this.canvas.parentElement, this.legend, this.help]) part.hidden = isHidden;
   }
 
   open(log) {
     const { record } = this.log = log;
     this.waves.open(record);
+    this.none.hidden = true;
     this.setHidden(record.times.length === 0);
-    this.note.textContent = record.times.length === 0 ? 'This log has no block with entries that a CPU would take.'
-      : `The record of a CPU that heard this log, by the proved poller: `
-        + [counted(record.times.length, 'transition'), counted(this.waves.lanes.length, 'input'),
-          counted(record.gaps.length, 'gap mark'), counted(record.lostPolls.length, 'unanswered poll')].join(', ')
-        + `. Times are milliseconds of the module’s counter.` + this.brokenWords();
+    this.note.textContent = record.times.length === 0 ? 'No input changed in this log: it has no block with entries that a CPU would take.'
+      : `A CPU that heard this log has recorded ${counted(record.times.length, 'transition')} of ${counted(this.waves.lanes.length, 'input')}`
+        + `${record.gaps.length > 0 ? ` and ${counted(record.gaps.length, 'gap mark')}` : ''}. `
+        + `${record.lostPolls.length > 0 ? `${counted(record.lostPolls.length, 'poll')} had no answer. ` : ''}`
+        + `Times are milliseconds of the module’s counter.${this.brokenWords()}`;
+    this.legend.replaceChildren(...LEGEND.filter(([, , , test]) => test(record)).flatMap(([sign, kind, words]) =>
+      [element('span', { class: kind }, sign), ` ${words}   `]));
     this.canvas.setAttribute('aria-label', 'Waveforms of ' + this.note.textContent);
-    this.reading.textContent = '';
-    this.shown.hidden = !log.isJudged;
+    this.reading.textContent = 'Click or tap a transition to read it, and to go to its message.';
+    this.shown.hidden = !log.isOfCpu;
     this.shown.open = false;
     this.text.textContent = '';
     this.draw();
   }
 
-  // How many messages break a rule on content, and the first.
+  // The first entry or answer that breaks a rule on content.
   brokenWords() {
-    const { contents } = this.log, first = contents.keys().next();
-    return first.done ? '' : ` Messages that break a rule on content: ${contents.size}; the first: ${contentLine(this.log, first.value)}.`;
+    const first = [...this.log.breaches].find(([, breach]) => breach.isContent);
+    return first ? ` The first breach: ${contentLine(this.log, first[0])}.` : '';
   }
 
   draw() {
     if (!this.log || this.canvas.clientWidth === 0) return;
     this.waves.draw();
-    this.range.textContent = `${Math.round(this.waves.from)} to ${Math.round(this.waves.to)} ms`;
+    const { from, to, densest, bucket } = this.waves, dense = densest ? ` Dense lines: a full bar is ${counted(densest, 'change')} in ${bucket}.` : '';
+    this.range.textContent = `${Math.round(from)} to ${Math.round(to)} ms.${dense}`;
   }
 
   listen() {

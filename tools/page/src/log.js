@@ -1,26 +1,26 @@
 // A log that is open: its messages in the machine's memory, each decoded and judged once by the proved library, and
 // counts of what was found.
 
-import { CONTENT_BREACHES, CONTENT_RULES, RULES } from './constants.js';
-import { BLOCK, LOAD, POLL, STATUS_BITS } from './library.js';
+import { BLOCK, POLL, STATUS_BITS } from './library.js';
 import { DIRECTION } from './messagelist.js';
-import { wordsOf } from './words.js';
 import { recordOf } from './record.js';
+import { breachWords, ENDS, ruleOf, Rules } from './rules.js';
+import { verdictOf } from './verdict.js';
+import { wordsOf } from './words.js';
 
-// The last rule on content that an entry breaks.
-const LAST_OF_ENTRIES = CONTENT_RULES.indexOf('ignored');
-
-export const ENDS = { cpu: 'cpu', module: 'module', none: 'none' };
+const FIRST_ANSWER = 128;
+// The form in which the directions are those of the CPU's end.
+const TRANSCRIPT = 'transcript';
 
 export class Log {
-  // `read` is what readLog gives. `end` says where the log was taken: what was sent there is what the CPU sent or heard.
+  // `read` is what readLog gives. `end` says where the log was taken: what was sent there is what the CPU sent or heard. If it is
+  // `auto`, most directions say which end it was.
   constructor(library, arena, name, read, end) {
     const { messages } = read;
     Object.assign(this, { library, name, form: read.form, doubts: read.doubts, hasTimes: messages.clocks.some((clock) => clock !== '') });
     this.hasDirections = messages.directions.some((it) => it !== DIRECTION.none);
     Object.assign(this, { count: messages.count, starts: messages.starts, lengths: messages.lengths, lines: messages.lines,
       times: messages.times, clocks: messages.clocks });
-    this.end = this.hasDirections ? end : ENDS.none;
     this.arena = arena.hold(messages.octets.subarray(0, messages.end));
     this.poller = arena.poller;
     this.checker = arena.checker;
@@ -32,12 +32,15 @@ export class Log {
     this.stamps = new Uint32Array(this.count);
     this.isFaulty = new Uint8Array(this.count);
     this.breaches = new Map();
-    this.contents = new Map();
     this.decodeAll();
-    this.directions = this.directionsOf(messages.directions);
-    this.judgeAll();
+    this.written = messages.directions;
+    this.end = !this.hasDirections ? ENDS.bus : end !== ENDS.auto ? end
+      : this.form !== TRANSCRIPT && mostAreReversed(this) ? ENDS.module : ENDS.cpu;
+    this.directions = this.directionsOf(this.written);
+    this.judgeAll(messages.lost);
     this.record = recordOf(this);
     this.summary = summaryOf(this);
+    this.verdict = verdictOf(this);
   }
 
   address(place) {
@@ -79,59 +82,67 @@ export class Log {
     return Uint8Array.from({ length: this.count }, (_, place) => written[place] === DIRECTION.none ? own(place) : turned(written[place]));
   }
 
-  // Whether most directions are those of the other end.
-  get looksReversed() {
-    let agreeing = 0;
-    for (let place = 0; place < this.count; place++) {
-      if (this.codes[place] > 0) agreeing += (this.directions[place] === DIRECTION.heard) === this.codes[place] >= 128 ? 1 : -1;
-    }
-    return agreeing < 0;
+  // Where a message was logged: on the bus if nothing says who sent it.
+  endOf(place) {
+    return this.written[place] === DIRECTION.none ? ENDS.bus : this.end;
   }
 
-  // Whether the rules can be judged: they speak of what a CPU's end sent and heard.
-  get isJudged() {
-    return this.end !== ENDS.none;
+  // Whether the CPU sent or heard a message, as it is judged: by its first octet if nothing says it.
+  judgedWay(place) {
+    if (this.directions[place] !== DIRECTION.none) return this.directions[place];
+    return this.octets(place)[0] < FIRST_ANSWER ? DIRECTION.sent : DIRECTION.heard;
   }
 
-  judgeAll() {
-    if (!this.isJudged) return;
-    const { checker } = this, contents = new Contents(this);
-    checker.start();
-    for (let place = 0; place < this.count; place++) {
-      if (this.directions[place] === DIRECTION.none) continue;
-      const breach = checker.judge(this.directions[place] === DIRECTION.sent, this.address(place), this.lengths[place]);
-      if (breach) this.breaches.set(place, breach);
-      contents.judge(place, breach !== null);
-    }
-  }
-
-  // Why a message breaks a rule, in words; empty where it breaks none.
-  reason(place) {
-    const breach = this.breaches.get(place), content = this.contents.get(place);
-    if (content) {
-      const state = content.entry < 0 ? '' : this.octets(place)[3 + 3 * content.entry] >> 7;
-      return `${CONTENT_RULES[content.rule]}: `
-        + CONTENT_BREACHES[content.rule].replace('{input}', content.input).replace('{state}', state);
-    }
-    if (!breach) return '';
-    const due = breach.hasDue ? `: ${breach.due} was due, ${breach.got} came` : '';
-    return RULES[breach.rule] + due;
-  }
-
-  // Whether a message breaks a rule, of either kind.
-  isBroken(place) {
-    return this.breaches.has(place) || this.contents.has(place);
-  }
-
-  // What `check` says of the log, where it can be judged.
-  get verdict() {
-    if (!this.isJudged) return null;
+  // What `fio2070 check` says of a transcript, by the rules on messages alone.
+  get checkLine() {
     const bad = this.lengths.subarray(0, this.count).indexOf(0);
     if (bad >= 0) return `line ${this.lines[bad]}: bad line`;
-    const first = this.breaches.entries().next();
-    if (first.done) return `good ${this.count} frames`;
-    const [place, breach] = first.value;
-    return `line ${this.lines[place]} breaks ${RULES[breach.rule]}`;
+    const first = [...this.breaches].find(([, breach]) => !breach.isContent);
+    return first ? `line ${this.lines[first[0]]} breaks ${ruleOf(first[1])}` : `good ${this.count} frames`;
+  }
+
+  // Whether the log says what a CPU sent and heard, all through.
+  get isOfCpu() {
+    return this.hasDirections && this.end !== ENDS.bus;
+  }
+
+  // Judges each message; `lost` are the lines in which a frame was damaged on its way.
+  judgeAll(lost) {
+    const rules = new Rules(this);
+    this.badLines = 0;
+    for (let place = 0; place < this.count; place++) {
+      if (lost.has(place)) rules.lose();
+      if (this.isBadLine(place)) {
+        this.badLines += 1;
+        continue;
+      }
+      const breach = rules.judge(place);
+      if (breach) this.breaches.set(place, breach);
+    }
+    Object.assign(this, { excused: rules.excused, skipped: rules.skipped, withoutContent: rules.withoutContent });
+  }
+
+  // The breach of a rule on content of a message; undefined if it has none.
+  content(place) {
+    const breach = this.breaches.get(place);
+    return breach && breach.isContent ? breach : undefined;
+  }
+
+  // What the breach of a message means; empty if it breaks no rule.
+  meaning(place) {
+    const breach = this.breaches.get(place);
+    return breach ? breachWords(this, place, breach) : '';
+  }
+
+  // The rule that a message breaks, and what that means; empty if it breaks none.
+  reason(place) {
+    const breach = this.breaches.get(place);
+    return breach ? `${ruleOf(breach)}: ${this.meaning(place)}` : '';
+  }
+
+  // Whether a message breaks a rule.
+  isBroken(place) {
+    return this.breaches.has(place);
   }
 
   // Whether a message is a poll with no block answer directly below.
@@ -146,43 +157,14 @@ export class Log {
   }
 }
 
-// Judges by the rules on content, where those of `check` are kept: below a breach from the next poll on. A load of the counter
-// that was sent above still counts then.
-class Contents {
-  constructor(log) {
-    Object.assign(this, { log, checker: log.contentChecker, isOpen: true, load: -1 });
-    this.checker.start();
+// Whether most directions that a log says are those of the module's end.
+export function mostAreReversed(log) {
+  let agreeing = 0;
+  for (let place = 0; place < log.count; place++) {
+    if (log.codes[place] === 0 || log.written[place] === DIRECTION.none) continue;
+    agreeing += (log.written[place] === DIRECTION.heard) === log.codes[place] >= FIRST_ANSWER ? 1 : -1;
   }
-
-  judge(place, isBroken) {
-    const { log } = this;
-    if (isBroken) this.isOpen = false;
-    else if (log.directions[place] === DIRECTION.sent) this.send(place);
-    else if (this.isOpen) this.hear(place);
-  }
-
-  send(place) {
-    const { log } = this;
-    if (!this.isOpen && log.codes[place] === POLL) {
-      this.checker.start();
-      if (this.load >= 0) this.take(this.load);
-      this.isOpen = true;
-    }
-    if (log.codes[place] === LOAD) this.load = place;
-    if (this.isOpen) this.take(place);
-  }
-
-  take(place) {
-    this.checker.sent(this.log.address(place), this.log.lengths[place]);
-  }
-
-  hear(place) {
-    const { log } = this, found = this.checker.heard(log.address(place), log.lengths[place]);
-    if (!found) return;
-    // Entries are the last items of a block; a gap mark is above them. An answer and the end of a block have none.
-    const gaps = log.status[place] & STATUS_BITS.lost ? 1 : 0;
-    log.contents.set(place, { ...found, entry: found.rule <= LAST_OF_ENTRIES ? found.items - gaps : -1 });
-  }
+  return agreeing < 0;
 }
 
 function summaryOf(log) {
@@ -201,5 +183,5 @@ function summaryOf(log) {
       counts.gaps += log.status[place] & STATUS_BITS.lost ? 1 : 0;
     }
   }
-  return { ...counts, breaches: log.breaches.size, contents: log.contents.size };
+  return { ...counts, broken: log.breaches.size };
 }

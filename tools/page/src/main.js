@@ -56,17 +56,18 @@ function startViews(library) {
   const arena = new Arena(library);
   const patterns = new Patterns(FORMS), judge = new Judge(library);
   const tabs = new Tabs();
-  const messages = new MessagesView(byId('view-messages'), (octets) => wordsOf(library, library.place(octets), octets.length));
+  const messages = new MessagesView(byId('view-messages'), (octets) => wordsOf(library, library.place(octets), octets.length),
+    () => tabs.show('open'));
   const inputs = new InputsView(byId('view-inputs'), (place) => {
     tabs.show('messages');
     messages.goTo(place);
-  });
+  }, () => tabs.show('open'));
   tabs.whenShown((name) => name === 'inputs' && inputs.draw());
   const open = (name, octets, end) => {
     trouble('');
     const log = new Log(library, arena, name, readLog(textOf(octets), patterns, judge), end);
     tabs.show('messages');
-    messages.open(log);
+    messages.open(log, octets);
     inputs.open(log);
     document.documentElement.dataset.opened = name;
   };

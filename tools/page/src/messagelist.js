@@ -26,6 +26,8 @@ export class MessageList {
     this.directions = new Uint8Array(room);
     this.times = new Float64Array(room);
     this.clocks = [];
+    // The lines without octets in which the log shows that a frame was damaged on its way.
+    this.lost = new Set();
   }
 
   widen() {
@@ -57,8 +59,9 @@ export class MessageList {
     this.end += octets.length;
   }
 
-  // A line that cannot be read: a message without octets.
-  addBad(line) {
+  // A line that cannot be read: a message without octets. `isLost` says that a frame was damaged there on its way.
+  addBad(line, isLost = false) {
+    if (isLost) this.lost.add(this.count);
     this.begin(line, '', null, '');
   }
 }

@@ -1,11 +1,18 @@
-// The view Messages: a summary, a search, the table, and the message that is selected.
+// The view Messages: the verdict, what was counted, a search, the table, and the message that is selected.
 
-import { element, say, select, withCommas } from './dom.js';
+import { counted, element, say, select, withCommas } from './dom.js';
 import { detailOf } from './detail.js';
+import { kindOf, CAN_READ } from './foreign.js';
 import { hexText } from './hex.js';
 import { BLOCK, POLL, STATUS_BITS } from './library.js';
+import { mostAreReversed } from './log.js';
 import { DIRECTION } from './messagelist.js';
+import { hasNotes, noteOf } from './notes.js';
+import { ENDS } from './rules.js';
+import { saveText } from './save.js';
+import { Sheet } from './sheet.js';
 import { VirtualTable } from './table.js';
+import { VERDICTS } from './verdict.js';
 
 const ARROWS = { [DIRECTION.none]: '', [DIRECTION.sent]: '→ module', [DIRECTION.heard]: '← CPU' };
 const SHOWN_OCTETS = 40;
@@ -13,67 +20,102 @@ const SHOWN_OCTETS = 40;
 // What each fact of the summary counts, and the test of a message that it filters by.
 const FACTS = [
   ['messages', 'message', () => true],
-  ['polls', 'poll', (log, place) => log.codes[place] === POLL],
+  ['broken', 'breach', (log, place) => log.isBroken(place), 'bad'],
+  ['faults', 'faulty line', (log, place) => log.isFaulty[place] === 1, 'bad'],
+  ['gaps', 'gap mark', (log, place) => hasBit(log, place, STATUS_BITS.lost), 'bad'],
+  ['repeats', 'repeated block', (log, place) => hasBit(log, place, STATUS_BITS.again), 'warn'],
   ['unanswered', 'unanswered poll', (log, place) => log.isUnanswered(place), 'warn'],
+  ['polls', 'poll', (log, place) => log.codes[place] === POLL],
   ['blocks', 'block', (log, place) => log.codes[place] === BLOCK],
   ['entries', 'entry', (log, place) => log.entries[place] > 0],
-  ['repeats', 'repeated block', (log, place) => hasBit(log, place, STATUS_BITS.again), 'warn'],
-  ['gaps', 'gap mark', (log, place) => hasBit(log, place, STATUS_BITS.lost), 'bad'],
-  ['faults', 'faulty line', (log, place) => log.isFaulty[place] === 1, 'bad'],
-  ['breaches', 'breach', (log, place) => log.breaches.has(place), 'bad'],
-  ['contents', 'content breach', (log, place) => log.contents.has(place), 'bad'],
 ];
 
 const pluralOf = (noun) => noun.endsWith('y') ? noun.slice(0, -1) + 'ies' : noun.endsWith('h') ? noun + 'es' : noun + 's';
+const SIGNS = { good: '✓', partly: '✓', broken: '✗', none: '?' };
 const hasBit = (log, place, bit) => log.codes[place] === BLOCK && (log.status[place] & bit) !== 0;
 
 export class MessagesView {
-  constructor(root, textOf) {
-    this.root = root;
-    this.textOf = textOf;
+  // `textOf(octets)` gives the lines of a message, `back()` shows the view Open.
+  constructor(root, textOf, back) {
+    Object.assign(this, { root, textOf, back });
     this.filter = { fact: 'messages', way: '', text: '' };
-    this.facts = element('ul', { class: 'facts', 'aria-label': 'Summary' });
+    this.verdict = element('div', { id: 'verdict', class: 'verdict', role: 'status' });
+    this.facts = element('ul', { class: 'facts', 'aria-label': 'What the log has; each shows only those messages' });
     this.note = element('p', { class: 'soft', id: 'note' });
-    this.search = element('input', { type: 'search', id: 'search', placeholder: 'words or octets, such as input 12',
+    this.search = element('input', { type: 'search', id: 'search', placeholder: 'Search, such as input 12 or 36ff',
       'aria-label': 'Search in words and octets', oninput: () => this.searchSoon() });
-    this.way = select('Direction', [['', 'both directions'], ['1', 'sent by the CPU'], ['2', 'heard by the CPU']],
+    this.way = select('Show which direction', [['', 'Both directions'], ['1', 'Sent by the CPU'], ['2', 'Heard by the CPU']],
       (way) => this.narrow({ way }));
     this.count = element('span', { class: 'soft', role: 'status' });
-    this.detail = element('aside', { class: 'detail', 'aria-label': 'The selected message' });
-    this.table = new VirtualTable('Messages', this.columns(), (place) => this.draw(place), (place) => this.choose(place));
-    root.append(this.facts, this.note,
-      element('div', { class: 'row controls' }, this.search, this.way, this.count, this.textButton()),
-      element('div', { class: 'messages' }, this.table.root, this.detail));
-    this.empty();
+    this.sheet = new Sheet((by) => this.table.select(this.table.selected + by, true));
+    this.table = new VirtualTable('Messages', this.columns(), (place) => this.draw(place), (place, isOpened) => this.choose(place, isOpened));
+    this.none = element('div', { class: 'none', id: 'no-log' });
+    this.both = element('div', { class: 'messages' }, this.table.root, this.sheet.root);
+    this.parts = [this.verdict, this.facts, this.note,
+      element('div', { class: 'row controls' }, this.search, this.way, this.count, this.textButton()), this.both];
+    root.append(...this.parts, this.none);
+    this.showNone(element('h2', {}, 'No log is open'), element('p', {}, 'Here each message of a log has a row: its words, its octets, and the rule that it breaks.'));
+  }
+
+  // Says why there is no message to show.
+  showNone(head, says, ...more) {
+    this.parts.forEach((part) => { part.hidden = true; });
+    this.none.hidden = false;
+    this.none.replaceChildren(head, says,
+      element('p', {}, element('button', { class: 'main', onclick: () => this.back() }, 'Open a log or an example')), ...more);
   }
 
   columns() {
     return [{ head: 'Line', width: '3.6rem', kind: 'number' }, { head: 'Time', width: 'var(--time)', kind: 'time' },
-      { head: 'Direction', width: '5.2rem', kind: 'way' }, { head: 'Message', width: 'minmax(18rem, 1.6fr)', kind: 'words' },
-      { head: 'Rule', width: 'var(--rule)', kind: 'rule' }, { head: 'Octets', width: 'var(--octets)', kind: 'octets' }];
+      { head: 'Direction', width: '5.2rem', kind: 'way' }, { head: 'Message', width: 'var(--words)', kind: 'words' },
+      { head: 'Note', width: 'var(--rule)', kind: 'rule' }, { head: 'Octets', width: 'var(--octets)', kind: 'octets' }];
   }
 
   empty() {
-    this.detail.replaceChildren(element('p', { class: 'none' }, this.log
-      ? 'Select a message to see its octets and fields.' : 'No log is open. Open one, or an example.'));
+    this.sheet.show(element('p', { class: 'none' }, 'Select a message to see its octets and fields.'), false);
   }
 
-  open(log) {
+  // Shows a log; `file` are its octets.
+  open(log, file) {
     this.log = log;
     this.search.value = this.way.value = '';
     this.filter = { fact: 'messages', way: '', text: '' };
     this.table.root.classList.toggle('has-times', log.hasTimes);
-    this.table.root.classList.toggle('has-rules', log.breaches.size + log.contents.size > 0);
+    this.table.root.classList.toggle('has-notes', hasNotes(log));
+    this.table.root.classList.toggle('has-rules', log.breaches.size > 0);
+    this.parts.forEach((part) => { part.hidden = false; });
+    this.none.hidden = true;
+    this.drawVerdict();
     this.drawFacts();
     this.note.textContent = this.noteOf(log);
     this.narrow({});
+    if (log.verdict.kind === VERDICTS.none) this.showNoMessage(file);
+  }
+
+  // Says what a text is that is no log, and what can be read.
+  showNoMessage(file) {
+    const { log } = this;
+    this.showNone(element('h2', {}, `No message was found in ${log.name}`), element('p', { id: 'no-log-kind' }, kindOf(file)),
+      ...log.count === 0 ? [] : [element('p', {}, `${counted(log.count, 'line')} may have octets and could not be read, the first in line ${log.lines[0]}.`)],
+      element('p', {}, 'What can be read:'), element('dl', { class: 'readable' },
+        ...CAN_READ.flatMap(([what, text]) => [element('dt', {}, what), element('dd', {}, element('pre', {}, text))])));
   }
 
   noteOf(log) {
-    const judged = log.isJudged ? '' : ' The rules are not judged: this log does not say what the CPU sent and heard.';
-    const reversed = log.looksReversed ? ' Most directions are those of the other end: was it taken at the module?' : '';
+    const turned = log.end === ENDS.module ? ' It was taken at the module: directions are turned, so that they are those of the CPU.' : '';
+    const reversed = log.end === ENDS.cpu && mostAreReversed(log) ? ' Most directions are those of the other end: was it taken at the module?' : '';
     const doubts = log.doubts.map((words) => ` ${words[0].toUpperCase()}${words.slice(1)}.`).join('');
-    return `${log.name}, read as ${log.form}.${judged}${reversed}${doubts}`;
+    return `${log.name}, read as ${log.form}.${turned}${reversed}${doubts}`;
+  }
+
+  // The one verdict, a way to the first breach, and what was not judged.
+  drawVerdict() {
+    const { kind, text, more, first, notJudged } = this.log.verdict;
+    const show = first < 0 ? null : element('button', { id: 'first-breach', onclick: () => this.goTo(first) }, `Show line ${this.log.lines[first]}`);
+    this.verdict.dataset.kind = kind;
+    this.verdict.replaceChildren(element('p', { class: 'says' }, element('strong', { 'aria-hidden': 'true' }, SIGNS[kind]), ' ',
+      element('span', { id: 'verdict-text' }, element('strong', {}, text), more), ...show ? [' ', show] : []),
+    ...notJudged.length === 0 ? [] : [element('p', { class: 'soft', id: 'not-judged' }, notJudged.join(' '))]);
   }
 
   drawFacts() {
@@ -82,9 +124,7 @@ export class MessagesView {
       element('li', {}, element('button', { class: kind || false, 'data-fact': name,
         'aria-pressed': String(this.filter.fact === name), onclick: () => this.narrow({ fact: name }) },
       element('b', {}, withCommas(log.summary[name])), ' ' + (log.summary[name] === 1 ? words : pluralOf(words)))));
-    const verdict = log.verdict === null ? [] : [element('li', {},
-      element('span', { id: 'verdict', class: log.verdict.startsWith('good') ? 'good' : 'bad' }, log.verdict))];
-    this.facts.replaceChildren(...verdict, ...facts);
+    this.facts.replaceChildren(...facts);
   }
 
   searchSoon() {
@@ -102,6 +142,9 @@ export class MessagesView {
       it.setAttribute('aria-pressed', String(it.dataset.fact === this.filter.fact)));
     this.table.show(places);
     this.empty();
+    this.none.hidden = places.length > 0;
+    this.both.hidden = places.length === 0;
+    if (places.length === 0 && this.log.count > 0) this.none.replaceChildren(element('p', {}, 'No message of this log is like that.'));
   }
 
   placesOf({ fact, way, text }) {
@@ -123,7 +166,7 @@ export class MessagesView {
   // Whether the words, the octets or the rule of a message have what is searched.
   matches(place, words, wanted, asOctets) {
     const { log } = this;
-    return words.test(log.words(place).join('\n')) || log.reason(place).includes(wanted)
+    return words.test(log.words(place).join('\n')) || noteOf(log, place).toLowerCase().includes(wanted)
       || asOctets !== null && hexText(log.octets(place)).includes(asOctets);
   }
 
@@ -132,7 +175,7 @@ export class MessagesView {
     const { log } = this, octets = log.octets(place);
     const digits = hexText(octets.subarray(0, SHOWN_OCTETS)) + (octets.length > SHOWN_OCTETS ? '…' : '');
     return { kinds: this.kindsOf(place), cells: [String(log.lines[place]), log.clocks[place], ARROWS[log.directions[place]],
-      log.words(place)[0], log.reason(place), digits] };
+      log.words(place)[0], noteOf(log, place), digits] };
   }
 
   kindsOf(place) {
@@ -145,9 +188,10 @@ export class MessagesView {
     return kinds;
   }
 
-  choose(place) {
-    this.detail.replaceChildren(detailOf(this.log, place, this.textOf));
-    say(this.log.words(place)[0] + (this.log.reason(place) ? ', breaks ' + this.log.reason(place) : ''));
+  choose(place, isOpened) {
+    this.sheet.show(detailOf(this.log, place, this.textOf), isOpened);
+    const note = noteOf(this.log, place);
+    say(this.log.words(place)[0] + (note ? ', ' + note : ''));
   }
 
   // Shows a message of the log, whatever was filtered.
@@ -160,12 +204,6 @@ export class MessagesView {
   // Saves the text that `show` writes.
   textButton() {
     return element('button', { id: 'save', onclick: () => this.log && saveText(this.log.name + '.shown', this.log.showText()) },
-      'Save as text');
+      'Save the messages as text');
   }
-}
-
-export function saveText(name, text) {
-  const link = element('a', { href: URL.createObjectURL(new Blob([text], { type: 'text/plain' })), download: name });
-  link.click();
-  setTimeout(() => URL.revokeObjectURL(link.href), 1000);
 }

@@ -1,23 +1,60 @@
 // The view Open: a log is dropped, chosen, pasted, or taken from the examples.
 
 import { element, labelled, select } from './dom.js';
-import { ENDS } from './log.js';
+import { ENDS } from './rules.js';
 
 const MOST_OCTETS = 256 * 2 ** 20;
+// Three examples that tell a story: a title, and what is to be seen.
+const STORIES = [
+  ['lost-answer.transcript', 'An answer gets lost', 'The CPU does not hear a block, and asks for it again. The module sends the same block once more and marks it: nothing is lost, nothing comes twice.'],
+  ['doubled-entry.transcript', 'A module counts a vehicle twice', 'Every message is in order, and still one entry comes in two blocks. Only the rules on content find it.'],
+  ['given-up-block.transcript', 'A CPU gives up too early', 'The CPU asks for the next block although the last one was never answered: what was in it is gone for good.'],
+];
 const IN_WORDS = {
-  'serial-log.txt': 'a log with times; the CPU asks again for a block that was answered',
-  'module-log.txt': 'a log of the module’s end',
-  'lost-answer.transcript': 'an answer is lost, and its block sent again',
-  'given-up-block.transcript': 'a CPU goes on without an answer',
-  'every-type.frames': 'a message of each type',
-  'capture.frames': 'faulty lines',
+  'breaks-advance.transcript': 'The poll after an answer has the same number.',
+  'breaks-limits.transcript': 'A block says that entries were pushed out, and not that more wait than it takes.',
+  'breaks-number.transcript': 'The answer is another block than the one asked for.',
+  'breaks-pair.transcript': 'An answer comes, and nothing was asked.',
+  'breaks-readable.transcript': 'A configuration is too short to be one.',
+  'breaks-refusal.transcript': 'The module accepts an input that it does not have.',
+  'breaks-rest.transcript': 'A block says that more entries wait, and the next one has none.',
+  'breaks-same.transcript': 'A block says that it was asked for again, and it was not.',
+  'breaks-sequence.transcript': 'A block says that a number was left out, and none was.',
+  'module-log.txt': 'A log taken at the module: its directions are turned.',
+  'octets.txt': 'An octet a line, as some analysers write it.',
+  'powershell.txt': 'Times and directions as PowerShell writes them.',
+  'sdlc.txt': 'Frames of SDLC, with flags and frame check.',
+  'serial-log.txt': 'A log with times: the CPU asks again for a block that was answered.',
+  'lost-answer.frames': 'Frames of a lost answer, without directions.',
+  'every-type.frames': 'A message of each type.',
+  'capture.frames': 'Lines with faults of every kind.',
+  'good.transcript': 'A transcript that keeps all rules.',
+  'clock-back.transcript': 'The counter of the module goes back.',
+  'flag-left.transcript': 'A flag stays set that the command clears.',
+  'ignored-input.transcript': 'An input changes that is ignored.',
+  'lost-entry.transcript': 'A change between two others is lost.',
+  'near-entries.transcript': 'Two changes are nearer than the filter lets them.',
+  'other-states.transcript': 'The states differ from the record.',
+  'refused-configuration.transcript': 'The module refuses inputs that it has.',
+  'refused-load.transcript': 'The module refuses a load of its counter.',
+  'swapped-entries.transcript': 'Two entries are swapped.',
+  'turned-entry.transcript': 'The state of an entry is turned.',
+  'watchdog-forgotten.transcript': 'The module forgets that a watchdog was set.',
 };
 
 export class OpenView {
   // `open(name, octets, end)` opens a log.
   constructor(root, examples, open) {
-    Object.assign(this, { open, end: ENDS.cpu });
-    root.append(this.dropZone(), this.pasteZone(), element('h2', {}, 'Examples'), this.exampleList(examples));
+    Object.assign(this, { open, end: ENDS.auto, examples });
+    const names = Object.keys(examples).filter((name) => !name.endsWith('.script') && !STORIES.some(([story]) => story === name));
+    root.append(
+      element('p', { class: 'lead' }, 'See what a 2070 controller’s CPU and its field I/O module said to each other. Every message of a log is '
+        + 'decoded, and judged by the rules of the protocol.'),
+      element('div', { class: 'ways' }, this.dropZone(), this.pasteZone()),
+      element('h2', {}, 'Or look at an example'),
+      element('ul', { class: 'stories' }, ...STORIES.map((story) => this.story(...story))),
+      element('details', { class: 'more', id: 'more-examples' }, element('summary', {}, `${names.length} more examples: each form of log, each rule broken once`),
+        element('ul', { class: 'examples' }, ...names.map((name) => this.item(name, name, IN_WORDS[name] || '')))));
     window.addEventListener('dragover', (event) => event.preventDefault());
     window.addEventListener('drop', (event) => this.dropped(event));
   }
@@ -25,14 +62,14 @@ export class OpenView {
   dropZone() {
     const file = element('input', { type: 'file', id: 'file', class: 'unseen', tabindex: '-1', 'aria-label': 'A log as a file',
       onchange: () => this.chosen(file) });
-    const ends = select('Where the log was taken',
-      [[ENDS.cpu, 'at the CPU'], [ENDS.module, 'at the module'], [ENDS.none, 'elsewhere on the bus']], (end) => { this.end = end; });
+    const ends = select('Where the log was taken', [[ENDS.auto, 'Take it from the directions'], [ENDS.cpu, 'At the CPU'],
+      [ENDS.module, 'At the module'], [ENDS.bus, 'Elsewhere on the bus']], (end) => { this.end = end; });
     ends.id = 'end';
     this.zone = element('div', { class: 'drop' },
-      element('p', {}, 'Drop a log here, or '),
-      element('p', {}, element('button', { class: 'main', onclick: () => file.click() }, 'choose a file'), file),
-      element('p', { class: 'row', style: 'justify-content: center' }, labelled('taken', ends)),
-      element('p', { class: 'soft' }, 'Frames as hexadecimal digits, transcripts, logs with times and directions. It stays in this browser.'));
+      element('p', { class: 'large' }, 'Drop a log here'),
+      element('p', {}, element('button', { class: 'main', onclick: () => file.click() }, 'Choose a file'), file),
+      element('p', { class: 'soft' }, 'Hexadecimal digits, transcripts, hex dumps, tables, or logs with times and directions. Nothing leaves this browser.'),
+      element('p', { class: 'row' }, labelled('Where was it taken?', ends)));
     this.zone.addEventListener('dragenter', () => this.zone.classList.add('over'));
     this.zone.addEventListener('dragleave', () => this.zone.classList.remove('over'));
     return this.zone;
@@ -40,28 +77,34 @@ export class OpenView {
 
   pasteZone() {
     const text = element('textarea', { class: 'paste', id: 'paste', spellcheck: 'false', 'aria-label': 'A log as text',
-      placeholder: '> 36ff\n< b6ff010000010200000001' });
+      placeholder: 'Or paste some lines here, such as\n\n> 36ff\n< b6ff010000010200000001' });
     const open = element('button', { id: 'open-paste', onclick: () => this.give('pasted text', new TextEncoder().encode(text.value)) },
       'Open this text');
-    return element('div', {}, element('h2', {}, 'Or paste'), text, element('div', { class: 'row' }, open));
+    return element('div', { class: 'paste-zone' }, text, element('div', { class: 'row' }, open));
   }
 
-  exampleList(examples) {
-    const names = Object.keys(examples).filter((name) => !name.endsWith('.script'));
-    return element('ul', { class: 'examples' }, ...names.map((name) => element('li', {},
-      element('button', { 'data-example': name, onclick: () => this.example(name, examples[name]) }, name,
-        element('small', {}, IN_WORDS[name] || '')))));
+  story(name, title, says) {
+    return this.item(name, title, says, element('small', { class: 'mono' }, name));
   }
 
-  example(name, base64) {
-    const octets = Uint8Array.from(atob(base64), (letter) => letter.charCodeAt(0));
-    this.open(name, octets, name.startsWith('module') ? ENDS.module : ENDS.cpu);
+  item(name, title, says, more = null) {
+    return element('li', {}, element('button', { 'data-example': name, onclick: () => this.example(name) },
+      element('b', {}, title), element('span', {}, says), more));
+  }
+
+  example(name) {
+    const octets = Uint8Array.from(atob(this.examples[name]), (letter) => letter.charCodeAt(0));
+    this.open(name, octets, ENDS.auto);
   }
 
   dropped(event) {
+    // A text that is dropped where one is written stays there.
+    if (event.dataTransfer.files.length === 0 && event.target.matches('textarea, input')) return;
     event.preventDefault();
     this.zone.classList.remove('over');
-    this.read(event.dataTransfer.files[0]);
+    const { files } = event.dataTransfer, text = event.dataTransfer.getData('text/plain');
+    if (files.length > 0) this.read(files[0]);
+    else if (text !== '') this.give('dropped text', new TextEncoder().encode(text));
   }
 
   // The control forgets the file, so that it can be chosen again once it has grown.

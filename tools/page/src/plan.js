@@ -5,11 +5,11 @@ import { counted, element, labelled, withCommas } from './dom.js';
 import { WAITING, planOf, rowOf } from './planning.js';
 
 const SLIDERS = [
-  ['inputs', 'open inputs', 1, INPUTS, INPUTS],
-  ['filter', 'smallest filter in samples', 1, 255, 5],
-  ['pace', 'a round every so many ms', 1, 255, 19],
-  ['lost', 'rounds lost in a row', 0, 8, 0],
-  ['outage', 'an outage of so many ms', 0, 3000, 80],
+  ['inputs', 'How many inputs are open?', 1, INPUTS, INPUTS],
+  ['filter', 'How long is the shortest filter, in samples?', 1, 255, 5],
+  ['pace', 'How often does the CPU poll, in milliseconds?', 1, 255, 19],
+  ['lost', 'How many rounds in a row may be lost?', 0, 8, 0],
+  ['outage', 'How long does an outage last, in milliseconds?', 0, 3000, 80],
 ];
 const HEADS = ['Open inputs', 'Filter', 'Poll every', 'Waiting', 'Late', 'Waiting, answers lost', 'Late, answers lost',
   ...WAITING.map((count) => `Outage, ${withCommas(count)} wait`)];
@@ -25,7 +25,7 @@ export class PlanView {
       ...WAITING.map((count) => element('option', { value: String(count) }, withCommas(count))));
     root.append(element('div', { class: 'plan' },
       element('form', { class: 'sliders', onsubmit: (event) => event.preventDefault() }, ...this.sliders,
-        labelled('entries that may wait', waiting)),
+        labelled('How many entries may wait in the module?', waiting)),
       element('div', {}, this.verdict,
         element('table', { class: 'answers' }, element('thead', {}, headRow(['What', 'Number', 'Why'])), this.answers))),
     element('h2', {}, 'The row of the planning table'),
@@ -72,15 +72,15 @@ export class PlanView {
         : 'No pace is often enough for so many lost rounds.')
       + (plan.isRiddenOut ? '' : ` In an outage of ${outage} ms transitions may be lost.`);
     const rows = [
-      ['start a round at least every', plan.startEvery + ' ms', 'k n ≤ b f: enough of FewChange' + (lost ? ', r + 1 times as often' : '')],
+      ['The CPU has to poll at least every', plan.startEvery + ' ms', 'k n ≤ b f: enough of FewChange' + (lost ? ', r + 1 times as often' : '')],
       ...plan.isInTime ? [
-        ['entries that wait, at most', withCommas(plan.waits), 'few_wait of KeepsUpExactly'],
-        ['a transition is in a block at most', plan.late + ' ms late', lost ? 'late of IsLateBy' : 'young of KeepsUpExactly'],
+        ['The most entries that wait', withCommas(plan.waits), 'few_wait of KeepsUpExactly'],
+        ['A transition is in a block after at most', plan.late + ' ms', lost ? 'late of IsLateBy' : 'young of KeepsUpExactly'],
       ] : [],
-      ['the longest outage, where nothing waits', withCommas(plan.longestOutage) + ' ms',
+      ['The longest outage that loses nothing, if nothing waits before it', withCommas(plan.longestOutage) + ' ms',
         plan.hasRoom ? 'room of IsOutage, outage of settled_links_lose_nothing' : `k (1 + (n - 1) / f) ≤ ${waiting} does not hold: not proved`],
-      [`entries that wait after ${withCommas(outage)} ms, at most`, withCommas(plan.after), 'computed, not proved'],
-      ['clean rounds until these are in the record', String(plan.caughtUpIn), 'caught_up of clean_rounds_catch_up'],
+      [`The most entries that wait after ${withCommas(outage)} ms without a poll`, withCommas(plan.after), 'computed, not proved'],
+      ['Clean rounds until these are in the record', String(plan.caughtUpIn), 'caught_up of clean_rounds_catch_up'],
     ];
     this.answers.replaceChildren(...rows.map(([what, number, why]) => element('tr', {},
       element('th', { scope: 'row' }, what), element('td', { class: 'mono' }, number), element('td', { class: 'soft' }, why))));

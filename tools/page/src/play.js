@@ -3,12 +3,16 @@
 import { BLOCK_ENTRIES, INPUTS, STANDARD_WAITING } from './constants.js';
 import { element, say, select, withCommas } from './dom.js';
 import { hexText } from './hex.js';
+import { ladderOf } from './ladder.js';
+import { saveText } from './save.js';
 import { headerOf, itemText, levelsText, readScript, Run } from './script.js';
 import { wordsOf } from './words.js';
 
 const FIRST = 'fio2070 script 2 2 0';
 const FILTER = 2;
-const SHOWN = 12, SHOWN_LINES = 400;
+const SHOWN = 6, SHOWN_LINES = 400;
+// The inputs that are seen at once.
+const SEEN_INPUTS = 16;
 const ALL_ONES = 2n ** BigInt(INPUTS) - 1n;
 
 // A text in the address's fragment: base64 with the letters of an address.
@@ -21,20 +25,53 @@ function configuration(library, filter) {
   return hexText(library.encodeConfiguration(items));
 }
 
+// Runs that tell a story: the script, and a title.
+const PLAYED_STORIES = [['lost-poll.script', 'A poll is lost'], ['lost-answer.script', 'An answer is lost'], ['overflow.script', 'The buffer overflows'],
+  ['restart.script', 'The module restarts']];
+
 export class PlayView {
   constructor(root, library, examples) {
-    Object.assign(this, { library, module: library.module(0, BLOCK_ENTRIES), poller: library.poller(0), levels: ALL_ONES, lost: new Set() });
-    this.grid = element('div', { class: 'levels', role: 'group', 'aria-label': `Levels of the ${INPUTS} inputs` },
-      ...Array.from({ length: INPUTS }, (_, input) => this.levelButton(input)));
-    this.toModule = element('ol', { id: 'to-module', 'aria-label': 'Frames to the module' });
-    this.toCpu = element('ol', { id: 'to-cpu', 'aria-label': 'Frames to the CPU' });
+    Object.assign(this, { library, examples, module: library.module(0, BLOCK_ENTRIES), poller: library.poller(0), levels: ALL_ONES, lost: new Set() });
+    const buttons = Array.from({ length: INPUTS }, (_, input) => this.levelButton(input));
+    this.grid = element('div', { role: 'group', 'aria-label': `Levels of the ${INPUTS} inputs` }, element('div', { class: 'levels' }, ...buttons.slice(0, SEEN_INPUTS)),
+      element('details', {}, element('summary', {}, `${INPUTS - SEEN_INPUTS} more inputs`), element('div', { class: 'levels' }, ...buttons.slice(SEEN_INPUTS))));
+    this.toModule = element('ol', { id: 'to-module', 'aria-label': 'Messages to the module' });
+    this.toCpu = element('ol', { id: 'to-cpu', 'aria-label': 'Messages to the CPU' });
+    this.ladder = element('div', { class: 'ladder', id: 'ladder', tabindex: '0', role: 'group', 'aria-label': 'The run as a picture' });
+    this.story = element('p', { id: 'play-story', role: 'status' });
     this.ends = element('tbody');
     this.record = element('pre', { class: 'report', id: 'play-record', tabindex: '0', role: 'group', 'aria-label': 'The record of the CPU' });
     this.script = element('textarea', { id: 'script', spellcheck: 'false', 'aria-label': 'The script' });
     this.report = element('pre', { class: 'report', id: 'report', tabindex: '0', role: 'group', 'aria-label': 'The report' });
     this.trouble = element('p', { class: 'bad', role: 'alert', id: 'script-trouble' });
-    root.append(element('div', { class: 'play' }, this.inputSide(), this.busSide(), this.scriptSide(examples)));
-    this.begin(headerOf(FIRST), ['send ' + configuration(library, FILTER), 'to-module 1', 'to-cpu 1']);
+    root.append(this.lead(), element('div', { class: 'play' }, this.inputSide(), this.busSide(), this.stateSide(), this.scriptSide()));
+    this.restart();
+    new ResizeObserver(() => requestAnimationFrame(() => this.ladder.clientWidth !== this.drawnWidth && this.drawLadder())).observe(this.ladder);
+  }
+
+  lead() {
+    return element('div', { class: 'play-lead' },
+      element('p', { class: 'lead' }, 'Both ends run here, proved, and you are the bus. Change an input, scan and poll; then deliver each message, lose it or repeat it. '
+        + 'No change comes twice, and a gap mark says where changes are missing.'),
+      element('div', { class: 'row' }, element('span', {}, 'Watch what happens if:'),
+        ...PLAYED_STORIES.map(([name, title]) => element('button', { 'data-story': name, onclick: () => this.show(name) }, title)),
+        this.button('Begin anew', () => this.restart(), 'play-anew')), this.story);
+  }
+
+  // A module whose inputs are all open, and a CPU that knows it.
+  restart() {
+    this.story.textContent = '';
+    this.levels = ALL_ONES;
+    this.begin(headerOf(FIRST), ['send ' + configuration(this.library, FILTER), 'to-module 1', 'to-cpu 1']);
+  }
+
+  // Runs an example.
+  show(name) {
+    const text = new TextDecoder().decode(Uint8Array.from(atob(this.examples[name]), (it) => it.charCodeAt(0)));
+    this.read(text);
+    this.story.textContent = text.split('\n').slice(1).filter((line) => line.startsWith('#')).map((line) => line.slice(2)).join(' ');
+    this.ladder.scrollTop = 0;
+    if (this.ladder.getBoundingClientRect().top > innerHeight * 0.7) this.ladder.scrollIntoView({ block: 'center' });
   }
 
   button(words, act, id = false) {
@@ -42,11 +79,15 @@ export class PlayView {
   }
 
   inputSide() {
-    return element('div', {}, element('h2', {}, 'Inputs'), this.grid,
+    return element('div', { class: 'play-inputs' }, element('h2', {}, '1. Change inputs, and scan'), this.grid,
       element('div', { class: 'row' }, this.button('Scan', () => this.scan(1), 'scan'), this.button('Scan 10 times', () => this.scan(10)),
-        this.button('Line sync', () => this.act('sync')), this.button('Restart', () => this.act('restart'))),
-      element('p', { class: 'soft' }, 'A pressed input is at 1. A scan is a millisecond: it samples all inputs.'),
-      element('table', { class: 'answers ends' }, this.ends), element('h2', {}, 'Record'), this.record);
+        this.button('Line sync', () => this.act('sync')), this.button('Restart the module', () => this.act('restart'))),
+      element('p', { class: 'soft' }, `A pressed input is at 1. A scan takes a millisecond and samples all inputs; a change counts once ${FILTER} samples in a row show it.`));
+  }
+
+  stateSide() {
+    return element('div', { class: 'play-state' }, element('h2', {}, 'Both ends now'), element('table', { class: 'answers ends' }, this.ends),
+      element('h2', {}, 'The record of the CPU'), this.record);
   }
 
   levelButton(input) {
@@ -58,24 +99,24 @@ export class PlayView {
   }
 
   busSide() {
-    return element('div', {}, element('h2', {}, 'Bus'),
+    return element('div', { class: 'play-bus' }, element('h2', {}, '2. Poll, and deliver or lose'),
       element('div', { class: 'row' }, this.button('Poll', () => this.act('poll'), 'poll'),
-        this.button('A whole round', () => this.round(), 'round')),
+        this.button('A whole round', () => this.round(), 'round'), this.button('Undo', () => this.undo(), 'undo')),
       element('div', { class: 'bus' },
-        element('div', {}, element('h2', {}, 'To the module'), this.toModule),
-        element('div', {}, element('h2', {}, 'To the CPU'), this.toCpu)));
+        element('div', {}, element('h3', {}, 'To the module'), this.toModule),
+        element('div', {}, element('h3', {}, 'To the CPU'), this.toCpu)),
+      this.ladder);
   }
 
-  scriptSide(examples) {
-    const names = Object.keys(examples).filter((name) => name.endsWith('.script'));
-    const choice = select('Example', [['', 'an example…'], ...names.map((name) => [name, name])], (name) => {
-      if (name) this.read(new TextDecoder().decode(Uint8Array.from(atob(examples[name]), (it) => it.charCodeAt(0))));
-    });
+  scriptSide() {
+    const names = Object.keys(this.examples).filter((name) => name.endsWith('.script'));
+    const choice = select('Example', [['', 'Another example…'], ...names.map((name) => [name, name])], (name) => name && this.show(name));
     choice.id = 'play-example';
-    return element('div', {}, element('h2', {}, 'Script for simulate'), this.script,
+    return element('div', { class: 'play-script' }, element('h2', {}, 'The run as a script'), this.script,
       element('div', { class: 'row' }, this.button('Run this script', () => this.read(this.script.value), 'run-script'), choice,
-        this.button('Undo', () => this.undo(), 'undo'), this.button('Link to this run', () => this.link(), 'link')),
-      this.trouble, element('h2', {}, 'Report'), this.report);
+        this.button('Link to this run', () => this.link(), 'link'),
+        this.button('Save the picture', () => saveText('run.svg', new XMLSerializer().serializeToString(this.ladder.firstChild)), 'save-ladder')),
+      this.trouble, element('h2', {}, 'Its report'), this.report);
   }
 
   // Starts a run anew and does events.
@@ -106,7 +147,11 @@ export class PlayView {
   }
 
   undo() {
+    const lost = [...this.lost];
     this.begin(this.run.header, this.run.events.slice(0, -1));
+    // What is marked as lost stays so, if it is still sent.
+    lost.filter((key) => this.run.isSent(key)).forEach((key) => this.lost.add(key));
+    this.draw();
   }
 
   // Runs a script that is given as a text.
@@ -150,34 +195,44 @@ export class PlayView {
     this.drawLevels();
     this.drawFrames(this.toModule, run.toModule, 'to-module');
     this.drawFrames(this.toCpu, run.toCpu, 'to-cpu');
-    const rows = [['module’s counter', run.module.counter + ' ms'], ['waiting at the module', `entries: ${run.module.waiting}`],
-      ['filtered states', levelsText(run.module.filtered)], ['CPU polls next for', 'block ' + run.poller.number]];
+    const rows = [['The module’s counter shows', run.module.counter + ' ms'], ['Entries wait at the module', String(run.module.waiting)],
+      ['The filtered states are', levelsText(run.module.filtered)], ['The CPU polls next for', 'block ' + run.poller.number]];
     this.ends.replaceChildren(...rows.map(([what, value]) => element('tr', {},
       element('th', { scope: 'row' }, what), element('td', { class: 'mono' }, value))));
-    this.record.textContent = run.record.slice(-SHOWN_LINES).map(itemText).join('\n') || 'empty';
+    this.record.textContent = run.record.slice(-SHOWN_LINES).map(itemText).join('\n') || 'Nothing is recorded yet.';
     this.script.value = run.script();
     this.report.textContent = run.report();
+    this.drawLadder();
+    // What was done last is in view.
+    this.ladder.scrollTop = this.ladder.scrollHeight;
   }
 
-  // The last frames of a direction, the newest first. One that was passed over is lost.
+  // The picture, as wide as there is room.
+  drawLadder() {
+    const width = this.drawnWidth = this.ladder.clientWidth, { scrollTop } = this.ladder;
+    if (width === 0) return;
+    this.ladder.replaceChildren(ladderOf(this.run, this.lost, width, this.library));
+    this.ladder.scrollTop = scrollTop;
+  }
+
+  // The last messages of a direction that can be delivered, the newest first; one that was passed over is lost.
   drawFrames(list, direction, event) {
-    const first = Math.max(0, direction.frames.length - SHOWN);
-    const items = direction.frames.slice(first).map((octets, place) => this.frameItem(octets, first + place + 1, direction, event));
+    const items = direction.frames.map((octets, place) => [octets, place + 1])
+      .filter(([, number]) => number >= Math.max(direction.highest, 1) && !this.lost.has(event + number)).slice(-SHOWN)
+      .map(([octets, number]) => this.frameItem(octets, number, direction, event));
     list.replaceChildren(...items.reverse());
+    if (items.length === 0) list.append(element('li', { class: 'soft' }, 'Nothing is on its way.'));
   }
 
   frameItem(octets, number, direction, event) {
-    const key = event + number;
-    const isLost = number < direction.highest || this.lost.has(key);
     const isDone = number === direction.highest;
     const words = wordsOf(this.library, this.library.place(octets), octets.length)[0];
     const deliver = element('button', { onclick: () => this.act(`${event} ${number}`) }, isDone ? 'Repeat' : 'Deliver');
     const lose = element('button', { onclick: () => {
-      this.lost.add(key);
+      this.lost.add(event + number);
       this.draw();
     } }, 'Lose');
-    const isOver = number < direction.highest;
-    return element('li', { class: isDone ? 'done' : isLost ? 'lost' : false, title: hexText(octets) }, `${number} ${words} `,
-      ...isOver || this.lost.has(key) || this.run.isRefused ? [] : isDone ? [deliver] : [deliver, ' ', lose]);
+    return element('li', { class: isDone ? 'done' : false, title: hexText(octets) }, element('span', { class: 'mono' }, words), ' ',
+      ...this.run.isRefused ? [] : isDone ? [deliver] : [deliver, ' ', lose]);
   }
 }

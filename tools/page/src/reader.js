@@ -6,6 +6,7 @@
 
 import { Choice } from './choice.js';
 import { linesOf } from './clean.js';
+import { clockOf } from './clocks.js';
 import { Doubts } from './doubts.js';
 import { DAMAGED, FRAME, isRemark, lineEvent, PASSED, REMARK } from './events.js';
 import { Framing } from './fitting.js';
@@ -57,9 +58,6 @@ function readAsOther(lines, patterns, messages, judge) {
     ...reader.known.doubts.words()] };
 }
 
-// A time without its date, as the log writes it.
-const withoutDate = (clock) => (/\d{1,2}:\d\d:\d\d.*/.exec(clock) || [clock])[0].replace(/[\])}\s:,;|]+$/, '');
-const clockOf = ({ clock, time }) => withoutDate(clock) || (time === null ? '' : time.toFixed(6));
 
 // Makes messages of events. A line that is passed over, and has octets, is a bad one.
 class Found {
@@ -70,14 +68,14 @@ class Found {
   add(events) {
     for (const event of events) {
       if (event.kind === FRAME || event.kind === DAMAGED) this.put(event);
-      else if (this.isBad(event)) this.list.addBad(event.number);
+      else if (this.isBad(event)) this.list.addBad(event.number, event.kind === REMARK);
       else if (event.kind === PASSED) this.passed += 1;
       if (event.isRefused) this.refusals.push(`line ${event.number} is refused: ${event.note}`);
     }
   }
 
   put(event) {
-    this.list.begin(event.number, event.direction, event.time, clockOf(event));
+    this.list.begin(event.number, event.direction, event.time, clockOf(event.clock, event.time));
     this.list.put(event.octets);
   }
 

@@ -77,7 +77,7 @@ export function recordOf(log) {
     if (code === BLOCK) {
       const heard = poller.hear(log.address(place), log.lengths[place]);
       if (heard.kind !== HEARD.taken) continue;
-      const content = log.contents.get(place);
+      const content = log.content(place);
       if (content && content.entry >= 0) record.broken.push(record.times.length + content.entry);
       record.add(poller, heard, place, log.stamps[place]);
       continue;
@@ -92,15 +92,15 @@ export function recordOf(log) {
 }
 
 // The lines that `fio2070 record` writes of a log: the record, to the first breach of a rule on content, where the log keeps
-// the rules of `check`, else the line of `check`. Null where the rules are not judged.
+// the rules of `check`, else the line of `check`. Null if the log does not say what the CPU sent and heard.
 export function recordLines(log) {
-  if (!log.isJudged) return null;
-  if (!log.verdict.startsWith('good ')) return [log.verdict];
+  if (!log.isOfCpu) return null;
+  if (!log.checkLine.startsWith('good ')) return [log.checkLine];
   const { poller } = log, lines = [];
   const first = log.codes.indexOf(POLL);
   if (first >= 0) poller.number = log.blocks[first];
   for (let place = 0; place < log.count; place++) {
-    const content = log.contents.get(place);
+    const content = log.content(place);
     if (first >= 0 && place > first && log.codes[place] === BLOCK) {
       const heard = poller.hear(log.address(place), log.lengths[place]);
       const items = Array.from({ length: heard.items }, (_, index) => itemText(poller.recordItem(index)));
@@ -113,6 +113,6 @@ export function recordLines(log) {
 
 // What `fio2070 record` says of a breach of a rule on content.
 export function contentLine(log, place) {
-  const { rule, input } = log.contents.get(place);
+  const { rule, input } = log.content(place);
   return `line ${log.lines[place]} ${input === NO_INPUT ? '' : `input ${input} `}breaks ${CONTENT_RULES[rule]}`;
 }

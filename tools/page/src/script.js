@@ -96,6 +96,9 @@ export class Run {
   // `module` and `poller` are the library's; they are started anew.
   constructor(header, library, module, poller) {
     Object.assign(this, { header, library, module, poller, lines: [], events: [], record: [], isRefused: false });
+    // After each event: how many entries wait at the module, and how many items the record has.
+    this.waits = [];
+    this.recorded = [];
     this.toModule = new Direction();
     this.toCpu = new Direction();
     module.start(header.id, header.perBlock);
@@ -110,6 +113,8 @@ export class Run {
     this.isRefused = outcome.startsWith('refused');
     this.events.push(line);
     this.lines.push(`${this.events.length} ${outcome}`);
+    this.waits.push(this.module.waiting);
+    this.recorded.push(this.record.length);
   }
 
   outcome(name, given) {
@@ -145,6 +150,12 @@ export class Run {
     const heard = this.poller.hear(this.library.place(octets), octets.length);
     for (let place = 0; place < heard.items; place++) this.record.push(this.poller.recordItem(place));
     return outcomeOf(heard);
+  }
+
+  // Whether a message was sent, by its direction and its number, as `to-cpu3`.
+  isSent(key) {
+    const [, way, number] = /^(to-\w+?)(\d+)$/.exec(key);
+    return Number(number) <= (way === 'to-module' ? this.toModule : this.toCpu).frames.length;
   }
 
   // The report, as `simulate` writes it.

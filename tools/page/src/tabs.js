@@ -17,8 +17,11 @@ export class Tabs {
     this.listeners.push(listener);
   }
 
+  // Shows a view. The focus goes to its tab if it was in the view before.
   show(name) {
-    this.choose(byId('tab-' + name));
+    const tab = byId('tab-' + name), isInView = document.activeElement.closest('[role="tabpanel"]') !== null;
+    this.choose(tab);
+    if (isInView) tab.focus({ preventScroll: true });
   }
 
   choose(chosen) {

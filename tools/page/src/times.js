@@ -41,11 +41,15 @@ function anySecondsOf(parts) {
   return dayOf(parts) + hoursOf(parts) * 3600 + Number(parts.minute || 0) * 60 + numberOf(parts.second);
 }
 
-// The seconds of a time, from the parts that its pattern names; null where there is no such time.
+// The seconds of a time, from the parts that its pattern names; null if there is no such time.
 export function secondsOf(parts) {
-  const seconds = anySecondsOf(parts);
-  return Number.isNaN(seconds) ? null : seconds;
+  return inCalendar(anySecondsOf(parts));
 }
+
+// The years that have a calendar, 1 to 9999, in seconds since 1970: there is no time outside them.
+const FIRST_SECOND = -62_135_596_800, END_OF_SECONDS = 253_402_300_800;
+
+const inCalendar = (seconds) => seconds >= FIRST_SECOND && seconds < END_OF_SECONDS ? seconds : null;
 
 // The time that a text begins with; null where it has none.
 export function timeIn(patterns, text) {
@@ -62,5 +66,5 @@ export function wholeTimeOf(patterns, text) {
     const found = pattern.exec(text);
     if (found) return secondsOf(found.groups);
   }
-  return /^[+-]?\d{1,12}(?:\.\d*)?(?:e[+-]?\d{1,2})?$/i.test(text) ? Number(text) : null;
+  return /^[+-]?\d{1,12}(?:\.\d*)?(?:e[+-]?\d{1,2})?$/i.test(text) ? inCalendar(Number(text)) : null;
 }

@@ -1,6 +1,10 @@
 // Draws the record as waveforms: a lane for each input that changed, blocks, lost polls and gap marks above them.
 
+import { withCommas } from './dom.js';
+
 const LANE = 22, HEAD = 46, LEFT = 72, HIGH = 4, LOW = 16;
+// A lane with more than a transition in three pixels is drawn as density, in bars of four.
+const DENSE = 3, BAR = 4;
 
 // The first index at which a sorted list has at least a value.
 export function lowerBound(sorted, value) {
@@ -27,11 +31,14 @@ export function lanesOf(record) {
   return [...lanes.values()].sort((one, other) => one.input - other.input);
 }
 
-// A step of the axis, 1, 2 or 5 of a power of ten, of which some ten are seen.
-function stepOf(span) {
-  const power = 10 ** Math.floor(Math.log10(Math.max(span / 8, 1)));
-  return [1, 2, 5, 10].map((factor) => factor * power).find((step) => span / step <= 10) || power * 10;
+// A step of the axis, 1, 2 or 5 of a power of ten, of which at most `most` are seen.
+function stepOf(span, most) {
+  const power = 10 ** Math.floor(Math.log10(Math.max(span / most, 1)));
+  return [1, 2, 5, 10].map((factor) => factor * power).find((step) => span / step <= most) || power * 10;
 }
+
+// A stretch of time in words.
+const timeWords = (ms) => ms < 10 ? `${Number(ms.toPrecision(2))} ms` : ms < 10_000 ? `${Math.round(ms)} ms` : `${Math.round(ms / 1000)} s`;
 
 export class Waves {
   // The axis and what stands between lanes are drawn on `head`, which stays in view; the lanes on `canvas`.
@@ -56,7 +63,7 @@ export class Waves {
 
   fit() {
     const margin = Math.max((this.last - this.first) * 0.02, 1);
-    this.setRange(this.first - margin, this.last + margin);
+    this.setRange(Math.max(this.first - margin, 0), this.last + margin);
   }
 
   // Shows the times between two, within the record and some room around it.
@@ -64,8 +71,9 @@ export class Waves {
     const whole = Math.max(this.last - this.first, 1);
     const span = Math.min(Math.max(to - from, 4), whole * 1.5 + 10);
     const start = Math.min(Math.max(from, this.first - span * 0.5), this.last - span * 0.5);
-    this.from = start;
-    this.to = start + span;
+    // The counter has no time below 0.
+    this.from = Math.max(start, 0);
+    this.to = this.from + span;
   }
 
   zoom(factor, at) {
@@ -104,7 +112,7 @@ export class Waves {
     this.clip(paint, this.canvas);
     this.drawAxis(head, paint);
     this.drawGaps(head, paint);
-    this.lanes.forEach((lane, row) => this.drawLane(paint, lane, row * LANE));
+    this.drawLanes(paint);
     this.drawBlocks(head);
     this.drawSigns(head, this.record.lostPolls, 'warn', '×');
     this.drawSigns(head, this.record.skips, 'bad', '↷');
@@ -141,7 +149,9 @@ export class Waves {
   }
 
   drawAxis(head, paint) {
-    const step = stepOf(this.to - this.from);
+    // A digit takes some seven pixels.
+    const label = withCommas(Math.round(this.to)).length * 7.5 + 14;
+    const step = stepOf(this.to - this.from, Math.max(2, Math.min(10, Math.floor((this.width - LEFT) / label))));
     head.textAlign = 'left';
     for (let time = Math.max(0, Math.ceil(this.from / step) * step); time <= this.to; time += step) {
       const x = this.xOf(time);
@@ -149,7 +159,7 @@ export class Waves {
       head.fillRect(x, 14, 1, HEAD);
       paint.fillRect(x, 0, 1, this.canvas.clientHeight);
       head.fillStyle = this.colour('soft');
-      head.fillText(String(time), x + 3, 11);
+      if (x + label < this.width + 14) head.fillText(withCommas(time), x + 3, 11);
     }
   }
 
@@ -186,6 +196,37 @@ export class Waves {
       head.fillRect(from, HEAD - 3, width, 3);
       head.fillText('gap', Math.max(from, LEFT) + 2, HEAD - 6);
     }
+  }
+
+  // How many transitions of a lane are in each bar of the range that is seen; null if they are few enough to be drawn each.
+  barsOf(lane) {
+    const first = lowerBound(lane.times, this.from), end = lowerBound(lane.times, this.to);
+    const width = Math.max(this.width - LEFT, 1);
+    if ((end - first) * DENSE <= width) return null;
+    const bars = new Uint32Array(Math.ceil(width / BAR));
+    for (let index = first; index < end; index++) bars[Math.floor((this.xOf(lane.times[index]) - LEFT) / BAR)] += 1;
+    return bars;
+  }
+
+  // Draws each lane: those with many transitions as density, all to one scale.
+  drawLanes(paint) {
+    const all = this.lanes.map((lane) => this.barsOf(lane));
+    this.densest = Math.max(0, ...all.filter((bars) => bars).map((bars) => bars.reduce((most, count) => Math.max(most, count), 0)));
+    this.bucket = timeWords((this.to - this.from) * BAR / Math.max(this.width - LEFT, 1));
+    this.lanes.forEach((lane, row) => {
+      if (all[row]) this.drawBars(paint, all[row], row * LANE);
+      else this.drawLane(paint, lane, row * LANE);
+    });
+  }
+
+  // The higher a bar, the more transitions there are in its time.
+  drawBars(paint, bars, y) {
+    const most = LOW - HIGH + 2;
+    paint.fillStyle = this.colour('accent');
+    bars.forEach((count, place) => {
+      const height = count > 0 ? Math.max(1, Math.round(count / this.densest * most)) : 0;
+      paint.fillRect(LEFT + place * BAR, y + LOW + 2 - height, BAR - 1, height);
+    });
   }
 
   // The state of an input over time; transitions within a pixel are one block. Before its first transition it is unknown.

@@ -1,0 +1,71 @@
+"""The page in a browser: how an example, a file or a pasted text is opened in it, and what is read from it."""
+
+import os
+import re
+
+from support.tables import HAS_KIT, TOP
+
+PAGE = os.path.join(TOP, 'fio2070.html' if HAS_KIT else 'dist/fio2070.html')
+TROUBLE = 'return document.getElementById("trouble").textContent'
+CLOSE = 'delete document.documentElement.dataset.opened'
+OPENED = 'return document.documentElement.dataset.opened === arguments[0]'
+# The text that the button saves, caught on its way to a file.
+SAVE = '''const made = URL.createObjectURL; window.saved = null;
+URL.createObjectURL = (blob) => { blob.text().then((text) => { window.saved = text; }); return made.call(URL, blob); };
+HTMLAnchorElement.prototype.click = () => {};
+document.getElementById(arguments[0]).click(); URL.createObjectURL = made;'''
+CELLS = '''return [...document.querySelectorAll(".line")].map((row) => [...row.children].map((cell) => cell.textContent))'''
+# Opens texts one after the other, as files that were chosen: `window.tables` has the cells of each.
+OPEN_ALL = '''window.tables = null; const [texts] = arguments, input = document.getElementById("file"), root = document.documentElement;
+const opened = async (text) => { delete root.dataset.opened; const chosen = new DataTransfer(); chosen.items.add(new File([text], "log.txt"));
+    input.files = chosen.files; input.dispatchEvent(new Event("change"));
+    while (!root.dataset.opened) await new Promise((done) => setTimeout(done)); return cells(); };
+const cells = () => { %s; };
+(async () => { const tables = []; for (const text of texts) tables.push(await opened(text)); window.tables = tables; })();''' % CELLS
+# The first and the last millisecond that are seen.
+RANGE = 'return document.getElementById("range").textContent.match(/-?\\d+/g).slice(0, 2).map(Number)'
+
+
+def address(query=''):
+    return 'file://' + PAGE + query
+
+
+def text_of(name):
+    with open(os.path.join(TOP, 'examples', name), encoding='latin-1') as file:
+        return file.read()
+
+
+def example(browser, name):
+    """Opens an example by its button."""
+    browser.click('#tab-open')
+    browser.run(CLOSE + '; document.getElementById("more-examples").open = true')
+    browser.click('[data-example="%s"]' % name)
+    browser.wait(OPENED, name)
+
+
+def saved(browser, button='save'):
+    """The text that a button saves."""
+    browser.run(SAVE, button)
+    browser.wait('return window.saved !== null')
+    return browser.run('return window.saved')
+
+
+def opened(browser, path):
+    """Opens a file as one that was chosen."""
+    browser.click('#tab-open')
+    browser.run(CLOSE)
+    browser.type('#file', path)
+    browser.wait(OPENED, os.path.basename(path))
+
+
+def pasted(browser, text):
+    """Opens a text that is pasted."""
+    browser.click('#tab-open')
+    browser.run(CLOSE + '; document.getElementById("paste").value = arguments[0]', text)
+    browser.click('#open-paste')
+    browser.wait(OPENED, 'pasted text')
+
+
+def is_message(row):
+    """Whether a row has a message, and no line or octets that are none."""
+    return row[3] != 'bad line' and not re.match('wrong length|unknown|empty', row[3])

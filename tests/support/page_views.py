@@ -1,0 +1,231 @@
+"""What a user sees in each view of the page: the verdict, the order of rows, texts that are no log, examples, labels, waveforms,
+times, and the picture of a run."""
+
+import glob
+import json
+import os
+import re
+from xml.etree import ElementTree
+
+from support.browsers import KEYS
+from support.fiolog import LIBRARY, fiolog
+from support.opened import CELLS, OPEN_ALL, RANGE, address, example, is_message, opened, pasted, saved, text_of
+from support.strangers import READ
+from support.tables import TOP
+
+# The breaches in the rows: the line, and the rule.
+BROKEN = 'return [...document.querySelectorAll(".line.broken")].map((row) => [Number(row.children[0].textContent), row.children[4].textContent.split(":")[0]])'
+SEEN_TEXT = 'const it = document.querySelector(arguments[0]); return it && it.checkVisibility() ? it.textContent : ""'
+
+
+def check_verdict(check, browser, name):
+    """One verdict, by the rules and the words of `fiolog check`; and what was not judged, with the reason."""
+    example(browser, 'doubled-entry.transcript')
+    seen = browser.run('return [...document.querySelectorAll("#view-messages .good, #view-messages .verdict")].map((it) => it.dataset.kind || it.textContent)')
+    check.equal('a doubled entry has one verdict in %s' % name, ['broken'], seen)
+    browser.click('#first-breach')
+    check.equal('which goes to the line in %s' % name, 'Line 10', browser.run('return document.querySelector(".detail h2").textContent'))
+    for title, text, kind, words in [
+            ('a log without directions', '36ff\nb6ff010000010200000001\n', 'good', 'does not say who sent'),
+            ('a log with a bad line', '> 36ff\n> 36f\n< b6ff010000010200000001\n', 'partly', '1 line could not be read as a message and is not judged'),
+            ('a log of the bus', '3605\nb605000000000001\n3605\n', 'partly', '1 message is not judged, since this log was not taken at the CPU'),
+            ('answers below a breach', '> 36ff\n< b605000000000001\n< b605000000000001\n', 'broken', '1 message below a breach, up to the next poll, is not judged'),
+            ('a log of another link', ''.join('01 03 00 %02X 00 0A C5 CD\n' % number for number in range(6)), 'broken', '5 messages below a breach'),
+            ('a log that begins in the middle', '< b605000000000001\n> 3606\n< b606000000000002\n', 'broken', 'in the middle of traffic'),
+            ('a log of the other end', '07:15:02.100 RX 36 05\n07:15:02.106 TX B6 05 00 00 00 00 00 01\n', 'good', '')]:
+        pasted(browser, text)
+        got = browser.run('const it = document.getElementById("not-judged"); return [document.getElementById("verdict").dataset.kind, it ? it.textContent : ""]')
+        check.equal('the verdict on %s in %s' % (title, name), (kind, True), (got[0], words in got[1]))
+    pasted(browser, '> 3605\n< b60501400001' + '0000000001\n')
+    note = browser.run('return [...document.querySelectorAll(".line.broken .rule")].map((it) => it.textContent)')
+    check.holds('a breach of the limits says which in %s' % name, any('an entry is of input 64, above 63' in words for words in note), note)
+
+
+def check_as_fiolog(check, browser, name):
+    """The breaches of each log are those of `fiolog check`."""
+    if not os.path.exists(LIBRARY):
+        check.skip('the breaches that fiolog finds in %s' % name, 'no libfio2070.so here (make library)')
+        return
+    texts = [(os.path.basename(path), text_of(os.path.relpath(path, os.path.join(TOP, 'examples'))))
+             for ending in ('*.frames', '*.transcript', 'captures/*.txt') for path in sorted(glob.glob(os.path.join(TOP, 'examples', ending)))]
+    texts = [(base, text) for base, text in texts if '\0' not in text]
+    texts += [(title, text) for title, text, _ in READ[:40]]
+    browser.run(OPEN_ALL.replace(CELLS, BROKEN), [text for _, text in texts])
+    browser.wait('return window.tables !== null')
+    for (title, text), found in zip(texts, browser.run('return window.tables')):
+        lines = [json.loads(line) for line in fiolog('check', '--json', text=text).out.splitlines()]
+        check.equal('the breaches of %s in %s' % (title, name), [[line['line'], line['rule']] for line in lines if 'rule' in line], found)
+
+
+def check_order(check, browser, name, folder):
+    """Rows are in the document in their order, all of a short log; a copy has them as lines; a repeat says so."""
+    example(browser, 'serial-log.txt')
+    check.equal('a repeat says so in its row in %s' % name, ['no answer', '', 'E: sent again', '', '', 'advance: block 1 was due, 0 came', 'E: sent again'],
+                [row[4] for row in browser.run(CELLS)])
+    copied = browser.run("""const rows = document.querySelector(".rows"), data = new DataTransfer();
+        getSelection().selectAllChildren(rows.querySelector(".canvas"));
+        rows.dispatchEvent(Object.defineProperty(new Event("copy", { bubbles: true, cancelable: true }), "clipboardData", { value: data }));
+        getSelection().removeAllRanges(); return data.getData("text/plain")""")
+    check.equal('the rows as they are copied in %s' % name, ['%d' % line for line in range(2, 9)],
+                [line.split('\t')[0] for line in copied.splitlines()])
+    opened(browser, os.path.join(folder, 'many.transcript'))
+    order = 'return [...document.querySelector(".rows .canvas").children].map((row) => Number(row.ariaRowIndex))'
+    for keys in ('', 'end', 'up', 'home', 'down'):
+        if keys:
+            browser.type('.rows', KEYS[keys])
+        rows = browser.run(order)
+        check.holds('rows in the document after %s in %s' % (keys or 'opening', name), len(rows) > 10 and rows == list(range(rows[0], rows[0] + len(rows))), rows)
+    example(browser, 'lost-answer.frames')
+    frames = [line for line in text_of('lost-answer.frames').splitlines() if line and not line.startswith('#')]
+    check.equal('a short log is in the document whole in %s' % name, len(frames), len(browser.run(order)))
+
+
+def check_no_log(check, browser, name, folder):
+    """A text that is no log says so, what it is, and what can be read; each form that is named can be."""
+    for title, octets, words in [
+            ('prose', b'Dear all,\nthe meeting is on Tuesday.\n', 'text without octets'), ('nothing', b'', 'empty'), ('blanks', b'  \n', 'empty'),
+            ('script', text_of('lost-poll.script').encode(), 'the view Play runs it'), ('record', text_of('lost-answer.record').encode(), 'open the log itself'),
+            ('zip', b'PK\3\4' + bytes(40), 'zip'), ('gzip', b'\x1f\x8b\x08' + bytes(40), 'gzip'), ('zeros', bytes(100), 'no text')]:
+        path = os.path.join(folder, title + '.file')
+        with open(path, 'wb') as file:
+            file.write(octets)
+        opened(browser, path)
+        seen = browser.run(SEEN_TEXT, '#no-log')
+        check.equal('%s is no log in %s' % (title, name), (True, True, True),
+                    ('No message was found in %s.file' % title in seen, words in browser.run(SEEN_TEXT, '#no-log-kind'), 'What can be read' in seen))
+        check.equal('of %s no table is shown in %s' % (title, name), '', browser.run(SEEN_TEXT, '.table'))
+    opened(browser, os.path.join(TOP, 'examples', 'captures', 'udp.pcap'))
+    check.holds('a capture of packets is known in %s' % name, 'pcap' in browser.run(SEEN_TEXT, '#no-log-kind'))
+    forms = browser.run('return [...document.querySelectorAll(".readable pre")].map((it) => it.textContent)')
+    check.holds('forms are named in %s' % name, len(forms) > 3, forms)
+    for form in forms:
+        pasted(browser, form + '\n')
+        check.holds('%r can be read in %s' % (form, name), any(is_message(row) for row in browser.run(CELLS)))
+
+
+def check_stories(check, browser, name):
+    """Three examples with a story are seen; the others are folded; each has a sentence."""
+    browser.open(address())
+    seen = 'return [...document.querySelectorAll("[data-example]")].filter((it) => it.checkVisibility()).map((it) => it.querySelector("span").textContent)'
+    stories = browser.run(seen)
+    check.equal('examples that are seen first in %s' % name, 3, len(stories))
+    check.holds('each tells a story in %s' % name, all(len(words) > 60 and words.endswith('.') for words in stories), stories)
+    browser.click('#more-examples summary')
+    others = browser.run(seen)
+    check.holds('each other one has a sentence in %s' % name, len(others) > 20 and all(re.fullmatch(r'[A-Z].*\.', words) for words in others), others)
+
+
+# Labels that are seen: of controls, of rows, and what is beside a control.
+LABELS = """return [...document.querySelectorAll("main label, main th, main summary, main button, main .slider span, main option, main h2, main h3")]
+.filter((it) => !it.closest(".line, .heads, .detail .grid, [data-example], #play-example, .levels")).map((it) => it.textContent.trim()).filter((it) => it !== "")"""
+
+
+def check_labels(check, browser, name):
+    """Labels begin as sentences do."""
+    example(browser, 'near-entries.transcript')
+    low = [words for words in browser.run(LABELS) if words[0].islower()]
+    check.equal('labels that begin small in %s' % name, [], low)
+
+
+# The pixels of the waveforms that have the colour of lines, in each column of a lane: the lane's top is at 22 times its number.
+COLUMNS = """const canvas = document.getElementById("waves"), paint = canvas.getContext("2d"), top = 22 * arguments[0];
+const [red, green, blue] = getComputedStyle(document.documentElement).getPropertyValue("--accent").trim().match(/[0-9a-f]{2}/gi).map((it) => parseInt(it, 16));
+const { data, width } = paint.getImageData(72, top, canvas.width - 72, 22);
+return Array.from({ length: width }, (_, x) => { let count = 0; for (let y = 0; y < 22; y++) { const at = 4 * (y * width + x);
+if (Math.abs(data[at] - red) + Math.abs(data[at + 1] - green) + Math.abs(data[at + 2] - blue) < 30) count++; } return count; })"""
+
+
+def dense_log():
+    """A log in which input 0 changes each 10 ms for 20 seconds, then each 2 ms; and input 1 twice."""
+    lines, stamp, state = [], 0, [1, 1]
+    for number in range(400):
+        entries = b''
+        for _ in range(10 if number < 200 else 50):
+            stamp += 10 if number < 200 else 2
+            state[0] ^= 1
+            entries += bytes([state[0] << 7]) + (stamp & 0xffff).to_bytes(2, 'big')
+        if number in (100, 300):
+            stamp += 1
+            state[1] ^= 1
+            entries += bytes([1 | state[1] << 7]) + (stamp & 0xffff).to_bytes(2, 'big')
+        block = bytes([182, number & 255, len(entries) // 3]) + entries + b'\0' + (stamp + 1).to_bytes(4, 'big')
+        lines.append('> 36%02x\n< %s\n' % (number & 255, block.hex()))
+    return ''.join(lines)
+
+
+def check_inputs(check, browser, name, folder):
+    """No time is below 0; many transitions are drawn as density."""
+    browser.size(1280, 900)
+    opened(browser, os.path.join(folder, 'many.transcript'))
+    browser.click('#tab-inputs')
+    starts = [browser.run(RANGE)[0]]
+    for keys in ('-', '-', KEYS['left'], KEYS['left'], '0'):
+        browser.type('#waves', keys)
+        starts.append(browser.run(RANGE)[0])
+    check.holds('the times that are seen begin at 0 or later in %s' % name, min(starts) >= 0, starts)
+    pasted(browser, dense_log())
+    browser.click('#tab-inputs')
+    heights = browser.run(COLUMNS, 0)
+    quarter = len(heights) // 4
+    sparse, dense = max(heights[quarter // 2:quarter]), max(heights[-quarter:-quarter // 2])
+    check.holds('five times as many transitions are drawn higher in %s' % name, 0 < sparse * 3 <= dense, (sparse, dense))
+    check.holds('and the scale is said in %s' % name, 'a full bar is' in browser.run('return document.getElementById("range").textContent'))
+    few = browser.run(COLUMNS, 1)
+    check.holds('an input with few transitions has its line in %s' % name, few.count(1) + few.count(2) > len(few) // 3, few[:40])
+
+
+TIMES = [('an epoch', '{"ts": 1795331702.108, "data": "3605"}\n{"ts": 1795331702.120, "data": "b605000000000001"}\n', ['07:15:02.108', '07:15:02.120']),
+         ('a time after the year 9999', '{"ts": 3e11, "data": "3605"}\n{"ts": 1, "data": "b605000000000001"}\n', ['', '1.000000']),
+         ('midnight', '23:59:59.999 TX 36 05\n00:00:00.001 RX B6 05 00 00 00 00 00 01\n', ['23:59:59.999', '00:00:00.001']),
+         ('seconds', '(1795331702.108) TX 36 05\n(1795331702.110) RX B6 05 00 00 00 00 00 01\n', ['07:15:02.108', '07:15:02.110'])]
+
+
+def check_times(check, browser, name):
+    """The times of odd logs, and how long after its command an answer came."""
+    for title, text, expected in TIMES:
+        pasted(browser, text)
+        check.equal('%s in %s' % (title, name), expected, [row[1] for row in browser.run(CELLS)])
+    after = {}
+    for title, text, _ in TIMES[1:3] + [('', '12:00:01 TX 36 05\n12:00:00 RX B6 05 00 00 00 00 00 01\n', [])]:
+        pasted(browser, text)
+        browser.click('#row-1')
+        after[title] = browser.run('return document.querySelector(".detail .soft").textContent')
+    check.holds('an answer after midnight in %s' % name, '2.000 ms after the command' in after['midnight'], after)
+    check.holds('an answer whose command has no time in %s' % name, 'after the command' not in after['a time after the year 9999'], after)
+    check.holds('an answer with an earlier time than its command in %s' % name, 'before that of the command' in after[''], after)
+
+
+def check_ladder(check, browser, name):
+    """The run as a picture: which messages are lost, and what each end does; saved as a file of its own."""
+    browser.open(address())
+    browser.click('#tab-play')
+    browser.click('[data-story="lost-answer.script"]')
+    drawn = browser.run("""return [".lad-whole", ".lad-lost", ".lad-again"].map((it) => document.querySelectorAll("#ladder line" + it).length)
+        .concat([...document.querySelectorAll("#ladder text")].map((it) => it.textContent))""")
+    # By the comments of the script: four commands and two answers arrive, two answers never do, and one arrives once more.
+    check.equal('the messages of an answer that is lost in %s' % name, [6, 2, 1], drawn[:3])
+    for words in ('block 255 entries 1 status 02 stamp 1, E: sent again', 'waits for another block: records nothing', 'records 1 change', '1 scan: 1 change waits'):
+        check.holds('the picture says %s in %s' % (words, name), words in drawn, drawn)
+    check.holds('the story is told in %s' % name, 'The answer to the first poll 255 is lost.' in browser.run('return document.getElementById("play-story").textContent'))
+    root = ElementTree.fromstring(saved(browser, 'save-ladder'))
+    check.equal('the picture that is saved in %s' % name, '{http://www.w3.org/2000/svg}svg', root.tag)
+    browser.click('[data-story="restart.script"]')
+    texts = browser.run('return [...document.querySelectorAll("#ladder text")].map((it) => it.textContent)')
+    check.holds('a poll that comes again has its number in %s' % name, 'poll block 0 once more' in texts, texts)
+    browser.click('#play-anew')
+    browser.click('#poll')
+    browser.click('#to-module li:first-child button:last-child')
+    check.equal('what is lost is marked in %s' % name, 1, browser.run('return document.querySelectorAll("#ladder line.lad-lost").length'))
+
+
+def rows(check, browser, name, folder):
+    """Each of these rows."""
+    check_verdict(check, browser, name)
+    check_as_fiolog(check, browser, name)
+    check_order(check, browser, name, folder)
+    check_no_log(check, browser, name, folder)
+    check_stories(check, browser, name)
+    check_labels(check, browser, name)
+    check_inputs(check, browser, name, folder)
+    check_times(check, browser, name)
+    check_ladder(check, browser, name)

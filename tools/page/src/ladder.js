@@ -1,0 +1,177 @@
+// A run of *Play* as a picture: both ends as lines, time from the top down, each message as an arrow between them.
+
+import { statusNotes } from './notes.js';
+import { counted } from './dom.js';
+import { wordsOf } from './words.js';
+
+const SPACE = 'http://www.w3.org/2000/svg';
+const ROW = 38, TOP = 46, EDGE = 30, LETTER = 6.7;
+// The most rows that are drawn: the last ones.
+const MOST_ROWS = 60;
+// With values for a file of its own, which has no style of the page.
+const STYLE = `.lad-text { font: 11px ui-monospace, "DejaVu Sans Mono", Consolas, monospace; fill: var(--ink, #1a1d21); stroke: var(--panel, #ffffff); stroke-width: 4px; paint-order: stroke; }
+.lad-note { font: 12px system-ui, sans-serif; fill: var(--soft, #565d66); stroke: var(--panel, #ffffff); stroke-width: 3px; paint-order: stroke; }
+.lad-head { font: 600 14px system-ui, sans-serif; fill: var(--ink, #1a1d21); }
+.lad-life { stroke: var(--line, #d5d8dc); stroke-width: 3; } .lad-arrow { stroke: var(--accent, #0b57a4); stroke-width: 1.6; fill: none; }
+.lad-tip { fill: var(--accent, #0b57a4); stroke: none; } .lad-waiting { stroke-dasharray: 2 4; } .lad-again { stroke-dasharray: 7 4; }
+.lad-lost { stroke: var(--bad, #a3201a); stroke-dasharray: 7 4; } .lad-cross { stroke: var(--bad, #a3201a); stroke-width: 2.4; fill: none; }
+.lad-text.lad-bad, .lad-note.lad-bad { fill: var(--bad, #a3201a); }`;
+
+// What the CPU does with a message that it heard, by the report's words.
+function heardWords(outcome, added, hasGap) {
+  const [kind] = outcome.split(' ');
+  if (kind === 'stale') return 'waits for another block: records nothing';
+  if (kind === 'unreadable') return 'cannot read it';
+  if (kind === 'refused') return outcome;
+  if (kind !== 'block') return '';
+  const changes = added - (hasGap ? 1 : 0);
+  return `records ${hasGap ? 'a gap mark and ' : ''}${changes > 0 ? counted(changes, 'change') : 'no change'}`;
+}
+
+const ENDINGS = { '': '', again: '', lost: ': lost', waiting: ': on its way' };
+const AT_MODULE = { sync: 'line sync', raise: 'a flag is raised', restart: 'the module restarts' };
+
+// Follows a run, event by event: its rows, and the arrows from row to row.
+class Ladder {
+  constructor(run, lost) {
+    Object.assign(this, { run, lost, rows: [], arrows: [], sent: { 'to-module': [], 'to-cpu': [] } });
+    run.events.forEach((line, index) => this.follow(line.split(' '), run.lines[index].replace(/^\d+ /, ''), index));
+    for (const [way, rows] of Object.entries(this.sent)) rows.forEach((row, place) => this.open(way, place + 1, row));
+  }
+
+  follow([name, given], outcome, index) {
+    const { run, rows } = this, waits = run.waits[index];
+    if (name === 'scan') return this.scan(waits);
+    rows.push({ isAtModule: name !== 'poll' && name !== 'send' && name !== 'to-cpu', note: AT_MODULE[name] || '' });
+    const row = rows.length - 1;
+    if (name === 'poll' || name === 'send') this.note('to-module', outcome, row);
+    if (name === 'to-module' || name === 'to-cpu') this.arrive(name, Number(given), row, outcome);
+    if (name === 'to-module') this.note('to-cpu', outcome, row);
+    if (name === 'to-cpu') {
+      const before = index > 0 ? run.recorded[index - 1] : 0;
+      rows[row].note = heardWords(outcome, run.recorded[index] - before, run.record.slice(before, run.recorded[index]).some((item) => item.isGap));
+    }
+    return undefined;
+  }
+
+  // Scans in a row are one row.
+  scan(waits) {
+    const last = this.rows[this.rows.length - 1];
+    const row = last && last.scans ? last : { isAtModule: true, scans: 0 };
+    if (row !== last) this.rows.push(row);
+    row.scans += 1;
+    row.note = counted(row.scans, 'scan') + (waits > 0 ? `: ${counted(waits, 'change')} ${waits === 1 ? 'waits' : 'wait'}` : '');
+  }
+
+  // Notes the row at which a message is sent.
+  note(way, outcome, row) {
+    if (outcome.startsWith('sent ')) this.sent[way].push(row);
+    else if (outcome.startsWith('refused')) this.rows[row].note = outcome;
+  }
+
+  arrive(way, number, row, outcome) {
+    const from = this.sent[way][number - 1];
+    if (outcome.startsWith('refused') || from === undefined) return;
+    const isAgain = this.arrows.some((arrow) => arrow.way === way && arrow.number === number);
+    this.arrows.push({ way, number, from: isAgain ? row - 0.35 : from, to: row, kind: isAgain ? 'again' : '' });
+  }
+
+  // A message that never arrived: it is lost, or on its way.
+  open(way, number, from) {
+    if (this.arrows.some((arrow) => arrow.way === way && arrow.number === number)) return;
+    const direction = way === 'to-module' ? this.run.toModule : this.run.toCpu;
+    const isLost = number < direction.highest || this.lost.has(way + number);
+    this.arrows.push({ way, number, from, to: from + (isLost ? 0.5 : 0.4), kind: isLost ? 'lost' : 'waiting' });
+  }
+}
+
+function shape(name, attributes, text = '') {
+  const made = document.createElementNS(SPACE, name);
+  for (const [key, value] of Object.entries(attributes)) made.setAttribute(key, String(value));
+  made.textContent = text;
+  return made;
+}
+
+// The words of a message and what the bits of its status say, in at most `most` letters if that can be.
+function labelOf(library, octets, most) {
+  const address = library.place(octets), [words] = wordsOf(library, address, octets.length), message = library.decode(address, octets.length);
+  const notes = statusNotes(message.code, message.isAnswer ? message.status : 0), [short] = /^\D*\d*/.exec(words);
+  const ways = [[words, ...notes], [short, ...notes], [short, ...notes.map((note) => note.split(':')[0])]].map((way) => way.join(', '));
+  return ways.find((way) => way.length <= most) || ways[2];
+}
+
+class Picture {
+  constructor(ladder, width, library) {
+    const { rows } = ladder;
+    Object.assign(this, { ladder, width, library, first: Math.max(0, rows.length - MOST_ROWS), left: EDGE, right: width - EDGE });
+    this.height = TOP + (rows.length - this.first) * ROW + 12;
+    this.root = shape('svg', { xmlns: SPACE, viewBox: `0 0 ${width} ${this.height}`, width, height: this.height, role: 'img', 'aria-label': this.words() });
+    this.root.append(shape('style', {}, STYLE));
+    this.life(this.left, 'CPU', 'start');
+    this.life(this.right, 'Module', 'end');
+    ladder.arrows.filter((arrow) => arrow.from >= this.first).forEach((arrow) => this.arrow(arrow));
+    rows.slice(this.first).forEach((row, place) => this.note(row, place + this.first));
+  }
+
+  // The picture as sentences.
+  words() {
+    const said = { '': 'arrives', again: 'arrives again', lost: 'is lost', waiting: 'is on its way' };
+    return this.ladder.arrows.filter(({ from }) => from >= this.first).sort((one, other) => one.from - other.from)
+      .map((arrow) => `${this.label({ ...arrow, kind: '' }, Infinity)} ${said[arrow.kind]}`).join('; ') || 'Nothing was sent yet.';
+  }
+
+  label({ way, number, kind }, most) {
+    const { run } = this.ladder, octets = (way === 'to-module' ? run.toModule : run.toCpu).frames[number - 1];
+    if (kind === 'again') return labelOf(this.library, octets, 0).replace(/,.*/, '') + ' once more';
+    return labelOf(this.library, octets, most - ENDINGS[kind].length) + ENDINGS[kind];
+  }
+
+  y(row) {
+    return TOP + (row - this.first) * ROW + 8;
+  }
+
+  life(x, name, anchor) {
+    this.root.append(shape('text', { x: anchor === 'start' ? x - 14 : x + 14, y: 20, class: 'lad-head', 'text-anchor': anchor }, name),
+      shape('line', { x1: x, x2: x, y1: 30, y2: this.height - 4, class: 'lad-life' }));
+  }
+
+  arrow(arrow) {
+    const isDown = arrow.way === 'to-module', start = isDown ? this.left : this.right, end = isDown ? this.right : this.left;
+    const isPart = arrow.kind === 'lost' || arrow.kind === 'waiting';
+    const x = isPart ? start + (end - start) * (arrow.kind === 'lost' ? 0.72 : 0.6) : end, from = this.y(arrow.from), to = this.y(arrow.to);
+    this.root.append(shape('line', { x1: start, y1: from, x2: x, y2: to, class: `lad-arrow lad-${arrow.kind || 'whole'}` }));
+    if (arrow.kind === 'lost') this.cross(x, to);
+    else if (!isPart) this.tip(x, to, isDown ? -1 : 1, (to - from) / (x - start));
+    this.text(arrow, start, x, from, to);
+  }
+
+  cross(x, y) {
+    this.root.append(shape('path', { d: `M${x - 6} ${y - 6}l12 12m0 -12l-12 12`, class: 'lad-cross' }));
+  }
+
+  tip(x, y, way, slope) {
+    const back = 9 * way, down = back * slope;
+    this.root.append(shape('path', { d: `M${x} ${y}l${back} ${down - 4}v8z`, class: 'lad-tip' }));
+  }
+
+  // The words are above the arrow, along it, or level if it is steep.
+  text(arrow, start, end, from, to) {
+    const isSteep = to - from > 2 * ROW, x = (start + end) / 2, slope = isSteep ? 0 : (to - from) / (end - start);
+    const y = isSteep ? from + ROW / 2 : from + (x - start) * slope, most = Math.floor(Math.abs(end - start) / LETTER) - 1;
+    this.root.append(shape('text', { x, y: y - 5, class: `lad-text${arrow.kind === 'lost' ? ' lad-bad' : ''}`, 'text-anchor': 'middle',
+      transform: `rotate(${(Math.atan(slope) * 180 / Math.PI).toFixed(2)} ${x} ${y.toFixed(1)})` }, this.label(arrow, most)));
+  }
+
+  // What an end does: at the module beside its line, at the CPU below the arrow that arrives.
+  note({ isAtModule, note }, row) {
+    if (!note) return;
+    const attributes = isAtModule ? { x: this.right - 10, y: this.y(row) + 4, 'text-anchor': 'end' } : { x: this.left + 10, y: this.y(row) + 15 };
+    this.root.append(shape('text', { ...attributes, class: note.startsWith('refused') ? 'lad-note lad-bad' : 'lad-note' }, note));
+    if (isAtModule) this.root.append(shape('circle', { cx: this.right, cy: this.y(row), r: 4, class: 'lad-tip' }));
+  }
+}
+
+// The picture of a run, `width` pixels wide. `lost` are the messages that are marked as lost.
+export function ladderOf(run, lost, width, library) {
+  return new Picture(new Ladder(run, lost), Math.max(width, 300), library).root;
+}

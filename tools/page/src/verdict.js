@@ -1,0 +1,56 @@
+// The verdict on a log, by all rules: what is said first, where the first breach is, and what was not judged, with the reason.
+
+import { counted, withCommas } from './dom.js';
+import { POLL } from './library.js';
+import { ENDS, ruleOf } from './rules.js';
+
+export const VERDICTS = { good: 'good', partly: 'partly', broken: 'broken', none: 'none' };
+
+// The kind of a verdict, its sentence, more on it, the place of the first breach (-1 if there is none), and sentences on what was
+// not judged.
+export function verdictOf(log) {
+  const { messages, broken } = log.summary, readable = messages - log.badLines, judged = readable - log.excused - log.skipped;
+  const notJudged = sentencesOf(log);
+  const said = { more: '', first: -1, notJudged };
+  if (readable === 0) return { ...said, kind: VERDICTS.none, text: 'No message was found.' };
+  if (broken > 0) {
+    const [place, breach] = log.breaches.entries().next().value;
+    const rule = `line ${log.lines[place]} breaks the rule ${ruleOf(breach)}`, more = `: ${log.meaning(place)}.`;
+    if (log.summary.faults === messages && readable > 1) {
+      return { ...said, kind: VERDICTS.broken, first: place, text: `None of the ${withCommas(readable)} lines with octets spells a message`,
+        more: `; line ${log.lines[place]}: ${log.words(place)[0]}. Perhaps the log is of another link, or its octets are turned.` };
+    }
+    const text = broken === 1 ? rule.replace('line', 'Line') : `${counted(broken, 'message')} of ${withCommas(readable)} break a rule. The first: ${rule}`;
+    return { kind: VERDICTS.broken, text, more, first: place, notJudged };
+  }
+  if (log.badLines > 0 || judged < readable) {
+    return { ...said, kind: VERDICTS.partly, text: `No rule is broken in the ${counted(judged, 'message')} that could be judged.` };
+  }
+  return { ...said, kind: VERDICTS.good, text: `No rule is broken in ${counted(judged, 'message')}.` };
+}
+
+// What was not judged, and why.
+function sentencesOf(log) {
+  const { badLines, excused, skipped, withoutContent, hasDirections, end } = log, said = [];
+  if (badLines > 0) said.push(`${counted(badLines, 'line')} could not be read as a message and ${are(badLines)} not judged.`);
+  if (excused > 0) {
+    said.push(`${counted(excused, 'message')} ${are(excused)} not judged, since this log was not taken at the CPU: whether the CPU heard the `
+      + 'answer above is not known, and to ask for the same block again is right if it did not.');
+  }
+  if (skipped > 0) {
+    said.push(`${counted(skipped, 'message')} below a breach, up to the next poll, ${are(skipped)} not judged: what was asked above is not sure there.`);
+  }
+  if (withoutContent > 0) {
+    said.push(`${counted(withoutContent, 'answer')} below damage, up to the next poll, ${are(withoutContent)} not judged by content: `
+      + 'what the entries are compared with is not sure there.');
+  }
+  const [first] = log.breaches.keys();
+  if (first !== undefined && first < log.codes.indexOf(POLL)) {
+    said.push('The log begins in the middle of traffic: what breaks a rule above the first poll may be right.');
+  }
+  if (!hasDirections) said.push('The log does not say who sent a message: each is judged as sent by the end that its type belongs to.');
+  else if (end === ENDS.bus) said.push('On the bus a message may be logged that the other end did not receive, so less can be judged than at the CPU.');
+  return said;
+}
+
+const are = (count) => count === 1 ? 'is' : 'are';
